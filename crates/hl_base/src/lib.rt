@@ -1,0 +1,26 @@
+//! The plain values that every layer of the language server speaks of: texts, names, places, notes, and the
+//! ledger of steps.
+//!
+//! It knows nothing of messages, files, statements or macros, and does no work of its own. A `Text` is the list of
+//! its characters (Unicode scalar values), whichever way it lies in memory; a `Name` is the upper-cased bytes of an
+//! ordinary symbol (HLASM Language Reference SC26-4940, "Symbols"). Contracts see the lists of notes and frames as
+//! lists. What allocates takes the allocator first and answers `OutOfMemory` where there is no memory.
+#![tactic(auto)]
+
+mod memory;
+mod name;
+mod note;
+mod place;
+mod steps;
+mod text;
+
+pub use memory::OutOfMemory;
+pub use name::Name;
+pub use note::{Note, Notes, Severity};
+pub use place::{Frame, FrameKind, Frames, Origin, PathId};
+pub use std::sync::ledger::Ledger;
+pub use steps::Steps;
+pub use text::Text;
+
+#[cfg(test)]
+mod tests;
