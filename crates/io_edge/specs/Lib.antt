@@ -1,0 +1,3 @@
+pub mod Told
+pub mod LibraryCall
+pub mod Laws

@@ -1,0 +1,23 @@
+//! The outside as the language server sees it: a source of bytes, a sink of bytes and a library of files, and the
+//! forms that stand behind them.
+//!
+//! What an object tells of itself is optional: the bytes left, the bytes held, the calls made. An object that tells is
+//! one whose contents contracts can follow; one that tells nothing keeps only the counts. Each object counts its
+//! faults, the count never falls, and a call is refused only where it rose (or stands at the greatest u64). So no body
+//! above this crate can claim a fault that the outside did not have.
+//!
+//! It knows nothing of frames, messages or files' meaning. The memory forms hold all that they give and take, and
+//! refuse exactly the calls whose numbers they were made with; the `Std` forms stand over std's `Read` and `Write`.
+#![tactic(auto)]
+
+mod fault;
+mod laws;
+mod library;
+mod sink;
+mod source;
+
+pub use fault::{Failed, LibraryFault};
+pub use laws::calls_join;
+pub use library::Library;
+pub use sink::Sink;
+pub use source::Source;
