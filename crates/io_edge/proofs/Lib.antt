@@ -1,1 +1,3 @@
 pub mod ToldLaws
+pub mod Rings
+pub mod MemorySourceLemmas

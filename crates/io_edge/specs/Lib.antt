@@ -1,3 +1,6 @@
 pub mod Told
 pub mod LibraryCall
 pub mod Laws
+pub mod Counts
+pub mod MemorySource
+pub mod MemorySink

@@ -13,11 +13,16 @@
 mod fault;
 mod laws;
 mod library;
+mod memory_sink;
+mod memory_source;
+mod number;
 mod sink;
 mod source;
 
 pub use fault::{Failed, LibraryFault};
 pub use laws::calls_join;
 pub use library::Library;
+pub use memory_sink::MemorySink;
+pub use memory_source::MemorySource;
 pub use sink::Sink;
 pub use source::Source;

@@ -1,0 +1,10 @@
+//! The numbers of the calls that are to fail.
+ghost use Rattle.std.specs.Prelude.{◌↔◌, IsTrue};
+ghost use Rattle.std.specs.List.{Contains};
+
+/// Whether a number is listed.
+pub(crate) fn is_listed(numbers: &[u64], number: u64) -> bool
+    ensures { IsTrue result ↔ Contains numbers.now number }
+{
+    numbers.contains(&number)
+}
