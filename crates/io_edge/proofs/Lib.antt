@@ -1,3 +1,4 @@
 pub mod ToldLaws
 pub mod Rings
 pub mod MemorySourceLemmas
+pub mod MemoryLibraryLemmas

@@ -4,3 +4,5 @@ pub mod Laws
 pub mod Counts
 pub mod MemorySource
 pub mod MemorySink
+pub mod MemoryLibrary
+pub mod MemoryLibraryParts

@@ -13,6 +13,7 @@
 mod fault;
 mod laws;
 mod library;
+mod memory_library;
 mod memory_sink;
 mod memory_source;
 mod number;
@@ -22,6 +23,7 @@ mod source;
 pub use fault::{Failed, LibraryFault};
 pub use laws::calls_join;
 pub use library::Library;
+pub use memory_library::{MemoryCall, MemoryFile, MemoryFolder, MemoryLibrary};
 pub use memory_sink::MemorySink;
 pub use memory_source::MemorySource;
 pub use sink::Sink;
