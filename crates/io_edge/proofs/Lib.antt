@@ -1,4 +1,5 @@
 pub mod ToldLaws
 pub mod Rings
+pub mod PieceLemmas
 pub mod MemorySourceLemmas
 pub mod MemoryLibraryLemmas

@@ -1,8 +1,8 @@
 -- How `Gives`, `Gains` and `HasRisen` go together over several calls.
-use Rattle.std.proofs.Common.{◌≡◌, ℕ, ◌≤◌, List, [], ◌++◌, Option, Some, None, refl, ap, sym, ◌∙◌, append_assoc, arith}
+use Rattle.std.proofs.Common.{◌≡◌, ℕ, ◌≤◌, List, [], ◌++◌, Option, Some, None, Result, Err, refl, ap, sym, ◌∙◌, append_assoc, arith, rules}
 use Rattle.std.proofs.lemmas.List.{append-nil}
 use Rattle.std.specs.Option.{option_map}
-use Rattle.io_edge.specs.Told.{Gives, Gains, HasRisen}
+use Rattle.io_edge.specs.Told.{Gives, Gains, HasRisen, HasCause}
 
 -- two pieces given one after the other are one piece given
 pub Gives-append : {A : Type 0} (before middle now : Option (List A)) (first second : List A) →
@@ -44,3 +44,11 @@ same_of_Gains-nil (Some held) now gained = gained ∙ ap Some (append-nil held)
 pub HasRisen-widen : (first before now last : ℕ) →
     first ≤ before → before ≤ now → HasRisen before now → now ≤ last → HasRisen first last
 HasRisen-widen first before now last one later risen two = grind arith
+
+-- a call that was refused is a cause whatever is answered for it
+pub HasCause-of_Err : {T U E F : Type 0} (before now : ℕ) (fault : E) (result : Result U F) →
+    HasCause {T = T} before now (Err fault) → HasCause before now result
+HasCause-of_Err before now fault result cause = record {
+  later = cause.later;
+  failed = λ _. cause.failed (search rules);
+}

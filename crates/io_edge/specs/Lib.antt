@@ -6,3 +6,4 @@ pub mod MemorySource
 pub mod MemorySink
 pub mod MemoryLibrary
 pub mod MemoryLibraryParts
+pub mod StdForms

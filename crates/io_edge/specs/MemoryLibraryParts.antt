@@ -1,5 +1,5 @@
 -- The parts of a library in memory as its contracts see them (this project).
-use Rattle.std.specs.Prelude.{ℕ, List, map, Option, Some, None, Result, Ok, Err, string_bytes}
+use Rattle.std.specs.Prelude.{map, Some, None, Ok, Err, string_bytes}
 use Rattle.io_edge.specs.LibraryCall.{LibraryCall, lists, reads, absent, found, refused}
 use Rattle.io_edge.specs.MemoryLibrary.{Folder, File}
 use Rattle.io_edge.specs.declared.memory_library.MemoryFolder.{MemoryFolder}

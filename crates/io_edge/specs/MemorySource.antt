@@ -1,5 +1,5 @@
 -- A source in memory: what it holds, and what a take gives of it (this project).
-use Rattle.std.specs.Prelude.{◌≡◌, ℕ, ◌+◌, min, List, [], ◌∷◌, ◌++◌, Bool, length, take, drop, Result, Ok, Err}
+use Rattle.std.specs.Prelude.{ℕ, min, List, [], ◌∷◌, ◌++◌, Bool, length, drop, Result, Ok, Err}
 use Rattle.io_edge.specs.Counts.{one_more}
 use Rattle.io_edge.specs.declared.fault.Failed.{Failed}
 
@@ -46,7 +46,3 @@ after_take supply (Err _) = record {
   takes = one_more supply.takes;
   refusals = one_more supply.refusals;
 }
-
--- a buffer whose front was overwritten by a piece
-abbrev pub overwritten : List ℕ → List ℕ → List ℕ
-overwritten piece buffer = piece ++ drop (length piece) buffer

@@ -1,6 +1,6 @@
 -- What an object of the outside tells of itself, and what a fault means (this project). An object may tell nothing:
 -- then it is seen as `None` throughout.
-use Rattle.std.specs.Prelude.{◌≡◌, ℕ, ◌-◌, ◌^◌, ◌<◌, ◌≤◌, List, [], ◌∷◌, ◌++◌, take, Bool, false, Option, Result, Ok, Err, IfSome, IsErr}
+use Rattle.std.specs.Prelude.{◌≡◌, ℕ, ◌-◌, ◌^◌, ◌<◌, ◌≤◌, List, [], ◌∷◌, ◌++◌, length, take, drop, Bool, false, Option, Result, Ok, Err, IfSome, IsErr}
 use Rattle.std.specs.Option.{option_map}
 
 -- what was told before is this piece and then what is told now
@@ -33,3 +33,7 @@ pub record HasCause {T E : Type 0} (before now : ℕ) (result : Result T E) : Ty
 abbrev pub first_wait : List Bool → Bool
 first_wait [] = false
 first_wait (answer ∷ _) = answer
+
+-- a buffer whose front was overwritten by a piece
+abbrev pub overwritten : {A : Type 0} → List A → List A → List A
+overwritten piece buffer = piece ++ drop (length piece) buffer

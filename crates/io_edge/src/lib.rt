@@ -11,14 +11,18 @@
 #![tactic(auto)]
 
 mod fault;
+mod interrupted;
 mod laws;
 mod library;
 mod memory_library;
 mod memory_sink;
 mod memory_source;
 mod number;
+mod piece;
 mod sink;
 mod source;
+mod std_sink;
+mod std_source;
 
 pub use fault::{Failed, LibraryFault};
 pub use laws::calls_join;
@@ -28,3 +32,8 @@ pub use memory_sink::MemorySink;
 pub use memory_source::MemorySource;
 pub use sink::Sink;
 pub use source::Source;
+pub use std_sink::StdSink;
+pub use std_source::StdSource;
+
+#[cfg(test)]
+mod tests;

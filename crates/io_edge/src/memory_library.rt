@@ -194,6 +194,7 @@ impl Library for MemoryLibrary {
         ensures names { IfOk result (λ names. option_map (λ names. map string_bytes names.items) names
             ≡ names_at self.old.folders folder.now) }
         ensures after { self.new ≡ after_call self.old (listing folder.now result) result }
+        ensures kept { IsErrOf result LibraryFault.OutOfMemory → self.new ≡ self.old }
     {
         let path = String::from_str(alloc, folder)?;
         if is_to_fail(&self.failing, self.calls.len()) {
@@ -222,6 +223,7 @@ impl Library for MemoryLibrary {
         ensures bytes { IfOk result (λ bytes. option_map (λ bytes. bytes.items) bytes
             ≡ bytes_at self.old.files path.now) }
         ensures after { self.new ≡ after_call self.old (reading path.now result) result }
+        ensures kept { IsErrOf result LibraryFault.OutOfMemory → self.new ≡ self.old }
     {
         let asked = String::from_str(alloc, path)?;
         if is_to_fail(&self.failing, self.calls.len()) {

@@ -1,10 +1,11 @@
 //! A source that holds its bytes.
 ghost use Rattle.std.specs.Prelude.{◌≡◌, ℕ, ◌+◌, ◌-◌, ◌<◌, ◌≤◌, ◌↔◌, List, [], ◌++◌, Bool, Option, Ok, length, take, drop, min, IfOk, IfSome, IsErr, All, slice_get};
 ghost use Rattle.std.specs.Option.{option_map};
-ghost use Rattle.io_edge.specs.MemorySource.{piece_limit, turned, overwritten};
-ghost use Rattle.io_edge.specs.Told.{Gives, counted, IsAtEnd, HasCause, first_wait};
+ghost use Rattle.io_edge.specs.MemorySource.{piece_limit, turned};
+ghost use Rattle.io_edge.specs.Told.{Gives, counted, overwritten, IsAtEnd, HasCause, first_wait};
 
 use crate::number::is_listed;
+use crate::piece::give;
 use crate::{Failed, Source};
 use std::marker::Model;
 
@@ -66,17 +67,6 @@ fn next_turn(sizes: &[usize], turn: usize) -> usize
     if turn + 1 < sizes.len() { turn + 1 } else { 0 }
 }
 
-/// Copies at most so many bytes into the front of a buffer.
-fn give(bytes: &[u8], most: usize, buf: &mut [u8]) -> usize
-    requires { most ≤ length buf.old }
-    ensures count { result ≡ min most (length bytes.now) }
-    ensures buffer { buf.new ≡ overwritten (take result bytes.now) buf.old }
-{
-    let count = most.min(bytes.len());
-    buf[..count].copy_from_slice(&bytes[..count]);
-    count
-}
-
 impl MemorySource {
     ghost use Rattle.io_edge.specs.MemorySource.{Supply};
 
@@ -116,7 +106,7 @@ impl MemorySource {
 impl Source for MemorySource {
     ghost use Rattle.std.specs.Prelude.{Some};
     ghost use Rattle.io_edge.specs.Counts.{IsToFail};
-    ghost use Rattle.io_edge.specs.MemorySource.{Supply, given_len, after_take, overwritten};
+    ghost use Rattle.io_edge.specs.MemorySource.{Supply, given_len, after_take};
 
     ghost left = { λ s. Some s.bytes };
 

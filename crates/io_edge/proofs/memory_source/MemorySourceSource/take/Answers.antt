@@ -1,5 +1,6 @@
 use Rattle.std.proofs.Common.{◌≡◌, ◌∙◌, drop, Some, sym, ap, List, ℕ}
-use Rattle.io_edge.proofs.MemorySourceLemmas.{taken-overwritten, nothing_given}
+use Rattle.io_edge.proofs.PieceLemmas.{taken-overwritten}
+use Rattle.io_edge.proofs.MemorySourceLemmas.{nothing_given}
 use Rattle.io_edge.proofs.memory_source.MemorySourceSource.take.Goals as goal
 
 -- what was left is what the buffer now begins with, and then what is left
