@@ -1,5 +1,8 @@
 //! Names of symbols, macros and members: ordinary symbols, upper-cased.
-ghost use Rattle.std.specs.Prelude.{◌≡◌};
+ghost use Rattle.std.specs.Prelude.{◌≡◌, ◌<◌, ◌≤◌, [], ◌∷◌, ◌++◌, length, map, IsTrue};
+ghost use Rattle.std.specs.List.{list_all, AllPass};
+ghost use Rattle.std.specs.Char.{to_ascii_uppercase};
+ghost use Rattle.hl_base.specs.Symbols.{is_symbol, symbol_of, is_letter, is_symbol_character};
 
 use arrayvec::ArrayString;
 use std::marker::Model;
@@ -21,7 +24,74 @@ impl Model for Name {
     ghost view = { λ n. n.upper.bytes };
 }
 
+/// Whether a byte is one of the letters `A` to `Z` in either case, `$`, `_`, `#` and `@`.
+fn is_letter(byte: u8) -> bool
+    ensures { result ≡ is_letter byte }
+{
+    byte.is_ascii_alphabetic() || matches!(byte, b'$' | b'_' | b'#' | b'@')
+}
+
+/// Whether a byte may stand in a symbol behind its first letter.
+fn is_symbol_character(byte: u8) -> bool
+    ensures { result ≡ is_symbol_character byte }
+{
+    is_letter(byte) || byte.is_ascii_digit()
+}
+
+/// Whether each of the bytes may stand in a symbol behind its first letter.
+fn are_symbol_characters(bytes: &[u8]) -> bool
+    ensures { result ≡ list_all is_symbol_character bytes.now }
+{
+    bytes.iter().all(|byte| is_symbol_character(*byte))
+}
+
+/// Whether a text is an ordinary symbol.
+fn is_symbol(text: &[u8]) -> bool
+    ensures { result ≡ is_symbol text.now }
+{
+    if text.is_empty() || text.len() > LONGEST_NAME || !is_letter(text[0]) {
+        return false;
+    }
+    are_symbol_characters(&text[1..])
+}
+
+/// Adds a letter or digit, upper-cased, for which there is room.
+fn push_upper(upper: &mut ArrayString<LONGEST_NAME>, byte: u8)
+    requires room { length upper.old.bytes < LONGEST_NAME }
+    requires character { IsTrue (is_symbol_character byte) }
+    ensures { upper.new.bytes ≡ upper.old.bytes ++ to_ascii_uppercase byte ∷ [] }
+{
+    upper.push(byte.to_ascii_uppercase() as char);
+}
+
+/// The letters and digits of a symbol, upper-cased.
+fn upper_cased(symbol: &[u8]) -> ArrayString<LONGEST_NAME>
+    requires short { length symbol.now ≤ LONGEST_NAME }
+    requires characters { AllPass is_symbol_character symbol.now }
+    ensures { result.bytes ≡ map to_ascii_uppercase symbol.now }
+{
+    let mut upper = ArrayString::new();
+    for byte in symbol {
+        push_upper(&mut upper, *byte);
+    }
+    upper
+}
+
 impl Name {
+    /// The name that a text spells in either case of letters; `None` exactly where the text is no ordinary symbol of
+    /// 1 to 63 characters (SC26-4940, "Symbols").
+    pub fn read(text: &str) -> Option<Name>
+        ensures { result ≡ symbol_of text.now }
+    {
+        let symbol = text.as_bytes();
+        if !is_symbol(symbol) {
+            return None;
+        }
+        Some(Name {
+            upper: upper_cased(symbol),
+        })
+    }
+
     /// The upper-cased characters.
     pub fn text(&self) -> &str
         ensures { result.now ≡ self.now }
