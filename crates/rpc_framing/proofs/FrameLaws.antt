@@ -1,0 +1,257 @@
+-- Frames: none begins another, and what is less than one.
+use Rattle.std.proofs.Common.{◌≡◌, ℕ, zero, suc, ◌+◌, ◌-◌, ◌*◌, ◌<◌, ◌≤◌, ◌⊎◌, inl, inr, List, [], ◌∷◌, ◌++◌, length, take, drop, get_or, replicate, Option, Some, None, refl, sym, ◌∙◌, ap, subst, arith, rules, append_assoc, length-append}
+use Rattle.std.proofs.lemmas.Bool.{cases_lt}
+use Rattle.std.proofs.lemmas.List.{append-nil, append_cancel_left, take_more, take-append-drop, take-append-le, take-take, take_all, length-take, length-take-le, length-drop, length-replicate, nil_from_length}
+use Rattle.std.specs.Fmt.{decimal}
+use Rattle.std.proofs.lemmas.Fmt.{decimal_is_IsNumeral, length-decimal-le}
+use Rattle.rpc_framing.specs.Frames.{label, blank_line, IsHead, IsFrame, IsFrames, BeginsFrames, IsPartial, Splits, IsBadStart, Breaks, frame}
+use Rattle.rpc_framing.specs.Stages.{stage_from, whole_length}
+use Rattle.rpc_framing.specs.declared.header.Stage.{Stage}
+use Rattle.rpc_framing.specs.declared.header.Stage.TheVariants.{Label, Whole}
+use Rattle.rpc_framing.proofs.Heads.{stage_from-append, stage_from-then, stage_from-dead, stage_from-Whole, stage_from-between, stage_from-IsHead, whole_length-Some, IsHead-stage_from, HeadGoesOn, HeadGoesOn-stage_from, length-label}
+
+-- Where two fronts of one list end: the one goes on to the other.
+pub fronts : (a b c d : List ℕ) → a ++ b ≡ c ++ d → ((z : List ℕ) × (c ≡ a ++ z) × (b ≡ z ++ d)) ⊎ ((z : List ℕ) × (a ≡ c ++ z) × (d ≡ z ++ b))
+fronts [] b c d e = inl (c, refl, e)
+fronts (x ∷ a) b [] d e = inr (x ∷ a, refl, sym e)
+fronts (x ∷ a) b (y ∷ c) d e =
+    let first : x ≡ y = cc in
+    let others : a ++ b ≡ c ++ d = cc in
+    elim (fronts a b c d others) [
+      | inl l ↦ inl (l.0, (let is = l.1 in cc), l.2)
+      | inr r ↦ inr (r.0, (let is = r.1 in cc), r.2)
+    ]
+
+pub nil_front : (a b : List ℕ) → a ++ b ≡ [] → (a ≡ []) × (b ≡ [])
+nil_front [] b e = (refl, e)
+nil_front (x ∷ a) b e = absurd cc
+
+-- no header begins another
+pub IsHead-unique : (head other x y : List ℕ) (n m : ℕ) → IsHead head n → IsHead other m → head ++ x ≡ other ++ y → (head ≡ other) × (n ≡ m) × (x ≡ y)
+IsHead-unique head other x y n m h k e =
+    elim (fronts head x other y e) [
+      | inl l ↦ same head other x y n m h k l.0 l.1 l.2
+      | inr r ↦ let s = same other head y x m n k h r.0 r.1 r.2 in (sym s.0, sym s.1, sym s.2)
+    ]
+  where
+    same : (head other x y : List ℕ) (n m : ℕ) → IsHead head n → IsHead other m → (z : List ℕ) → other ≡ head ++ z → x ≡ z ++ y → (head ≡ other) × (n ≡ m) × (x ≡ y)
+    same head other x y n m h k z longer rest =
+        let first : stage_from (Label 0) head ≡ Some (Whole n) = stage_from-IsHead head n h in
+        let second : stage_from (Label 0) other ≡ Some (Whole m) = stage_from-IsHead other m k in
+        let behind : stage_from (Whole n) z ≡ Some (Whole m) = sym (stage_from-then (Label 0) (Whole n) head z first) ∙ ap (stage_from (Label 0)) (sym longer) ∙ second in
+        let none = stage_from-Whole n (Whole m) z behind in
+        let is : z ≡ [] = none.0 in
+        let said : Whole m ≡ Whole n = none.1 in
+        (sym (longer ∙ ap (λ b. head ++ b) is ∙ append-nil head), (cc), rest ∙ ap (λ b. b ++ y) is)
+
+length-IsHead : (head : List ℕ) (n : ℕ) → IsHead head n → (0 < length head) × (length head ≤ 28) × (n ≤ 16777216)
+length-IsHead head n h =
+    let is : length head ≡ length label + (length h.digits + 4) = ap length h.is ∙ length-append label (h.digits ++ blank_line) ∙ ap (λ k. length label + k) (length-append h.digits blank_line) in
+    let l = length-label in
+    let few = h.few in
+    (omega arith, omega arith, h.bound)
+
+same_length : (a b c d : List ℕ) → length a ≡ length c → a ++ b ≡ c ++ d → (a ≡ c) × (b ≡ d)
+same_length [] b [] d l e = (refl, e)
+same_length [] b (y ∷ c) d l e = absurd (omega arith)
+same_length (x ∷ a) b [] d l e = absurd (omega arith)
+same_length (x ∷ a) b (y ∷ c) d l e =
+    let others = same_length a b c d (omega arith) (let f : a ++ b ≡ c ++ d = cc in f) in
+    ((let is = others.0 in cc), others.1)
+
+-- No frame begins another, and a frame has one body.
+pub IsFrame-unique : (f g b c x y : List ℕ) → IsFrame f b → IsFrame g c → f ++ x ≡ g ++ y → (f ≡ g) × (b ≡ c) × (x ≡ y)
+IsFrame-unique f g b c x y h k e =
+    let whole : h.head ++ (b ++ x) ≡ k.head ++ (c ++ y) =
+    sym (append_assoc h.head b x) ∙ ap (λ t. t ++ x) (sym h.is) ∙ e ∙ ap (λ t. t ++ y) k.is ∙ append_assoc k.head c y in
+    let heads = IsHead-unique h.head k.head (b ++ x) (c ++ y) (length b) (length c) h.says k.says whole in
+    let bodies = same_length b x c y heads.1 heads.2 in
+    (h.is ∙ ap (λ t. t ++ b) heads.0 ∙ ap (λ t. k.head ++ t) bodies.0 ∙ sym k.is, bodies.0, bodies.1)
+
+-- how long a frame is
+pub length-IsFrame : (f b : List ℕ) → IsFrame f b → (0 < length f) × (length f ≤ 16777244)
+length-IsFrame f b h =
+    let head = length-IsHead h.head (length b) h.says in
+    let some = head.0 in
+    let short = head.1 in
+    let bound = head.2 in
+    let is : length f ≡ length h.head + length b = ap length h.is ∙ length-append h.head b in
+    (omega arith, omega arith)
+
+-- what is less than a whole frame is short
+pub length-IsPartial : (r : List ℕ) → IsPartial r → length r < 16777244
+length-IsPartial r p =
+    let is = length-append r p.more in
+    let bound = (length-IsFrame (r ++ p.more) p.body p.frame).1 in
+    let some = p.some in
+    omega arith
+
+-- a front of what is less than a whole frame is less than one
+pub IsPartial-front : (x y : List ℕ) → IsPartial (x ++ y) → IsPartial x
+IsPartial-front x y p = record {
+  more = y ++ p.more;
+  body = p.body;
+  some = (let some = p.some in omega (arith, length-append y p.more));
+  frame = (let P : List ℕ → Type 0 = λ t. IsFrame t p.body in subst P (append_assoc x y p.more) p.frame);
+}
+
+pub IsPartial-take : (k : ℕ) (xs : List ℕ) → IsPartial xs → IsPartial (take k xs)
+IsPartial-take k xs p = IsPartial-front (take k xs) (drop k xs) (rw take-append-drop p)
+
+-- it begins with no whole frame
+pub IsPartial-no_frame : (r f b z : List ℕ) → IsPartial r → IsFrame f b → r ≡ f ++ z → ⊥
+IsPartial-no_frame r f b z p h e =
+    let whole : f ++ (z ++ p.more) ≡ (r ++ p.more) ++ [] = sym (append_assoc f z p.more) ∙ ap (λ t. t ++ p.more) (sym e) ∙ sym (append-nil (r ++ p.more)) in
+    let none : z ++ p.more ≡ [] = (IsFrame-unique f (r ++ p.more) b p.body (z ++ p.more) [] h p.frame whole).2 in
+    let some = p.some in
+    omega (arith, length-append z p.more, ap length none)
+
+-- A whole header and less of a body than it says is less than a whole frame.
+pub IsPartial-IsHead : (head body : List ℕ) (n : ℕ) → IsHead head n → length body < n → IsPartial (head ++ body)
+IsPartial-IsHead head body n h short =
+    let pad : List ℕ = replicate (n - length body) 0 in
+    let padded : length pad ≡ n - length body = length-replicate {A = ℕ} (n - length body) 0 in
+    let said : n ≡ length (body ++ pad) = omega (arith, length-append body pad) in
+    record {
+      more = pad;
+      body = body ++ pad;
+      some = omega arith;
+      frame = record { head = head; says = (let P : ℕ → Type 0 = λ k. IsHead head k in subst P said h); is = append_assoc head body pad };
+    }
+
+-- a header that goes on to a whole one is less than a whole frame
+pub IsPartial-HeadGoesOn : (bytes : List ℕ) → HeadGoesOn bytes → IsPartial bytes
+IsPartial-HeadGoesOn bytes h = record {
+  more = h.more ++ replicate h.length_said 0;
+  body = replicate h.length_said 0;
+  some = (let some = h.some in omega (arith, length-append {A = ℕ} h.more (replicate h.length_said 0)));
+  frame = record {
+    head = bytes ++ h.more;
+    says = (let P : ℕ → Type 0 = λ k. IsHead (bytes ++ h.more) k in subst P (sym (length-replicate {A = ℕ} h.length_said 0)) h.head);
+    is = sym (append_assoc bytes h.more (replicate h.length_said 0));
+  };
+}
+
+-- nothing is less than a whole frame
+pub IsPartial-nil : IsPartial []
+IsPartial-nil = IsPartial-HeadGoesOn [] (HeadGoesOn-stage_from (Label 0) [] refl refl)
+
+pub take-past : (f z : List ℕ) (k : ℕ) → length f ≤ k → take k (f ++ z) ≡ f ++ take (k - length f) z
+take-past [] z k le = let e : k ≡ k - 0 = omega arith in ap (λ n. take n z) e
+take-past (x ∷ f) z zero le = absurd (omega arith)
+take-past (x ∷ f) z (suc k) le =
+    let e : k - length f ≡ suc k - suc (length f) = omega arith in
+    ap (λ t. x ∷ t) (take-past f z k (omega arith) ∙ ap (λ n. f ++ take n z) e)
+
+-- what begins no frame
+pub record HasNoFrame (x : List ℕ) : Type 0 where
+  pub none : (f b z : List ℕ) → IsFrame f b → x ≡ f ++ z → ⊥
+
+pub BeginsFrames-front : (x y : List ℕ) → BeginsFrames (x ++ y) → BeginsFrames x
+BeginsFrames-front x y b = record {
+  more = y ++ b.more;
+  bodies = b.bodies;
+  frames = (let P : List ℕ → Type 0 = λ t. IsFrames t b.bodies in subst P (append_assoc x y b.more) b.frames);
+}
+
+IsFrames-one : (f b : List ℕ) → IsFrame f b → IsFrames f (b ∷ [])
+IsFrames-one f b h = (f, [], h, refl, sym (append-nil f))
+
+pub BeginsFrames-IsFrame : (x y b : List ℕ) → IsFrame (x ++ y) b → BeginsFrames x
+BeginsFrames-IsFrame x y b h = record { more = y; bodies = b ∷ []; frames = IsFrames-one (x ++ y) b h }
+
+pub BeginsFrames-IsPartial : (x : List ℕ) → IsPartial x → BeginsFrames x
+BeginsFrames-IsPartial x p = BeginsFrames-IsFrame x p.more p.body p.frame
+
+pub HasNoFrame-IsPartial : (x : List ℕ) → IsPartial x → HasNoFrame x
+HasNoFrame-IsPartial x p = record { none = λ f b z h e. IsPartial-no_frame x f b z p h e }
+
+pub HasNoFrame-IsBadStart : (x : List ℕ) (at : ℕ) → IsBadStart x at → HasNoFrame x
+HasNoFrame-IsBadStart x at bad = record {
+  none = λ f b z h e.
+      elim (cases_lt (at - 1) (length f)) [
+        | inl short ↦
+            let within : at ≤ length f = (let some = bad.some in omega arith) in
+            let same : take at x ≡ take at f = ap (take at) e ∙ take-append-le at f z within in
+            bad.bad (let P : List ℕ → Type 0 = λ t. BeginsFrames t in subst P (sym same)
+            (BeginsFrames-IsFrame (take at f) (drop at f) b (let Q : List ℕ → Type 0 = λ t. IsFrame t b in subst Q (sym (take-append-drop at f)) h)))
+        | inr long ↦
+            let same : take (at - 1) x ≡ f ++ take (at - 1 - length f) z = ap (take (at - 1)) e ∙ take-past f z (at - 1) long in
+            IsPartial-no_frame (take (at - 1) x) f b (take (at - 1 - length f) z) bad.partial h same
+      ];
+}
+
+-- a first fault is unique
+pub IsBadStart-unique : (x : List ℕ) (at place : ℕ) → IsBadStart x at → IsBadStart x place → at ≡ place
+IsBadStart-unique x at place h k =
+    elim (cases_lt at place) [
+      | inl less ↦ absurd (earlier x at place h k less)
+      | inr le ↦ elim (cases_lt place at) [
+        | inl less ↦ absurd (earlier x place at k h less)
+        | inr ge ↦ omega arith
+      ]
+    ]
+  where
+    earlier : (x : List ℕ) (at place : ℕ) → IsBadStart x at → IsBadStart x place → at < place → ⊥
+    earlier x at place h k less =
+        let same : take at (take (place - 1) x) ≡ take at x = take-take at (place - 1) x (omega arith) in
+        h.bad (let P : List ℕ → Type 0 = λ t. BeginsFrames t in subst P same (BeginsFrames-IsPartial (take at (take (place - 1) x)) (IsPartial-take at (take (place - 1) x) k.partial)))
+
+-- a whole header is no front of what a byte more is no header's beginning
+not_behind : (xs : List ℕ) (byte : ℕ) (last : Stage) → stage_from (Label 0) xs ≡ Some last → whole_length last ≡ None → stage_from (Label 0) (xs ++ byte ∷ []) ≡ None → (head : List ℕ) (n : ℕ) → stage_from (Label 0) head ≡ Some (Whole n) → (z : List ℕ) → xs ++ byte ∷ [] ≡ head ++ z → ⊥
+not_behind xs byte last alive short dead head n whole z e =
+    elim (fronts xs (byte ∷ []) head z e) [
+      | inl l ↦ longer l.0 l.1 l.2
+      | inr r ↦
+          let behind : stage_from (Whole n) r.0 ≡ Some last = sym (stage_from-then (Label 0) (Whole n) head r.0 whole) ∙ ap (stage_from (Label 0)) (sym r.1) ∙ alive in
+          let is : last ≡ Whole n = (stage_from-Whole n last r.0 behind).1 in
+          let none : Some n ≡ None = ap whole_length (sym is) ∙ short in
+          cc
+    ]
+  where
+    longer : (y : List ℕ) → head ≡ xs ++ y → byte ∷ [] ≡ y ++ z → ⊥
+    longer [] same rest =
+        let is : Some last ≡ Some (Whole n) = sym alive ∙ ap (stage_from (Label 0)) (sym (same ∙ append-nil xs)) ∙ whole in
+        let it : last ≡ Whole n = cc in
+        let none : Some n ≡ None = ap whole_length (sym it) ∙ short in
+        cc
+    longer (c ∷ y) same rest =
+        let first : byte ≡ c = cc in
+        let others : y ++ z ≡ [] = (let f : [] ≡ y ++ z = cc in sym f) in
+        let nothing : y ≡ [] = (nil_front y z others).0 in
+        let is : head ≡ xs ++ byte ∷ [] = same ∙ ap (λ t. xs ++ c ∷ t) nothing ∙ ap (λ b. xs ++ b ∷ []) (sym first) in
+        let gone : Some (Whole n) ≡ None = sym whole ∙ ap (stage_from (Label 0)) is ∙ dead in
+        cc
+
+-- a byte with which no header goes on begins no frame
+pub dead_begins_nothing : (xs : List ℕ) (byte : ℕ) (last : Stage) → stage_from (Label 0) xs ≡ Some last → whole_length last ≡ None → stage_from (Label 0) (xs ++ byte ∷ []) ≡ None → BeginsFrames (xs ++ byte ∷ []) → ⊥
+dead_begins_nothing xs byte last alive short dead b = begins b.bodies b.more b.frames
+  where
+    begins : (bodies : List (List ℕ)) (more : List ℕ) → IsFrames ((xs ++ byte ∷ []) ++ more) bodies → ⊥
+    begins [] more e = omega (arith, ap length e, length-append (xs ++ byte ∷ []) more, length-append xs (byte ∷ []))
+    begins (body ∷ bodies) more e =
+        let h = e.2 in
+        let n : ℕ = length body in
+        let whole : stage_from (Label 0) h.head ≡ Some (Whole n) = stage_from-IsHead h.head n h.says in
+        let same : (xs ++ byte ∷ []) ++ more ≡ h.head ++ (body ++ e.1) = e.4 ∙ ap (λ t. t ++ e.1) h.is ∙ append_assoc h.head body e.1 in
+        elim (fronts (xs ++ byte ∷ []) more h.head (body ++ e.1) same) [
+          | inl l ↦ (let gone : stage_from (Label 0) h.head ≡ None = ap (stage_from (Label 0)) l.1 ∙ stage_from-dead (Label 0) (xs ++ byte ∷ []) l.0 dead in absurd cc)
+          | inr r ↦ not_behind xs byte last alive short dead h.head n whole r.0 r.1
+        ]
+
+-- What is written is read.
+pub IsFrame-frame : (body : List ℕ) → length body ≤ 16777216 → IsFrame (frame body) body
+IsFrame-frame body bound =
+    let n = decimal_is_IsNumeral (length body) (omega arith) in
+    record {
+      head = label ++ (decimal (length body) ++ blank_line);
+      says = record {
+        digits = decimal (length body);
+        numeral = n.0;
+        few = length-decimal-le 8 (length body) (omega arith) (omega arith) (omega arith);
+        value = n.1;
+        bound = bound;
+        is = refl;
+      };
+      is = refl;
+    }

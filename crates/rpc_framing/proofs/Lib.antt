@@ -1,0 +1,4 @@
+pub mod Heads
+pub mod FrameLaws
+pub mod Splitting
+pub mod Pieces

@@ -1,0 +1,5 @@
+use Rattle.rpc_framing.proofs.Pieces.{each_stream}
+use Rattle.rpc_framing.proofs.laws.each_stream_reads.Goals as goal
+
+pub returns : goal.returns
+returns c = each_stream

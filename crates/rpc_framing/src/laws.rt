@@ -1,0 +1,33 @@
+//! What holds of every stream. The functions do nothing: each contract is a law.
+ghost use Rattle.std.specs.Prelude.{◌≡◌, ℕ, ◌≤◌, ◌⊎◌, List, length};
+ghost use Rattle.rpc_framing.specs.Frames.{IsFrame, Splits, Breaks, frame};
+
+/// There is one way to read a stream as frames and a rest.
+pub fn one_reading()
+    ensures { (stream : List ℕ) (bodies others : List (List ℕ)) (rest left : List ℕ) →
+        Splits stream bodies rest → Splits stream others left → (bodies ≡ others) × (rest ≡ left) }
+{}
+
+/// A stream with a fault is not frames and a rest.
+pub fn no_reading_of_a_fault()
+    ensures { (stream : List ℕ) (bodies others : List (List ℕ)) (rest : List ℕ) (at : ℕ) →
+        Splits stream bodies rest → Breaks stream others at → ⊥ }
+{}
+
+/// A stream has one first fault, and the same frames before it.
+pub fn one_fault()
+    ensures { (stream : List ℕ) (bodies others : List (List ℕ)) (at place : ℕ) →
+        Breaks stream bodies at → Breaks stream others place → (bodies ≡ others) × (at ≡ place) }
+{}
+
+/// Every stream is frames and a rest, or has a first fault.
+pub fn each_stream_reads()
+    ensures { (stream : List ℕ) →
+        ((bodies : List (List ℕ)) × (rest : List ℕ) × Splits stream bodies rest)
+        ⊎ ((bodies : List (List ℕ)) × (at : ℕ) × Breaks stream bodies at) }
+{}
+
+/// What is written is read.
+pub fn written_is_read()
+    ensures { (body : List ℕ) → length body ≤ 16777216 → IsFrame (frame body) body }
+{}
