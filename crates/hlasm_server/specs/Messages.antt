@@ -42,7 +42,7 @@ is_path_character c = is_ascii_alphanumeric c || list_any (λ d. c == d) (codes 
 abbrev pub is_file_uri : List ℕ → Bool
 is_file_uri uri = starts_with nat_eq uri (codes "file:///") && list_all is_path_character (drop 8 uri)
 
--- a text has at most 4 MiB of UTF-8
+-- at most 4 MiB of UTF-8
 abbrev pub is_short : List ℕ → Bool
 is_short text = nat_le (length text) (4 * 1024 * 1024)
 
@@ -58,13 +58,16 @@ uri_of document = option_and_then (kept_if is_file_uri) (text_member (codes "uri
 abbrev pub text_of : Data → Option (List ℕ)
 text_of document = option_and_then (kept_if (λ text. is_short text && is_built text)) (text_member (codes "text") document)
 
+-- a document, where none of its parts is missing
+abbrev pub whole_document : Option (List ℕ) → Option ℤ → Option (List ℕ) → Option Document
+whole_document (Some uri) (Some version) (Some text) = Some (record { uri = chars uri; version = version; text = chars text })
+whole_document _ _ _ = None
+
 -- a document of assembler source, as its members tell it
 abbrev pub document_of : Data → Option Document
 document_of document =
     if has_text (codes "languageId") (codes "hlasm") document
-    then option_and_then (λ uri. option_and_then (λ version. option_map (λ text.
-    record { uri = chars uri; version = version; text = chars text })
-    (text_of document)) (whole_member (codes "version") document)) (uri_of document)
+    then whole_document (uri_of document) (whole_member (codes "version") document) (text_of document)
     else None
 
 -- ---- the four messages

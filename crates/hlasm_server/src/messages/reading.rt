@@ -1,5 +1,5 @@
 //! Which message a body is.
-ghost use Rattle.std.specs.Prelude.{◌≡◌, ◌&&◌, IfOk, IfErr, Some, None, option_map};
+ghost use Rattle.std.specs.Prelude.{◌≡◌, IfOk, option_map};
 ghost use Rattle.std.specs.List.{list_all};
 ghost use Rattle.serde_json.specs.View.{view};
 ghost use Rattle.hlasm_server.specs.Messages.{message_of, message_in, message_named, opened_document, document_of, uri_of, text_of, is_built, id_of, has_text, text_member, whole_member, is_notification, is_file_uri, is_path_character};
@@ -34,13 +34,8 @@ pub fn read_message(alloc: Global, body: &[u8]) -> Result<Option<Message>, OutOf
 {
     match Value::from_slice(alloc, body) {
         Ok(value) => read_value(alloc, &value),
-        Err(refused) => {
-            if refused.is_memory() {
-                Err(OutOfMemory)
-            } else {
-                Ok(None)
-            }
-        }
+        Err(refused) if refused.is_memory() => Err(OutOfMemory),
+        Err(_) => Ok(None),
     }
 }
 
@@ -59,19 +54,13 @@ fn read_value(alloc: Global, value: &Value) -> Result<Option<Message>, OutOfMemo
 fn read_method(alloc: Global, method: &str, value: &Value) -> Result<Option<Message>, OutOfMemory>
     ensures { IfOk result (λ m. m ≡ message_named method.now (view value.now)) }
 {
-    if method == "initialize" {
-        return Ok(id(value).map(|id| Message::Initialize { id }));
+    match method {
+        "initialize" => Ok(id(value).map(|id| Message::Initialize { id })),
+        "textDocument/didOpen" => Ok(read_opened(alloc, value)?.map(Message::DidOpen)),
+        "shutdown" => Ok(id(value).map(|id| Message::Shutdown { id })),
+        "exit" if is_notification(value) => Ok(Some(Message::Exit)),
+        _ => Ok(None),
     }
-    if method == "textDocument/didOpen" {
-        return Ok(read_opened(alloc, value)?.map(Message::DidOpen));
-    }
-    if method == "shutdown" {
-        return Ok(id(value).map(|id| Message::Shutdown { id }));
-    }
-    if method == "exit" && is_notification(value) {
-        return Ok(Some(Message::Exit));
-    }
-    Ok(None)
 }
 
 /// The document that a notification opens.

@@ -8,6 +8,9 @@ returns-in-Ok c =
     let is_answered : Option Message → Type 0 = λ wanted. IfOk c.read_value.result (λ m. m ≡ wanted) in
     subst is_answered (sym (message_of-read _ _ c.in-Ok.ensures.ok.0 c.in-Ok.ensures.ok.1)) c.read_value.ensures
 
-pub returns-else-is_memory : goal.returns-else-is_memory
-returns-else-is_memory c =
-    sym (message_of-unread _ (c.in-Err.ensures.err (λ out. let is_out : c.is_memory.result ≡ true = c.is_memory.ensures.1 out in let is_not : c.is_memory.result ≡ false = c.if-is_memory.false in cc)))
+pub returns-in-Err-2 : goal.returns-in-Err-2
+returns-in-Err-2 c =
+    sym (message_of-unread _ (c.in-Err.ensures.err (λ out.
+    let says_memory : c.is_memory.result ≡ true = c.is_memory.ensures.1 out in
+    let says_other : c.is_memory.result ≡ false = c.if-is_memory.false in
+    cc)))
