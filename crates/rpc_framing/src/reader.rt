@@ -62,7 +62,22 @@ impl FrameReader {
         self.rest.missing().unwrap_or(1)
     }
 
-    /// Takes the next piece of the stream.
+    /// How many bytes were fed, over all pieces.
+    pub fn fed(&self) -> u64
+        ensures { result ≡ self.now.fed }
+    {
+        self.fed
+    }
+
+    /// The number of bytes, over all pieces, up to the first with which they begin no sequence of frames.
+    pub fn fault(&self) -> Option<u64>
+        ensures { result ≡ self.now.fault }
+    {
+        self.fault
+    }
+
+    /// Takes the next piece of the stream. Bodies that it completes before a fault wait too; what is held of the rest
+    /// after a fault is not said.
     pub fn feed(&mut self, alloc: Global, piece: &[u8]) -> Result<(), FrameFault>
         requires room { self.old.fed + length piece.now < 2 ^ 64 }
         ensures ok { OnOk result (GoesOn self.old self.new piece.now) }
