@@ -90,46 +90,48 @@ fn is_row(row: &Row, outcome: &Outcome) -> bool {
         && outcome.wanted == row.wanted
 }
 
-const fn row(
-    bytes: &'static [u8],
-    bodies: &'static [u8],
-    fault: Option<u64>,
-    wanted: usize,
-) -> Row {
-    Row {
-        bytes,
-        bodies,
-        fault,
-        wanted,
+impl Row {
+    const fn of(
+        bytes: &'static [u8],
+        bodies: &'static [u8],
+        fault: Option<u64>,
+        wanted: usize,
+    ) -> Row {
+        Row {
+            bytes,
+            bodies,
+            fault,
+            wanted,
+        }
     }
 }
 
 #[test]
 fn rows_are_read_in_any_cutting(rt: HostRuntime) -> Result<(), Fail> {
     let rows = [
-        row(b"", b"", None, 1),
-        row(b"Content-Length: 2\r\n\r\n{}", b"{}|", None, 1),
-        row(b"Content-Length: 2\r\n\r\n{", b"", None, 1),
-        row(
+        Row::of(b"", b"", None, 1),
+        Row::of(b"Content-Length: 2\r\n\r\n{}", b"{}|", None, 1),
+        Row::of(b"Content-Length: 2\r\n\r\n{", b"", None, 1),
+        Row::of(
             b"Content-Length: 2\r\n\r\n{}Content-Length: 3\r\n\r\nabc",
             b"{}|abc|",
             None,
             1,
         ),
-        row(b"Content-Length: 2\r\n\r\n{}Content-Le", b"{}|", None, 1),
-        row(b"Content-Length: 5\r\n\r\nab", b"", None, 3),
-        row(b"Content-Length: 0\r\n\r\n", b"|", None, 1),
-        row(b"Content-Length: 00000002\r\n\r\n{}", b"{}|", None, 1),
-        row(b"Content-Length: 16777216\r\n\r\n", b"", None, 16_777_216),
-        row(b"X", b"", Some(1), 1),
-        row(b"Content-Length:2", b"", Some(16), 1),
-        row(b"Content-Type: x\r\n\r\n", b"", Some(9), 1),
-        row(b"Content-Length: \r\n", b"", Some(17), 1),
-        row(b"Content-Length: 000000002\r\n\r\n{}", b"", Some(25), 1),
-        row(b"Content-Length: 16777217\r\n\r\n", b"", Some(24), 1),
-        row(b"Content-Length: 2\rX", b"", Some(19), 1),
-        row(b"Content-Length: 2\r\n{}", b"", Some(20), 1),
-        row(
+        Row::of(b"Content-Length: 2\r\n\r\n{}Content-Le", b"{}|", None, 1),
+        Row::of(b"Content-Length: 5\r\n\r\nab", b"", None, 3),
+        Row::of(b"Content-Length: 0\r\n\r\n", b"|", None, 1),
+        Row::of(b"Content-Length: 00000002\r\n\r\n{}", b"{}|", None, 1),
+        Row::of(b"Content-Length: 16777216\r\n\r\n", b"", None, 16_777_216),
+        Row::of(b"X", b"", Some(1), 1),
+        Row::of(b"Content-Length:2", b"", Some(16), 1),
+        Row::of(b"Content-Type: x\r\n\r\n", b"", Some(9), 1),
+        Row::of(b"Content-Length: \r\n", b"", Some(17), 1),
+        Row::of(b"Content-Length: 000000002\r\n\r\n{}", b"", Some(25), 1),
+        Row::of(b"Content-Length: 16777217\r\n\r\n", b"", Some(24), 1),
+        Row::of(b"Content-Length: 2\rX", b"", Some(19), 1),
+        Row::of(b"Content-Length: 2\r\n{}", b"", Some(20), 1),
+        Row::of(
             b"Content-Length: 2\r\n\r\n{}XContent-Length: 2\r\n\r\n{}",
             b"{}|",
             Some(24),
