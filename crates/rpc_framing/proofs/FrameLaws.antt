@@ -1,14 +1,14 @@
 -- Frames: none begins another, and what is less than one.
-use Rattle.std.proofs.Common.{◌≡◌, ℕ, zero, suc, ◌+◌, ◌-◌, ◌*◌, ◌<◌, ◌≤◌, ◌⊎◌, inl, inr, List, [], ◌∷◌, ◌++◌, length, take, drop, get_or, replicate, Option, Some, None, refl, sym, ◌∙◌, ap, subst, arith, rules, append_assoc, length-append}
+use Rattle.std.proofs.Common.{◌≡◌, ℕ, zero, suc, ◌+◌, ◌-◌, ◌<◌, ◌≤◌, ◌⊎◌, inl, inr, List, [], ◌∷◌, ◌++◌, length, take, drop, replicate, Some, None, refl, sym, ◌∙◌, ap, subst, arith, append_assoc, length-append}
 use Rattle.std.proofs.lemmas.Bool.{cases_lt}
-use Rattle.std.proofs.lemmas.List.{append-nil, append_cancel_left, take_more, take-append-drop, take-append-le, take-take, take_all, length-take, length-take-le, length-drop, length-replicate, nil_from_length}
+use Rattle.std.proofs.lemmas.List.{append-nil, take-append-drop, take-append-le, take-take, length-replicate}
 use Rattle.std.specs.Fmt.{decimal}
 use Rattle.std.proofs.lemmas.Fmt.{decimal_is_IsNumeral, length-decimal-le}
-use Rattle.rpc_framing.specs.Frames.{label, blank_line, IsHead, IsFrame, IsFrames, BeginsFrames, IsPartial, Splits, IsBadStart, Breaks, frame}
+use Rattle.rpc_framing.specs.Frames.{label, blank_line, IsHead, IsFrame, IsFrames, BeginsFrames, IsPartial, IsBadStart, frame}
 use Rattle.rpc_framing.specs.Stages.{stage_from, whole_length}
 use Rattle.rpc_framing.specs.declared.header.Stage.{Stage}
 use Rattle.rpc_framing.specs.declared.header.Stage.TheVariants.{Label, Whole}
-use Rattle.rpc_framing.proofs.Heads.{stage_from-append, stage_from-then, stage_from-dead, stage_from-Whole, stage_from-between, stage_from-IsHead, whole_length-Some, IsHead-stage_from, HeadGoesOn, HeadGoesOn-stage_from, length-label}
+use Rattle.rpc_framing.proofs.Heads.{stage_from-then, stage_from-dead, stage_from-Whole, stage_from-IsHead, HeadGoesOn, HeadGoesOn-stage_from, length-label}
 
 -- Where two fronts of one list end: the one goes on to the other.
 pub fronts : (a b c d : List ℕ) → a ++ b ≡ c ++ d → ((z : List ℕ) × (c ≡ a ++ z) × (b ≡ z ++ d)) ⊎ ((z : List ℕ) × (a ≡ c ++ z) × (d ≡ z ++ b))

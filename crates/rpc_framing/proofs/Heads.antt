@@ -1,5 +1,5 @@
 -- The stages of a header are its grammar: a whole header comes to its end, and a stage short of it goes on to one.
-use Rattle.std.proofs.Common.{◌≡◌, ℕ, ◌+◌, ◌-◌, ◌*◌, ◌<◌, ◌≤◌, ◌⊎◌, inl, inr, Bool, true, false, List, [], ◌∷◌, ◌++◌, length, take, drop, get_or, replicate, Option, Some, None, refl, sym, ◌∙◌, ap, subst, arith, rules, append_assoc, length-append}
+use Rattle.std.proofs.Common.{◌≡◌, ℕ, ◌+◌, ◌-◌, ◌*◌, ◌<◌, ◌≤◌, ◌⊎◌, inl, inr, true, List, [], ◌∷◌, ◌++◌, length, take, drop, get_or, Option, Some, None, refl, sym, ◌∙◌, ap, subst, arith, rules, append_assoc, length-append}
 use Rattle.std.proofs.lemmas.List.{append-nil, take_more, take-append-drop, take_all, length-drop}
 use Rattle.std.proofs.lemmas.Bool.Decides.{nat_tests}
 use Rattle.std.proofs.lemmas.Bool.{cases_Bool, ltb-true, leb-true, eqb-true, eqb-false}
@@ -8,8 +8,8 @@ use Rattle.std.specs.Prelude.{option_and_then, nat_lt, nat_le, ◌==◌}
 use Rattle.std.specs.Char.{digit_value, is_ascii_digit}
 use Rattle.std.specs.Int.{IsInRange}
 use Rattle.std.specs.Str.Parse.{IsNumeral, AllDigits, digits_value, digits_value_after}
-use Rattle.rpc_framing.specs.Frames.{label, blank_line, IsHead, IsFrame, IsPartial}
-use Rattle.rpc_framing.specs.Stages.{stage_after, stage_from, whole_length, after_label, after_digits, after_digit, after_ending}
+use Rattle.rpc_framing.specs.Frames.{label, blank_line, IsHead}
+use Rattle.rpc_framing.specs.Stages.{stage_after, stage_from, whole_length, after_label, after_digits, after_ending}
 use Rattle.rpc_framing.specs.declared.header.Stage.{Stage}
 use Rattle.rpc_framing.specs.declared.header.Stage.TheVariants.{Label, Digits, Ending, Whole}
 

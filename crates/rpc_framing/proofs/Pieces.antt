@@ -1,7 +1,7 @@
 -- What a piece does to a frame that is not yet whole, in the words of the grammar.
-use Rattle.std.proofs.Common.{◌≡◌, ℕ, zero, suc, ◌+◌, ◌-◌, ◌<◌, ◌≤◌, ◌⊎◌, inl, inr, List, [], ◌∷◌, ◌++◌, length, take, drop, get_or, Option, Some, None, refl, sym, ◌∙◌, ap, subst, arith, rules, append_assoc, length-append}
+use Rattle.std.proofs.Common.{◌≡◌, ℕ, zero, suc, ◌+◌, ◌-◌, ◌<◌, ◌≤◌, ◌⊎◌, inl, inr, List, [], ◌∷◌, ◌++◌, length, take, drop, get_or, Option, Some, None, refl, sym, ◌∙◌, ap, subst, arith, append_assoc, length-append}
 use Rattle.std.proofs.lemmas.Bool.{cases_lt}
-use Rattle.std.proofs.lemmas.List.{append-nil, take_more, take-append-drop, take-append-le, take-take, take_all, length-take, length-take-le, length-drop, nil_from_length, drop-take, take_rest, map_push, map-append}
+use Rattle.std.proofs.lemmas.List.{append-nil, take_more, take-append-drop, take-take, take_all, length-take-le, length-drop, nil_from_length, drop-take, take_rest, map_push, map-append}
 use Rattle.std.specs.declared.alloc.Global.{Global}
 use Rattle.std.specs.Prelude.{Vec, MatchOption, IsSomeAnd, option_and_then, option_map, unwrap_or}
 use Rattle.rpc_framing.specs.Frames.{IsHead, IsFrame, IsFrames, BeginsFrames, IsPartial, Splits, IsBadStart, Breaks}
@@ -10,8 +10,8 @@ use Rattle.rpc_framing.specs.Stages.{stage_after, stage_from, whole_length}
 use Rattle.rpc_framing.specs.Steps.{Goes, Dies, IsShort, Stands, Brings, Spoils, Accepts, bodies_of}
 use Rattle.rpc_framing.specs.declared.header.Stage.{Stage}
 use Rattle.rpc_framing.specs.declared.header.Stage.TheVariants.{Label, Whole}
-use Rattle.rpc_framing.proofs.Heads.{stage_from-append, stage_from-then, stage_from-dead, stage_from-Whole, stage_from-between, stage_from-IsHead, whole_length-Some, IsHead-stage_from, HeadGoesOn-stage_from}
-use Rattle.rpc_framing.proofs.FrameLaws.{IsPartial-IsHead, IsPartial-HeadGoesOn, IsPartial-nil, dead_begins_nothing, take-past, BeginsFrames-front}
+use Rattle.rpc_framing.proofs.Heads.{stage_from-then, stage_from-Whole, stage_from-IsHead, whole_length-Some, IsHead-stage_from, HeadGoesOn-stage_from}
+use Rattle.rpc_framing.proofs.FrameLaws.{IsPartial-IsHead, IsPartial-HeadGoesOn, dead_begins_nothing, take-past}
 use Rattle.rpc_framing.proofs.Splitting.{IsFrames-append, IsFrames-one, IsBadStart-append, Splits-behind, Breaks-behind}
 
 -- A frame that is not yet whole stands in its header, or in its body.

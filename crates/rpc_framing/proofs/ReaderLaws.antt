@@ -1,10 +1,10 @@
 -- What the steps of a reader say of the whole stream, for callers.
-use Rattle.std.proofs.Common.{◌≡◌, ℕ, ◌+◌, ◌-◌, ◌<◌, ◌≤◌, ◌⊎◌, inl, inr, List, [], ◌∷◌, ◌++◌, length, take, drop, Some, None, refl, sym, ◌∙◌, ap, subst, arith, append_assoc, length-append}
+use Rattle.std.proofs.Common.{◌≡◌, ℕ, ◌+◌, ◌-◌, ◌<◌, ◌≤◌, ◌⊎◌, inl, inr, List, [], ◌∷◌, ◌++◌, length, take, Some, None, refl, sym, ◌∙◌, ap, subst, arith, append_assoc, length-append}
 use Rattle.std.proofs.lemmas.Bool.{cases_lt}
-use Rattle.std.proofs.lemmas.List.{append-nil, take-append-drop, take-append-le, take-take, take_all, length-take-le, length-drop, nil_from_length}
-use Rattle.rpc_framing.specs.Frames.{IsFrame, IsFrames, BeginsFrames, IsPartial, Splits, IsBadStart, Breaks}
+use Rattle.std.proofs.lemmas.List.{append-nil, take-append-le, take_all, length-take-le, nil_from_length}
+use Rattle.rpc_framing.specs.Frames.{IsFrame, IsFrames, IsPartial, Splits, IsBadStart, Breaks}
 use Rattle.rpc_framing.specs.Reading.{Reading, GoesOn, Stops, Waits}
-use Rattle.rpc_framing.proofs.FrameLaws.{fronts, nil_front, IsPartial-nil, IsPartial-no_frame, IsPartial-take, BeginsFrames-IsPartial, length-IsFrame, take-past}
+use Rattle.rpc_framing.proofs.FrameLaws.{nil_front, IsPartial-nil, IsPartial-no_frame, IsPartial-take, BeginsFrames-IsPartial, length-IsFrame, take-past}
 use Rattle.rpc_framing.proofs.Splitting.{Splits-append, Breaks-Splits}
 
 -- A stream of which nothing has come.

@@ -1,9 +1,8 @@
 -- A stream is read in one way: as frames and less than a whole one, or as frames and a first fault.
-use Rattle.std.proofs.Common.{◌≡◌, ℕ, zero, suc, ◌+◌, ◌-◌, ◌<◌, ◌≤◌, ◌⊎◌, inl, inr, List, [], ◌∷◌, ◌++◌, length, take, drop, Option, Some, None, refl, sym, ◌∙◌, ap, subst, arith, rules, append_assoc, length-append}
-use Rattle.std.proofs.lemmas.Bool.{cases_lt}
-use Rattle.std.proofs.lemmas.List.{append-nil, append_cancel_left, take-append-drop, take-append-le, take-take, take_all, take_at, length-take, length-take-le, length-drop}
-use Rattle.rpc_framing.specs.Frames.{IsHead, IsFrame, IsFrames, BeginsFrames, IsPartial, Splits, IsBadStart, Breaks}
-use Rattle.rpc_framing.proofs.FrameLaws.{fronts, nil_front, IsFrame-unique, length-IsFrame, IsPartial-take, IsPartial-front, HasNoFrame, HasNoFrame-IsPartial, HasNoFrame-IsBadStart, IsBadStart-unique, BeginsFrames-front, BeginsFrames-IsPartial, take-past}
+use Rattle.std.proofs.Common.{◌≡◌, ℕ, ◌+◌, ◌-◌, ◌<◌, List, [], ◌∷◌, ◌++◌, length, take, drop, refl, sym, ◌∙◌, ap, subst, arith, append_assoc, length-append}
+use Rattle.std.proofs.lemmas.List.{append-nil, take-append-drop, take-append-le, take-take}
+use Rattle.rpc_framing.specs.Frames.{IsFrame, IsFrames, BeginsFrames, IsPartial, Splits, IsBadStart, Breaks}
+use Rattle.rpc_framing.proofs.FrameLaws.{IsFrame-unique, length-IsFrame, IsPartial-take, HasNoFrame, HasNoFrame-IsPartial, HasNoFrame-IsBadStart, IsBadStart-unique, BeginsFrames-front, BeginsFrames-IsPartial, take-past}
 
 -- Frames one behind the other, up to what begins with none, are read in one way.
 pub IsFrames-unique : (bodies others : List (List ℕ)) (f g x y : List ℕ) → IsFrames f bodies → IsFrames g others → HasNoFrame x → HasNoFrame y → f ++ x ≡ g ++ y → (bodies ≡ others) × (f ≡ g) × (x ≡ y)

@@ -1,5 +1,5 @@
 -- What a reader of frames holds, and how a piece of the stream moves it (this project).
-use Rattle.std.specs.Prelude.{◌≡◌, ℕ, ◌+◌, ◌<◌, ◌⊎◌, List, [], ◌∷◌, ◌++◌, length, Option, Some, None}
+use Rattle.std.specs.Prelude.{◌≡◌, ℕ, ◌+◌, ◌<◌, ◌⊎◌, List, ◌++◌, length, Option, Some, None}
 use Rattle.rpc_framing.specs.Frames.{IsHead, IsPartial, Splits, Breaks}
 
 -- The bodies that wait, what has come of the next frame, how many bytes were fed, and after a fault its place: the

@@ -1,7 +1,7 @@
 -- What a piece of the stream does to a frame that is not yet whole (this project). No public contract speaks of it.
-use Rattle.std.specs.Prelude.{◌≡◌, ℕ, ◌+◌, ◌-◌, ◌<◌, ◌≤◌, List, [], ◌∷◌, ◌++◌, length, take, drop, Option, Some, None, MatchOption, map, Vec}
+use Rattle.std.specs.Prelude.{◌≡◌, ℕ, ◌+◌, ◌-◌, ◌<◌, ◌≤◌, List, ◌++◌, length, take, Option, Some, None, MatchOption, map, Vec}
 use Rattle.std.specs.declared.alloc.Global.{Global}
-use Rattle.rpc_framing.specs.Frames.{IsHead, IsPartial, Splits, Breaks}
+use Rattle.rpc_framing.specs.Frames.{Splits, Breaks}
 use Rattle.rpc_framing.specs.Stages.{stage_from, whole_length}
 use Rattle.rpc_framing.specs.declared.header.Stage.{Stage}
 use Rattle.rpc_framing.specs.declared.header.Stage.TheVariants.{Label}

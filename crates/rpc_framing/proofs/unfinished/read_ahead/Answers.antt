@@ -1,4 +1,4 @@
-use Rattle.std.proofs.Common.{◌≡◌, List, ℕ, [], ◌∷◌, ◌++◌, ◌∙◌, ◌-◌, refl, length, take, drop, subst, sym, ap}
+use Rattle.std.proofs.Common.{◌≡◌, List, ℕ, [], ◌++◌, ◌∙◌, refl, take, drop, subst, sym, ap}
 use Rattle.std.proofs.lemmas.List.{take_rest}
 use Rattle.rpc_framing.specs.Frames.{IsFrames}
 use Rattle.rpc_framing.specs.Steps.{bodies_of}

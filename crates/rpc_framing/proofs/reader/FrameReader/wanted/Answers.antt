@@ -1,4 +1,4 @@
-use Rattle.std.proofs.Common.{◌≡◌, ℕ, ◌∙◌, ◌++◌, ap, sym, List, length, subst}
+use Rattle.std.proofs.Common.{ℕ, ◌∙◌, ap, List, subst}
 use Rattle.rpc_framing.specs.Reading.{IsWanted, Waits}
 use Rattle.rpc_framing.proofs.Pieces.{Waits-wanted}
 use Rattle.std.specs.Prelude.{unwrap_or}
