@@ -138,6 +138,7 @@ GoesOn-Waits old new piece n w short goes =
       | inr one ↦ inr (one.0, goes.ready ∙ ap (λ t. old.ready ++ t) one.1, one.2, one.3, one.4)
     ]
 
+-- A fault in such a piece is its last byte, as the reader shows it.
 pub Stops-Waits : (old new : Reading) (piece : List ℕ) (n : ℕ) → Waits old.rest n → length piece ≤ n → Stops old new piece → (new.ready ≡ old.ready) × (new.fault ≡ Some new.fed)
 Stops-Waits old new piece n w short stops =
     let one = Breaks-Waits old.rest piece n stops.fresh stops.at w short stops.breaks in

@@ -20,8 +20,8 @@ pub struct FrameReader {
 
 impl Model for FrameReader {
     ghost use Rattle.std.specs.Prelude.{◌++◌};
-    ghost use Rattle.rpc_framing.specs.Reading.{Reading};
-    ghost use Rattle.rpc_framing.specs.Steps.{Stands, bodies_of};
+    ghost use Rattle.rpc_framing.specs.Reading.{Reading, bodies_of};
+    ghost use Rattle.rpc_framing.specs.Steps.{Stands};
 
     ghost Value = { Reading };
 
@@ -90,7 +90,7 @@ impl FrameReader {
             return Err(FrameFault::NotBuilt);
         }
         let before = self.fed;
-        let fault = accept(&mut self.rest, &mut self.ready, alloc, piece)?;
+        let fault = accept(alloc, &mut self.rest, &mut self.ready, piece)?;
         self.fed = before + piece.len() as u64;
         match fault {
             None => Ok(()),

@@ -1,5 +1,6 @@
 use Rattle.std.proofs.Common.{◌≡◌, List, ℕ, [], ◌∷◌, ◌++◌, ◌-◌, ◌∙◌, length, take, drop, subst, sym, ap, arith, rules}
-use Rattle.rpc_framing.specs.Steps.{Accepts, bodies_of}
+use Rattle.rpc_framing.specs.Reading.{bodies_of}
+use Rattle.rpc_framing.specs.Steps.{Accepts}
 use Rattle.rpc_framing.proofs.Pieces.{Accepts-whole, bodies_of-joined}
 use Rattle.rpc_framing.proofs.unfinished.complete.Goals as goal
 
