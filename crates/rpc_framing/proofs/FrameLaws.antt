@@ -1,14 +1,14 @@
 -- Frames: none begins another, and what is less than one.
-use Rattle.std.proofs.Common.{◌≡◌, ℕ, zero, suc, ◌+◌, ◌-◌, ◌*◌, ◌<◌, ◌≤◌, ◌⊎◌, inl, inr, List, [], ◌∷◌, ◌++◌, length, take, drop, get_or, replicate, Option, Some, None, refl, sym, ◌∙◌, ap, subst, arith, rules, append_assoc, length-append}
+use Rattle.std.proofs.Common.{◌≡◌, ℕ, zero, suc, ◌+◌, ◌-◌, ◌<◌, ◌≤◌, ◌⊎◌, inl, inr, List, [], ◌∷◌, ◌++◌, length, take, drop, replicate, Some, None, refl, sym, ◌∙◌, ap, subst, arith, append_assoc, length-append}
 use Rattle.std.proofs.lemmas.Bool.{cases_lt}
-use Rattle.std.proofs.lemmas.List.{append-nil, append_cancel_left, take_more, take-append-drop, take-append-le, take-take, take_all, length-take, length-take-le, length-drop, length-replicate, nil_from_length}
+use Rattle.std.proofs.lemmas.List.{append-nil, take-append-drop, take-append-le, take-take, length-replicate}
 use Rattle.std.specs.Fmt.{decimal}
 use Rattle.std.proofs.lemmas.Fmt.{decimal_is_IsNumeral, length-decimal-le}
-use Rattle.rpc_framing.specs.Frames.{label, blank_line, IsHead, IsFrame, IsFrames, BeginsFrames, IsPartial, Splits, IsBadStart, Breaks, frame}
+use Rattle.rpc_framing.specs.Frames.{label, blank_line, IsHead, IsFrame, IsFrames, BeginsFrames, IsPartial, IsBadStart, frame}
 use Rattle.rpc_framing.specs.Stages.{stage_from, whole_length}
 use Rattle.rpc_framing.specs.declared.header.Stage.{Stage}
 use Rattle.rpc_framing.specs.declared.header.Stage.TheVariants.{Label, Whole}
-use Rattle.rpc_framing.proofs.Heads.{stage_from-append, stage_from-then, stage_from-dead, stage_from-Whole, stage_from-between, stage_from-IsHead, whole_length-Some, IsHead-stage_from, HeadGoesOn, HeadGoesOn-stage_from, length-label}
+use Rattle.rpc_framing.proofs.Heads.{stage_from-then, stage_from-dead, stage_from-Whole, stage_from-IsHead, HeadGoesOn, HeadGoesOn-stage_from, length-label}
 
 -- Where two fronts of one list end: the one goes on to the other.
 pub fronts : (a b c d : List ℕ) → a ++ b ≡ c ++ d → ((z : List ℕ) × (c ≡ a ++ z) × (b ≡ z ++ d)) ⊎ ((z : List ℕ) × (a ≡ c ++ z) × (d ≡ z ++ b))
@@ -22,6 +22,7 @@ fronts (x ∷ a) b (y ∷ c) d e =
       | inr r ↦ inr (r.0, (let is = r.1 in cc), r.2)
     ]
 
+-- two lists that are nothing together
 pub nil_front : (a b : List ℕ) → a ++ b ≡ [] → (a ≡ []) × (b ≡ [])
 nil_front [] b e = (refl, e)
 nil_front (x ∷ a) b e = absurd cc
@@ -44,6 +45,7 @@ IsHead-unique head other x y n m h k e =
         let said : Whole m ≡ Whole n = none.1 in
         (sym (longer ∙ ap (λ b. head ++ b) is ∙ append-nil head), (cc), rest ∙ ap (λ b. b ++ y) is)
 
+-- how long a header is, and the length that it says
 length-IsHead : (head : List ℕ) (n : ℕ) → IsHead head n → (0 < length head) × (length head ≤ 28) × (n ≤ 16777216)
 length-IsHead head n h =
     let is : length head ≡ length label + (length h.digits + 4) = ap length h.is ∙ length-append label (h.digits ++ blank_line) ∙ ap (λ k. length label + k) (length-append h.digits blank_line) in
@@ -51,6 +53,7 @@ length-IsHead head n h =
     let few = h.few in
     (omega arith, omega arith, h.bound)
 
+-- fronts of one length of the same list
 same_length : (a b c d : List ℕ) → length a ≡ length c → a ++ b ≡ c ++ d → (a ≡ c) × (b ≡ d)
 same_length [] b [] d l e = (refl, e)
 same_length [] b (y ∷ c) d l e = absurd (omega arith)
@@ -95,6 +98,7 @@ IsPartial-front x y p = record {
   frame = (let P : List ℕ → Type 0 = λ t. IsFrame t p.body in subst P (append_assoc x y p.more) p.frame);
 }
 
+-- the same of its first bytes
 pub IsPartial-take : (k : ℕ) (xs : List ℕ) → IsPartial xs → IsPartial (take k xs)
 IsPartial-take k xs p = IsPartial-front (take k xs) (drop k xs) (rw take-append-drop p)
 
@@ -136,6 +140,7 @@ IsPartial-HeadGoesOn bytes h = record {
 pub IsPartial-nil : IsPartial []
 IsPartial-nil = IsPartial-HeadGoesOn [] (HeadGoesOn-stage_from (Label 0) [] refl refl)
 
+-- a front that goes past the first of two lists
 pub take-past : (f z : List ℕ) (k : ℕ) → length f ≤ k → take k (f ++ z) ≡ f ++ take (k - length f) z
 take-past [] z k le = let e : k ≡ k - 0 = omega arith in ap (λ n. take n z) e
 take-past (x ∷ f) z zero le = absurd (omega arith)
@@ -147,6 +152,7 @@ take-past (x ∷ f) z (suc k) le =
 pub record HasNoFrame (x : List ℕ) : Type 0 where
   pub none : (f b z : List ℕ) → IsFrame f b → x ≡ f ++ z → ⊥
 
+-- A front of what begins a sequence of frames begins one.
 pub BeginsFrames-front : (x y : List ℕ) → BeginsFrames (x ++ y) → BeginsFrames x
 BeginsFrames-front x y b = record {
   more = y ++ b.more;
@@ -154,18 +160,23 @@ BeginsFrames-front x y b = record {
   frames = (let P : List ℕ → Type 0 = λ t. IsFrames t b.bodies in subst P (append_assoc x y b.more) b.frames);
 }
 
-IsFrames-one : (f b : List ℕ) → IsFrame f b → IsFrames f (b ∷ [])
+-- one frame is a sequence of frames
+pub IsFrames-one : (f b : List ℕ) → IsFrame f b → IsFrames f (b ∷ [])
 IsFrames-one f b h = (f, [], h, refl, sym (append-nil f))
 
+-- a front of a frame begins one
 pub BeginsFrames-IsFrame : (x y b : List ℕ) → IsFrame (x ++ y) b → BeginsFrames x
 BeginsFrames-IsFrame x y b h = record { more = y; bodies = b ∷ []; frames = IsFrames-one (x ++ y) b h }
 
+-- so does what is less than a whole frame
 pub BeginsFrames-IsPartial : (x : List ℕ) → IsPartial x → BeginsFrames x
 BeginsFrames-IsPartial x p = BeginsFrames-IsFrame x p.more p.body p.frame
 
+-- less than a whole frame does not begin with one
 pub HasNoFrame-IsPartial : (x : List ℕ) → IsPartial x → HasNoFrame x
 HasNoFrame-IsPartial x p = record { none = λ f b z h e. IsPartial-no_frame x f b z p h e }
 
+-- nor does what begins no frame
 pub HasNoFrame-IsBadStart : (x : List ℕ) (at : ℕ) → IsBadStart x at → HasNoFrame x
 HasNoFrame-IsBadStart x at bad = record {
   none = λ f b z h e.

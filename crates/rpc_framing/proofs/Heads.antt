@@ -1,5 +1,5 @@
 -- The stages of a header are its grammar: a whole header comes to its end, and a stage short of it goes on to one.
-use Rattle.std.proofs.Common.{◌≡◌, ℕ, ◌+◌, ◌-◌, ◌*◌, ◌<◌, ◌≤◌, ◌⊎◌, inl, inr, Bool, true, false, List, [], ◌∷◌, ◌++◌, length, take, drop, get_or, replicate, Option, Some, None, refl, sym, ◌∙◌, ap, subst, arith, rules, append_assoc, length-append}
+use Rattle.std.proofs.Common.{◌≡◌, ℕ, ◌+◌, ◌-◌, ◌*◌, ◌<◌, ◌≤◌, ◌⊎◌, inl, inr, true, List, [], ◌∷◌, ◌++◌, length, take, drop, get_or, Option, Some, None, refl, sym, ◌∙◌, ap, subst, arith, rules, append_assoc, length-append}
 use Rattle.std.proofs.lemmas.List.{append-nil, take_more, take-append-drop, take_all, length-drop}
 use Rattle.std.proofs.lemmas.Bool.Decides.{nat_tests}
 use Rattle.std.proofs.lemmas.Bool.{cases_Bool, ltb-true, leb-true, eqb-true, eqb-false}
@@ -8,8 +8,8 @@ use Rattle.std.specs.Prelude.{option_and_then, nat_lt, nat_le, ◌==◌}
 use Rattle.std.specs.Char.{digit_value, is_ascii_digit}
 use Rattle.std.specs.Int.{IsInRange}
 use Rattle.std.specs.Str.Parse.{IsNumeral, AllDigits, digits_value, digits_value_after}
-use Rattle.rpc_framing.specs.Frames.{label, blank_line, IsHead, IsFrame, IsPartial}
-use Rattle.rpc_framing.specs.Stages.{stage_after, stage_from, whole_length, after_label, after_digits, after_digit, after_ending}
+use Rattle.rpc_framing.specs.Frames.{label, blank_line, IsHead}
+use Rattle.rpc_framing.specs.Stages.{stage_after, stage_from, whole_length, after_label, after_digits, after_ending}
 use Rattle.rpc_framing.specs.declared.header.Stage.{Stage}
 use Rattle.rpc_framing.specs.declared.header.Stage.TheVariants.{Label, Digits, Ending, Whole}
 
@@ -20,12 +20,15 @@ stage_from-append s (x ∷ xs) ys =
     elim (stage_after s x) as (λ o. option_and_then (λ t. stage_from t (xs ++ ys)) o ≡ option_and_then (λ t. stage_from t ys) (option_and_then (λ t. stage_from t xs) o))
     [ None ↦ refl | Some t ↦ stage_from-append t xs ys ]
 
+-- The bytes behind those that bring a header to a stage.
 pub stage_from-then : (s t : Stage) (xs ys : List ℕ) → stage_from s xs ≡ Some t → stage_from s (xs ++ ys) ≡ stage_from t ys
 stage_from-then s t xs ys e = stage_from-append s xs ys ∙ ap (option_and_then (λ u. stage_from u ys)) e
 
+-- No byte brings back what no header goes on with.
 pub stage_from-dead : (s : Stage) (xs ys : List ℕ) → stage_from s xs ≡ None → stage_from s (xs ++ ys) ≡ None
 stage_from-dead s xs ys e = stage_from-append s xs ys ∙ ap (option_and_then (λ u. stage_from u ys)) e
 
+-- the value between two steps that may fail
 some_first : {A B : Type 0} (f : A → Option B) (o : Option A) (y : B) → option_and_then f o ≡ Some y → (x : A) × (o ≡ Some x) × (f x ≡ Some y)
 some_first f None y e = absurd cc
 some_first f (Some x) y e = (x, refl, e)
@@ -72,6 +75,7 @@ digit_goes c v d h few small =
     let within : nat_le (v * 10 + (d - 48)) 16777216 ≡ true = rw (sym is.1) (grind (arith, nat_tests)) in
     rw (is.0, short, within, is.1) refl
 
+-- more digits
 digits_go : (c v : ℕ) (ds : List ℕ) → AllDigits 10 ds → c + length ds ≤ 8 → digits_value_after 10 v ds ≤ 16777216 → stage_from (Digits c v) ds ≡ Some (Digits (c + length ds) (digits_value_after 10 v ds))
 digits_go c v [] all few small = let e : c ≡ c + 0 = omega arith in cc
 digits_go c v (d ∷ ds) all few small =
@@ -82,10 +86,12 @@ digits_go c v (d ∷ ds) all few small =
     let e : c + 1 + length ds ≡ c + length (d ∷ ds) = omega arith in
     rw first (others ∙ ap (λ k. Some (Digits k (digits_value_after 10 w ds))) e)
 
+-- the label brings to the digits
 label_goes : stage_from (Label 0) label ≡ Some (Digits 0 0)
 unfolding label stage_after
 label_goes = refl
 
+-- the line's end and the empty line bring to the end
 blank_goes : (c v : ℕ) → 0 < c → stage_from (Digits c v) blank_line ≡ Some (Whole v)
 unfolding stage_after
 blank_goes c v some = let e : nat_lt 0 c ≡ true = grind (arith, nat_tests) in rw e refl
@@ -126,14 +132,17 @@ Says (Digits count value) bytes = SaysDigits count value bytes
 Says (Ending seen value) bytes = SaysEnding seen value bytes
 Says (Whole value) bytes = IsHead bytes value
 
+-- the label's length in bytes
 pub length-label : length label ≡ 16
 unfolding label
 length-label = refl
 
+-- one digit more is digits
 AllDigits-push : (ds : List ℕ) (d : ℕ) → AllDigits 10 ds → digit_value d < 10 → AllDigits 10 (ds ++ d ∷ [])
 AllDigits-push [] d all h = search rules
 AllDigits-push (c ∷ ds) d all h = (all.0, AllDigits-push ds d all.1 h)
 
+-- and its value
 value-push : (v : ℕ) (ds : List ℕ) (d : ℕ) → digits_value_after 10 v (ds ++ d ∷ []) ≡ digits_value_after 10 v ds * 10 + digit_value d
 value-push v [] d = refl
 value-push v (c ∷ ds) d = value-push (v * 10 + digit_value c) ds d
@@ -144,6 +153,7 @@ record LabelStep (seen byte : ℕ) (next : Stage) : Type 0 where
   byte_is : get_or label seen 0 ≡ byte
   to : ((seen ≡ 15) × (next ≡ Digits 0 0)) ⊎ ((seen < 15) × (next ≡ Label (seen + 1)))
 
+-- what the next byte of a label is
 label_step : (seen byte : ℕ) (next : Stage) → after_label seen byte ≡ Some next → LabelStep seen byte next
 label_step seen byte next e =
     elim (cases_Bool (nat_lt seen 16)) [
@@ -168,6 +178,7 @@ record DigitsStep (count value byte : ℕ) (next : Stage) : Type 0 where
   small : value * 10 + digit_value byte ≤ 16777216
   to : next ≡ Digits (count + 1) (value * 10 + digit_value byte)
 
+-- what the byte behind digits is
 digits_step : (count value byte : ℕ) (next : Stage) → after_digits count value byte ≡ Some next → DigitsStep count value byte next ⊎ ((0 < count) × (byte ≡ 13) × (next ≡ Ending 1 value))
 digits_step count value byte next e =
     elim (cases_Bool (is_ascii_digit byte)) [
@@ -199,6 +210,7 @@ record EndingStep (seen value byte : ℕ) (next : Stage) : Type 0 where
   byte_is : get_or blank_line seen 0 ≡ byte
   to : ((seen ≡ 3) × (next ≡ Whole value)) ⊎ ((seen < 3) × (next ≡ Ending (seen + 1) value))
 
+-- what the next byte of an ending is
 ending_step : (seen value byte : ℕ) (next : Stage) → after_ending seen value byte ≡ Some next → EndingStep seen value byte next
 ending_step seen value byte next e =
     elim (cases_Bool (nat_lt seen 4)) [
@@ -287,6 +299,7 @@ says_step (Ending seen value) t bytes byte h e =
     ]
 says_step (Whole value) t bytes byte h e = absurd cc
 
+-- more bytes, one after the other
 says_from : (s t : Stage) (bytes more : List ℕ) → Says s bytes → stage_from s more ≡ Some t → Says t (bytes ++ more)
 says_from s t bytes [] h e = rw append-nil (let P : Stage → Type 0 = λ u. Says u bytes in subst P (let f : s ≡ t = cc in f) h)
 says_from s t bytes (byte ∷ more) h e =
@@ -305,9 +318,11 @@ pub record HeadGoesOn (bytes : List ℕ) : Type 0 where
 ends : (digits : List ℕ) (value : ℕ) → IsNumeral 10 digits → length digits ≤ 8 → digits_value 10 digits ≡ value → value ≤ 16777216 → IsHead (label ++ (digits ++ blank_line)) value
 ends digits value numeral few valued bound = record { digits = digits; numeral = numeral; few = few; value = valued; bound = bound; is = refl }
 
+-- a header that says 0
 zero_digit : IsHead (label ++ ((48 ∷ []) ++ blank_line)) 0
 zero_digit = ends (48 ∷ []) 0 (search rules) (omega arith) refl (omega arith)
 
+-- what is left of a header makes it whole
 goes_on : (s : Stage) (bytes : List ℕ) → Says s bytes → whole_length s ≡ None → HeadGoesOn bytes
 goes_on (Label seen) bytes h e = record {
   more = drop seen label ++ ((48 ∷ []) ++ blank_line);

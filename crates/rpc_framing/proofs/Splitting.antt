@@ -1,9 +1,8 @@
 -- A stream is read in one way: as frames and less than a whole one, or as frames and a first fault.
-use Rattle.std.proofs.Common.{◌≡◌, ℕ, zero, suc, ◌+◌, ◌-◌, ◌<◌, ◌≤◌, ◌⊎◌, inl, inr, List, [], ◌∷◌, ◌++◌, length, take, drop, Option, Some, None, refl, sym, ◌∙◌, ap, subst, arith, rules, append_assoc, length-append}
-use Rattle.std.proofs.lemmas.Bool.{cases_lt}
-use Rattle.std.proofs.lemmas.List.{append-nil, append_cancel_left, take-append-drop, take-append-le, take-take, take_all, take_at, length-take, length-take-le, length-drop}
-use Rattle.rpc_framing.specs.Frames.{IsHead, IsFrame, IsFrames, BeginsFrames, IsPartial, Splits, IsBadStart, Breaks}
-use Rattle.rpc_framing.proofs.FrameLaws.{fronts, nil_front, IsFrame-unique, length-IsFrame, IsPartial-take, IsPartial-front, HasNoFrame, HasNoFrame-IsPartial, HasNoFrame-IsBadStart, IsBadStart-unique, BeginsFrames-front, BeginsFrames-IsPartial, take-past}
+use Rattle.std.proofs.Common.{◌≡◌, ℕ, ◌+◌, ◌-◌, ◌<◌, List, [], ◌∷◌, ◌++◌, length, take, drop, refl, sym, ◌∙◌, ap, subst, arith, append_assoc, length-append}
+use Rattle.std.proofs.lemmas.List.{append-nil, take-append-drop, take-append-le, take-take}
+use Rattle.rpc_framing.specs.Frames.{IsFrame, IsFrames, BeginsFrames, IsPartial, Splits, IsBadStart, Breaks}
+use Rattle.rpc_framing.proofs.FrameLaws.{IsFrame-unique, length-IsFrame, IsPartial-take, HasNoFrame, HasNoFrame-IsPartial, HasNoFrame-IsBadStart, IsBadStart-unique, BeginsFrames-front, BeginsFrames-IsPartial, take-past}
 
 -- Frames one behind the other, up to what begins with none, are read in one way.
 pub IsFrames-unique : (bodies others : List (List ℕ)) (f g x y : List ℕ) → IsFrames f bodies → IsFrames g others → HasNoFrame x → HasNoFrame y → f ++ x ≡ g ++ y → (bodies ≡ others) × (f ≡ g) × (x ≡ y)
@@ -48,9 +47,6 @@ IsFrames-append [] others f g h k = let P : List ℕ → Type 0 = λ t. IsFrames
 IsFrames-append (b ∷ bodies) others f g h k =
     (h.0, h.1 ++ g, h.2, IsFrames-append bodies others h.1 g h.3 k, ap (λ t. t ++ g) h.4 ∙ append_assoc h.0 h.1 g)
 
-pub IsFrames-one : (f b : List ℕ) → IsFrame f b → IsFrames f (b ∷ [])
-IsFrames-one f b h = (f, [], h, refl, sym (append-nil f))
-
 -- The frames before what a sequence of frames begins with are the first of the sequence.
 pub IsFrames-cancel : (bodies others : List (List ℕ)) (f g x : List ℕ) → IsFrames f bodies → IsFrames g others → f ++ x ≡ g → (more : List (List ℕ)) × IsFrames x more × (others ≡ bodies ++ more)
 IsFrames-cancel [] others f g x h k e =
@@ -72,6 +68,7 @@ BeginsFrames-append bodies f x h b = record {
   frames = (let P : List ℕ → Type 0 = λ t. IsFrames t (bodies ++ b.bodies) in subst P (sym (append_assoc f x b.more)) (IsFrames-append bodies b.bodies f (x ++ b.more) h b.frames));
 }
 
+-- And without them.
 pub BeginsFrames-cancel : (bodies : List (List ℕ)) (f x : List ℕ) → IsFrames f bodies → BeginsFrames (f ++ x) → BeginsFrames x
 BeginsFrames-cancel bodies f x h b =
     let rest = IsFrames-cancel bodies b.bodies f ((f ++ x) ++ b.more) (x ++ b.more) h b.frames (sym (append_assoc f x b.more)) in
@@ -126,6 +123,7 @@ Splits-behind f before bodies stream rest h s = record {
   is = ap (λ t. f ++ t) s.is ∙ sym (append_assoc f s.front rest);
 }
 
+-- The same with a fault.
 pub Breaks-behind : (f : List ℕ) (before bodies : List (List ℕ)) (stream : List ℕ) (at : ℕ) → IsFrames f before → Breaks stream bodies at → Breaks (f ++ stream) (before ++ bodies) (length f + at)
 Breaks-behind f before bodies stream at h s = record {
   front = f ++ s.front;

@@ -1,5 +1,6 @@
 -- What a reader of frames holds, and how a piece of the stream moves it (this project).
-use Rattle.std.specs.Prelude.{◌≡◌, ℕ, ◌+◌, ◌<◌, ◌⊎◌, List, [], ◌∷◌, ◌++◌, length, Option, Some, None}
+use Rattle.std.specs.Prelude.{◌≡◌, ℕ, ◌+◌, ◌<◌, ◌⊎◌, List, ◌++◌, length, Option, Some, None, map, Vec}
+use Rattle.std.specs.declared.alloc.Global.{Global}
 use Rattle.rpc_framing.specs.Frames.{IsHead, IsPartial, Splits, Breaks}
 
 -- The bodies that wait, what has come of the next frame, how many bytes were fed, and after a fault its place: the
@@ -9,6 +10,10 @@ pub record Reading : Type 0 where
   pub rest : List ℕ
   pub fed : ℕ
   pub fault : Option ℕ
+
+-- the bytes of bodies as they lie in memory
+abbrev pub bodies_of : List (Vec ℕ Global) → List (List ℕ)
+bodies_of bodies = map (λ body. body.items) bodies
 
 -- A piece was read, and the bodies that it completed wait behind the others.
 pub record GoesOn (old new : Reading) (piece : List ℕ) : Type 0 where

@@ -1,7 +1,6 @@
 -- What a piece of the stream does to a frame that is not yet whole (this project). No public contract speaks of it.
-use Rattle.std.specs.Prelude.{◌≡◌, ℕ, ◌+◌, ◌-◌, ◌<◌, ◌≤◌, List, [], ◌∷◌, ◌++◌, length, take, drop, Option, Some, None, MatchOption, map, Vec}
-use Rattle.std.specs.declared.alloc.Global.{Global}
-use Rattle.rpc_framing.specs.Frames.{IsHead, IsPartial, Splits, Breaks}
+use Rattle.std.specs.Prelude.{◌≡◌, ℕ, ◌+◌, ◌-◌, ◌<◌, ◌≤◌, List, ◌++◌, length, take, Option, Some, None, MatchOption}
+use Rattle.rpc_framing.specs.Frames.{Splits, Breaks}
 use Rattle.rpc_framing.specs.Stages.{stage_from, whole_length}
 use Rattle.rpc_framing.specs.declared.header.Stage.{Stage}
 use Rattle.rpc_framing.specs.declared.header.Stage.TheVariants.{Label}
@@ -57,10 +56,6 @@ pub record Spoils (old piece : List ℕ) (ready_before ready_now : List (List �
   pub fresh : List (List ℕ)
   pub breaks : Breaks (old ++ piece) fresh (length old + count)
   pub ready : ready_now ≡ ready_before ++ fresh
-
--- the bytes of bodies
-abbrev pub bodies_of : List (Vec ℕ Global) → List (List ℕ)
-bodies_of bodies = map (λ body. body.items) bodies
 
 -- one or the other
 abbrev pub Accepts : List ℕ → List ℕ → List (List ℕ) → List (List ℕ) → List ℕ → Option ℕ → Type 0

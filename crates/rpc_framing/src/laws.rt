@@ -1,6 +1,6 @@
 //! What holds of every stream. The functions do nothing: each contract is a law.
-ghost use Rattle.std.specs.Prelude.{◌≡◌, ℕ, ◌≤◌, ◌⊎◌, List, length};
-ghost use Rattle.rpc_framing.specs.Frames.{IsFrame, Splits, Breaks, frame};
+ghost use Rattle.std.specs.Prelude.{◌≡◌, ℕ, ◌<◌, ◌≤◌, ◌⊎◌, ◌++◌, List, length, take};
+ghost use Rattle.rpc_framing.specs.Frames.{IsFrame, BeginsFrames, Splits, Breaks, frame};
 
 /// There is one way to read a stream as frames and a rest.
 pub fn one_reading()
@@ -30,4 +30,18 @@ pub fn each_stream_reads()
 /// What is written is read.
 pub fn written_is_read()
     ensures { (body : List ℕ) → length body ≤ 16777216 → IsFrame (frame body) body }
+{}
+
+/// Up to a first fault the bytes of a stream begin a sequence of frames, and with it they do not.
+pub fn a_fault_is_the_first()
+    ensures bad { (stream : List ℕ) (bodies : List (List ℕ)) (at : ℕ) →
+        Breaks stream bodies at → BeginsFrames (take at stream) → ⊥ }
+    ensures least { (stream : List ℕ) (bodies : List (List ℕ)) (at fewer : ℕ) →
+        Breaks stream bodies at → fewer < at → BeginsFrames (take fewer stream) }
+{}
+
+/// A stream is read piece by piece as it is read at once.
+pub fn pieces_join()
+    ensures { (stream piece rest left : List ℕ) (bodies fresh : List (List ℕ)) →
+        Splits stream bodies rest → Splits (rest ++ piece) fresh left → Splits (stream ++ piece) (bodies ++ fresh) left }
 {}

@@ -17,3 +17,6 @@ mod writer;
 pub use fault::FrameFault;
 pub use reader::FrameReader;
 pub use writer::write_frame;
+
+#[cfg(test)]
+mod tests;

@@ -20,8 +20,8 @@ pub struct FrameReader {
 
 impl Model for FrameReader {
     ghost use Rattle.std.specs.Prelude.{◌++◌};
-    ghost use Rattle.rpc_framing.specs.Reading.{Reading};
-    ghost use Rattle.rpc_framing.specs.Steps.{Stands, bodies_of};
+    ghost use Rattle.rpc_framing.specs.Reading.{Reading, bodies_of};
+    ghost use Rattle.rpc_framing.specs.Steps.{Stands};
 
     ghost Value = { Reading };
 
@@ -62,7 +62,22 @@ impl FrameReader {
         self.rest.missing().unwrap_or(1)
     }
 
-    /// Takes the next piece of the stream.
+    /// How many bytes were fed, over all pieces.
+    pub fn fed(&self) -> u64
+        ensures { result ≡ self.now.fed }
+    {
+        self.fed
+    }
+
+    /// The number of bytes, over all pieces, up to the first with which they begin no sequence of frames.
+    pub fn fault(&self) -> Option<u64>
+        ensures { result ≡ self.now.fault }
+    {
+        self.fault
+    }
+
+    /// Takes the next piece of the stream. Bodies that it completes before a fault wait too; what is held of the rest
+    /// after a fault is not said.
     pub fn feed(&mut self, alloc: Global, piece: &[u8]) -> Result<(), FrameFault>
         requires room { self.old.fed + length piece.now < 2 ^ 64 }
         ensures ok { OnOk result (GoesOn self.old self.new piece.now) }
@@ -75,7 +90,7 @@ impl FrameReader {
             return Err(FrameFault::NotBuilt);
         }
         let before = self.fed;
-        let fault = accept(&mut self.rest, &mut self.ready, alloc, piece)?;
+        let fault = accept(alloc, &mut self.rest, &mut self.ready, piece)?;
         self.fed = before + piece.len() as u64;
         match fault {
             None => Ok(()),

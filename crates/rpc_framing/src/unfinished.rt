@@ -1,7 +1,8 @@
 //! What has come of a frame that is not yet whole, and the frames of a piece.
 ghost use Rattle.std.specs.Prelude.{◌≡◌, ◌+◌, ◌-◌, ◌++◌, ◌≤◌, [], length, take, drop, OnOk, OnErr, IfOk, IfSome, option_map, vec_len};
+ghost use Rattle.rpc_framing.specs.Reading.{bodies_of};
 ghost use Rattle.rpc_framing.specs.Stages.{whole_length};
-ghost use Rattle.rpc_framing.specs.Steps.{Reaches, IsShort, Stands, Accepts, bodies_of};
+ghost use Rattle.rpc_framing.specs.Steps.{Reaches, IsShort, Stands, Accepts};
 
 use crate::header::{Headway, Stage, follow_header};
 use hl_base::OutOfMemory;
@@ -140,9 +141,9 @@ fn read_ahead(alloc: Global, piece: &[u8]) -> Result<Ahead, OutOfMemory>
 /// Takes a piece of the stream behind what has come of a frame. `Ok` says the number of the piece's bytes up to the
 /// first fault, if there is one. An `Err` changes nothing.
 pub(crate) fn accept(
+    alloc: Global,
     rest: &mut Unfinished,
     ready: &mut VecDeque<Vec<u8>>,
-    alloc: Global,
     piece: &[u8],
 ) -> Result<Option<usize>, OutOfMemory>
     requires { Stands rest.old.stage rest.old.header.items rest.old.body.items }
@@ -159,7 +160,7 @@ pub(crate) fn accept(
             rest.grow(piece, size, stage)?;
             Ok(None)
         }
-        Reach::Whole(size, end) => complete(rest, ready, alloc, piece, size, end),
+        Reach::Whole(size, end) => complete(alloc, rest, ready, piece, size, end),
         Reach::Dead(count) => Ok(Some(count)),
     }
 }
@@ -167,9 +168,9 @@ pub(crate) fn accept(
 /// Takes a piece of which the first `end` bytes complete the frame, `size` of them its header. `Ok` and `Err` are as for
 /// `accept`.
 fn complete(
+    alloc: Global,
     rest: &mut Unfinished,
     ready: &mut VecDeque<Vec<u8>>,
-    alloc: Global,
     piece: &[u8],
     size: usize,
     end: usize,

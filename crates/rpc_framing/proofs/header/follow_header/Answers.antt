@@ -1,4 +1,3 @@
-use Rattle.std.proofs.Common.{arith}
 use Rattle.rpc_framing.proofs.Pieces.{Goes-more, Dies-more}
 use Rattle.rpc_framing.proofs.header.follow_header.Goals as goal
 

@@ -1,4 +1,4 @@
-use Rattle.rpc_framing.proofs.Pieces.{each_stream}
+use Rattle.rpc_framing.proofs.EachStream.{each_stream}
 use Rattle.rpc_framing.proofs.laws.each_stream_reads.Goals as goal
 
 pub returns : goal.returns

@@ -1,4 +1,4 @@
-use Rattle.std.proofs.Common.{arith, rules}
+use Rattle.std.proofs.Common.{arith}
 use Rattle.rpc_framing.proofs.Pieces.{Stands-grown, Brings-grown, Spoils-Dies}
 use Rattle.rpc_framing.proofs.unfinished.accept.Goals as goal
 

@@ -1,6 +1,7 @@
-use Rattle.std.proofs.Common.{◌≡◌, List, ℕ, [], ◌∷◌, ◌++◌, ◌+◌, ◌-◌, ◌∙◌, refl, length, take, drop, subst, sym, ap, arith, rules}
-use Rattle.rpc_framing.specs.Steps.{Accepts, bodies_of}
-use Rattle.rpc_framing.proofs.Pieces.{Accepts-whole, bodies_of-joined, mapped}
+use Rattle.std.proofs.Common.{◌≡◌, List, ℕ, [], ◌∷◌, ◌++◌, ◌-◌, ◌∙◌, length, take, drop, subst, sym, ap, arith, rules}
+use Rattle.rpc_framing.specs.Reading.{bodies_of}
+use Rattle.rpc_framing.specs.Steps.{Accepts}
+use Rattle.rpc_framing.proofs.Pieces.{Accepts-whole, bodies_of-joined}
 use Rattle.rpc_framing.proofs.unfinished.complete.Goals as goal
 
 pub returns-clause-reads : goal.returns-clause-reads

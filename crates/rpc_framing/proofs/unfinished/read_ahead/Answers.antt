@@ -1,8 +1,9 @@
-use Rattle.std.proofs.Common.{◌≡◌, List, ℕ, [], ◌∷◌, ◌++◌, ◌∙◌, ◌-◌, refl, length, take, drop, subst, sym, ap}
+use Rattle.std.proofs.Common.{◌≡◌, List, ℕ, [], ◌++◌, ◌∙◌, refl, take, drop, subst, sym, ap}
 use Rattle.std.proofs.lemmas.List.{take_rest}
 use Rattle.rpc_framing.specs.Frames.{IsFrames}
-use Rattle.rpc_framing.specs.Steps.{bodies_of}
-use Rattle.rpc_framing.proofs.Pieces.{Stands-nil, Stands-grown, Brings-ahead, Spoils-ahead, IsFrames-ahead, bodies_of-push}
+use Rattle.rpc_framing.specs.Reading.{bodies_of}
+use Rattle.rpc_framing.proofs.Standing.{Stands-nil}
+use Rattle.rpc_framing.proofs.Pieces.{Stands-grown, Brings-ahead, Spoils-ahead, IsFrames-ahead, bodies_of-push}
 use Rattle.rpc_framing.proofs.unfinished.read_ahead.Goals as goal
 
 pub returns-in-Within-clause-reads : goal.returns-in-Within-clause-reads

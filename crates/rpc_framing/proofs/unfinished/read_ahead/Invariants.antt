@@ -1,6 +1,6 @@
 use Rattle.std.proofs.Common.{◌≡◌, List, ℕ, ◌++◌, length}
 use Rattle.rpc_framing.specs.Frames.{IsFrames}
-use Rattle.rpc_framing.specs.Steps.{bodies_of}
+use Rattle.rpc_framing.specs.Reading.{bodies_of}
 use Rattle.rpc_framing.proofs.unfinished.read_ahead.Given as goal
 
 -- what was read of the piece is the frames of the bodies

@@ -1,5 +1,6 @@
 use Rattle.std.proofs.Common.{Option, ℕ, ◌++◌, refl, ap, subst}
-use Rattle.rpc_framing.specs.Steps.{Accepts, bodies_of}
+use Rattle.rpc_framing.specs.Reading.{bodies_of}
+use Rattle.rpc_framing.specs.Steps.{Accepts}
 use Rattle.rpc_framing.proofs.Pieces.{Stops-Spoils}
 use Rattle.rpc_framing.proofs.reader.FrameReader.feed.Goals as goal
 

@@ -1,6 +1,6 @@
-use Rattle.std.proofs.Common.{◌≡◌, ℕ, ◌∙◌, ◌++◌, ap, sym, List, length, subst}
+use Rattle.std.proofs.Common.{ℕ, ◌∙◌, ap, List, subst}
 use Rattle.rpc_framing.specs.Reading.{IsWanted, Waits}
-use Rattle.rpc_framing.proofs.Pieces.{Waits-wanted}
+use Rattle.rpc_framing.proofs.Standing.{Waits-wanted}
 use Rattle.std.specs.Prelude.{unwrap_or}
 use Rattle.rpc_framing.proofs.reader.FrameReader.wanted.Goals as goal
 
