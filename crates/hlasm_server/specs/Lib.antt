@@ -1,2 +1,10 @@
+pub mod Diagnostics
+pub mod Feeding
+pub mod Headline
 pub mod Messages
+pub mod Output
 pub mod Replies
+pub mod Sending
+pub mod Session
+pub mod Status
+pub mod Words

@@ -102,5 +102,5 @@ message_in value =
     else None
 
 -- the message that a body is: JSON in UTF-8, nested at most 127 deep, that is one of the four
-abbrev pub message_of : List ℕ → Option Message
+unfoldable pub message_of : List ℕ → Option Message
 message_of body = if is_utf8 body then option_and_then message_in (read body) else None

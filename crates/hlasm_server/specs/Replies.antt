@@ -52,11 +52,11 @@ initialized_value =
     (member (codes "serverInfo") server_value no_members))
 
 -- the reply to initialize
-abbrev pub initialize_reply_of : ℤ → List ℕ
+unfoldable pub initialize_reply_of : ℤ → List ℕ
 initialize_reply_of id = compact_text (reply_of id initialized_value)
 
 -- the reply to shutdown
-abbrev pub shutdown_reply_of : ℤ → List ℕ
+unfoldable pub shutdown_reply_of : ℤ → List ℕ
 shutdown_reply_of id = compact_text (reply_of id null)
 
 -- ---- the list of a document
@@ -103,6 +103,6 @@ notification_of method params =
     (member (codes "params") params no_members)))
 
 -- the list that is published of a document
-abbrev pub published_list_of : List ℕ → ℤ → List Diagnostic → List ℕ
+unfoldable pub published_list_of : List ℕ → ℤ → List Diagnostic → List ℕ
 published_list_of uri version diagnostics =
     compact_text (notification_of (codes "textDocument/publishDiagnostics") (published_params uri version diagnostics))

@@ -1,4 +1,24 @@
-//! The language server's program: bodies in, bodies out.
+//! The language server as one call: bytes in, bytes out.
+//!
+//! `run` takes the words of the command line, a source, a sink and a library of files, and answers a `Status`. Its
+//! contract is the headline: where source and sink tell their bytes, the bytes written and the status are those of the
+//! plain session for the bytes taken, however they were cut; want of memory or a fault of the outside only ends it
+//! after a prefix. Messages follow LSP 3.17 over JSON-RPC 2.0.
+//!
+//! It knows nothing of files, terminals or processes: the program `hlasm_ls` hands in the real ones. Within the crate,
+//! `feeding` takes the next body from the source, `messages` reads and writes bodies, `session` says what one message
+//! does, `diagnostics` what is reported of a text, `sending` puts what is written into the sink, and `serving` joins them.
 #![tactic(auto)]
 
-pub mod messages;
+mod diagnostics;
+mod feeding;
+pub mod laws;
+mod messages;
+mod sending;
+mod serving;
+mod session;
+mod status;
+mod words;
+
+pub use serving::run;
+pub use status::Status;

@@ -33,6 +33,7 @@ pub struct Diagnostic {
 }
 
 /// The reply to `initialize`: what the server offers, and its name.
+#[tactic(auto, unfolding(crate::specs::Replies::initialize_reply_of))]
 pub fn initialize_reply(alloc: Global, id: i32) -> Result<Vec<u8>, OutOfMemory>
     ensures { IfOk result (λ bytes. bytes.items ≡ initialize_reply_of id) }
 {
@@ -41,6 +42,7 @@ pub fn initialize_reply(alloc: Global, id: i32) -> Result<Vec<u8>, OutOfMemory>
 }
 
 /// The reply to `shutdown`.
+#[tactic(auto, unfolding(crate::specs::Replies::shutdown_reply_of))]
 pub fn shutdown_reply(alloc: Global, id: i32) -> Result<Vec<u8>, OutOfMemory>
     ensures { IfOk result (λ bytes. bytes.items ≡ shutdown_reply_of id) }
 {
@@ -48,6 +50,7 @@ pub fn shutdown_reply(alloc: Global, id: i32) -> Result<Vec<u8>, OutOfMemory>
 }
 
 /// The notification that shows a document's reports, at the version of the document that they were found in.
+#[tactic(auto, unfolding(crate::specs::Replies::published_list_of))]
 pub fn published_list(
     alloc: Global,
     uri: &Text,

@@ -1,0 +1,72 @@
+-- The headline (this project): what a run has read and written, told by source and sink, is what the plain session
+-- writes for those bytes; a fault of the outside or want of memory only ends it after a prefix.
+use Rattle.std.specs.Prelude.{◌≡◌, ℕ, Bool, List, ◌++◌, length, drop, Option, Some, ◌⊎◌}
+use Rattle.io_edge.specs.Told.{Gives, Gains, HasRisen}
+use Rattle.io_edge.specs.LibraryCall.{LibraryCall}
+use Rattle.hlasm_server.specs.declared.status.Status.{Status}
+use Rattle.hlasm_server.specs.declared.status.Status.TheVariants.{Done, InputEnded, OutOfMemory, ReadFault, WriteFault, BadWords, NotBuilt}
+use Rattle.hlasm_server.specs.Session.{State, start, written}
+use Rattle.hlasm_server.specs.Output.{Out}
+
+-- the whole output of the input, with this status
+pub record Whole (waits : List Bool) (calls : List LibraryCall) (bytes : List ℕ) (status : Status) (taken : ℕ) (output : List ℕ) : Type 0 where
+  pub replies : List (List ℕ)
+  pub out : Out start 0 waits calls bytes replies status taken
+  pub all : output ≡ written replies
+
+-- the first bodies of the output, each a whole frame
+pub record FirstFrames (waits : List Bool) (calls : List LibraryCall) (bytes output : List ℕ) : Type 0 where
+  pub first : List (List ℕ)
+  pub others : List (List ℕ)
+  pub status : Status
+  pub taken : ℕ
+  pub out : Out start 0 waits calls bytes (first ++ others) status taken
+  pub all : output ≡ written first
+
+-- the first bytes of the output
+pub record FirstBytes (waits : List Bool) (calls : List LibraryCall) (bytes output : List ℕ) : Type 0 where
+  pub replies : List (List ℕ)
+  pub status : Status
+  pub taken : ℕ
+  pub rest : List ℕ
+  pub out : Out start 0 waits calls bytes replies status taken
+  pub all : written replies ≡ output ++ rest
+
+-- What a run with this status has written, `bytes` being the input that was there and `taken` what it took of it.
+abbrev pub IsAnswer : Status → List Bool → List LibraryCall → (bytes taken output : List ℕ) → Type 0
+-- want of memory ends it at a whole frame
+IsAnswer OutOfMemory waits calls bytes taken output = FirstFrames waits calls bytes output
+-- a sink that failed has taken some beginning
+IsAnswer WriteFault waits calls bytes taken output = FirstBytes waits calls bytes output
+-- a source that failed is as an input that ended there
+IsAnswer ReadFault waits calls bytes taken output = Whole waits calls taken InputEnded (length taken) output
+-- with right words no answer speaks of the words
+IsAnswer BadWords waits calls bytes taken output = ⊥
+IsAnswer Done waits calls bytes taken output = Whole waits calls bytes Done (length taken) output
+IsAnswer InputEnded waits calls bytes taken output = Whole waits calls bytes InputEnded (length taken) output
+IsAnswer (NotBuilt frames) waits calls bytes taken output = Whole waits calls bytes (NotBuilt frames) (length taken) output
+
+-- What a run took of the source and put into the sink, as they tell it, is the plain session's.
+pub record IsPlainRun (waits : List Bool) (calls : List LibraryCall) (left_before left_now held_before held_now : Option (List ℕ)) (status : Status) : Type 0 where
+  pub taken : List ℕ
+  pub output : List ℕ
+  pub read : Gives left_before taken left_now
+  pub wrote : Gains held_before output held_now
+  pub answer : (bytes : List ℕ) → left_before ≡ Some bytes → IsAnswer status waits calls bytes taken output
+
+-- Faults come only where the count of that object rose.
+abbrev pub HasStatusCause : Status → (source_before source_now sink_before sink_now : ℕ) → Type 0
+HasStatusCause ReadFault a b c d = HasRisen a b
+HasStatusCause WriteFault a b c d = HasRisen c d
+HasStatusCause Done a b c d = Unit {0}
+HasStatusCause InputEnded a b c d = Unit {0}
+HasStatusCause OutOfMemory a b c d = Unit {0}
+HasStatusCause BadWords a b c d = Unit {0}
+HasStatusCause (NotBuilt frames) a b c d = Unit {0}
+
+-- Completeness: for an input that the plain session ends with its exit, where no fault was counted, the run is done, has
+-- written all, and has taken the input up to the end of the exit's frame, unless memory ran out.
+abbrev pub Completes : List Bool → List LibraryCall → (left_before left_now held_before held_now : Option (List ℕ)) → Status → Type 0
+Completes waits calls left_before left_now held_before held_now status =
+    (bytes : List ℕ) (replies : List (List ℕ)) (taken : ℕ) → left_before ≡ Some bytes → Out start 0 waits calls bytes replies Done taken
+    → (status ≡ OutOfMemory) ⊎ ((status ≡ Done) × (left_now ≡ Some (drop taken bytes)) × Gains held_before (written replies) held_now)

@@ -1,0 +1,11 @@
+-- What the words after the program's name ask for (this project).
+use Rattle.std.specs.Prelude.{ℕ, List, [], ◌∷◌, codes, Option, Some, None, if◌then◌else◌}
+use Rattle.std.specs.Str.{bytes_eq}
+use Rattle.hlasm_server.specs.declared.words.Command.{Command}
+use Rattle.hlasm_server.specs.declared.words.Command.TheVariants.{Serve}
+
+-- the one command is `serve`
+abbrev pub command_of : List (List ℕ) → Option Command
+command_of [] = None
+command_of (word ∷ []) = if bytes_eq word (codes "serve") then Some Serve else None
+command_of (word ∷ other ∷ others) = None

@@ -1,0 +1,104 @@
+//! The top call: from the bytes that come in to the bytes that go out.
+ghost use Rattle.std.specs.Prelude.{◌≡◌, ◌≢◌, ◌≤◌, ◌↔◌, [], Some, None, map, string_bytes};
+ghost use Rattle.hlasm_server.specs.Status.{status_of};
+ghost use Rattle.io_edge.specs.Told.{HasRisen};
+ghost use Rattle.hlasm_server.specs.declared.words.Command.TheVariants.{Serve as ServeCommand};
+ghost use Rattle.hlasm_server.specs.Headline.{IsPlainRun, HasStatusCause, Completes};
+ghost use Rattle.hlasm_server.specs.Words.{command_of};
+
+use crate::Status;
+use crate::feeding::{LARGEST_PIECE, Next, next_body};
+use crate::sending::{Stop, hear};
+use crate::session::{Event, Session};
+use crate::words::{Command, read_words};
+use hl_base::{Ledger, Steps};
+use io_edge::{Library, Sink, Source};
+use rpc_framing::FrameReader;
+use std::alloc::Global;
+
+/// The status of a run whose output stopped.
+fn stopped(stop: Stop) -> Status
+    ensures { result ≡ status_of stop }
+{
+    match stop {
+        Stop::OutOfMemory => Status::OutOfMemory,
+        Stop::WriteFault => Status::WriteFault,
+    }
+}
+
+/// The session, until it ends.
+fn serve<S: Source, K: Sink>(alloc: Global, source: &mut S, sink: &mut K) -> Status
+    ensures plain { IsPlainRun [] [] (S.left source.old) (S.left source.new) (K.held sink.old) (K.held sink.new) result }
+    ensures cause { HasStatusCause result (S.faults source.old) (S.faults source.new) (K.faults sink.old) (K.faults sink.new) }
+    ensures words { result ≢ Status.BadWords }
+    ensures waits { S.waits source.new ≡ S.waits source.old }
+    ensures later_source { S.faults source.old ≤ S.faults source.new }
+    ensures later_sink { K.faults sink.old ≤ K.faults sink.new }
+{
+    let mut buffer = [0; LARGEST_PIECE];
+    let mut session = Session::new(alloc);
+    let mut reader = FrameReader::new(alloc);
+    let mut output = Vec::new(alloc);
+    let mut frames = 0;
+    loop {
+        let body = match next_body(alloc, source, &mut reader, &mut buffer) {
+            Next::Body(body) => body,
+            Next::End => return Status::InputEnded,
+            Next::Broken => return Status::NotBuilt { frames },
+            Next::ReadFault => return Status::ReadFault,
+            Next::OutOfMemory => return Status::OutOfMemory,
+        };
+        match hear(alloc, &mut session, &body, sink, &mut output) {
+            Ok(Event::Running) => frames += 1,
+            Ok(Event::Ended) => return Status::Done,
+            Ok(Event::Refused) => return Status::NotBuilt { frames },
+            Err(stop) => return stopped(stop),
+        }
+    }
+}
+
+/// Runs the command that the words after the program's name give: `serve` reads messages from the source and writes the
+/// answers to the sink, one byte at a time in a header and then at most the missing bytes of the body, so that nothing
+/// of the next message is held. Any other words are `BadWords`, and nothing is read or written.
+///
+/// The library and the steps are kept for what is still to be built; no call of them is made.
+pub fn run<S: Source, K: Sink, B: Library, L: Ledger>(
+    alloc: Global,
+    words: &[String],
+    source: &mut S,
+    sink: &mut K,
+    library: &mut B,
+    steps: &mut Steps<L>,
+) -> Status
+    // The headline.
+    ensures plain { command_of (map string_bytes words.now) ≡ Some ServeCommand → IsPlainRun [] []
+        (S.left source.old) (S.left source.new) (K.held sink.old) (K.held sink.new) result }
+
+    // Each fault has its cause.
+    ensures bad_words { (result ≡ Status.BadWords) ↔ (command_of (map string_bytes words.now) ≡ None) }
+    ensures cause { HasStatusCause result (S.faults source.old) (S.faults source.new) (K.faults sink.old) (K.faults sink.new) }
+
+    // A whole session is answered whole.
+    ensures complete { command_of (map string_bytes words.now) ≡ Some ServeCommand
+        → (HasRisen (S.faults source.old) (S.faults source.new) → ⊥)
+        → (HasRisen (K.faults sink.old) (K.faults sink.new) → ⊥)
+        → Completes [] [] (S.left source.old) (S.left source.new) (K.held sink.old) (K.held sink.new) result }
+
+    // With wrong words nothing is read or written.
+    ensures unread { result ≡ Status.BadWords → (S.left source.new ≡ S.left source.old) × (S.faults source.new ≡ S.faults source.old) }
+    ensures unwritten { result ≡ Status.BadWords → (K.held sink.new ≡ K.held sink.old) × (K.faults sink.new ≡ K.faults sink.old) }
+
+    // Nothing is asked of the library, of the waiting answers or of the steps.
+    ensures library { (B.calls library.new ≡ B.calls library.old) × (B.faults library.new ≡ B.faults library.old) }
+    ensures waits { S.waits source.new ≡ S.waits source.old }
+    ensures steps { steps.new ≡ steps.old }
+    ensures later_source { S.faults source.old ≤ S.faults source.new }
+    ensures later_sink { K.faults sink.old ≤ K.faults sink.new }
+{
+    let _ = library;
+    let _ = steps;
+    match read_words(words) {
+        Some(Command::Serve) => serve(alloc, source, sink),
+        None => Status::BadWords,
+    }
+}

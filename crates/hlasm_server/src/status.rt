@@ -1,0 +1,55 @@
+//! How a run ends.
+ghost use Rattle.std.specs.Prelude.{◌≡◌};
+ghost use Rattle.hlasm_server.specs.Status.{number_of};
+
+use std::fmt;
+
+/// How a run ended. Its number is the status that the process ends with.
+#[derive(Clone, Copy, Debug, PartialEq, Eq)]
+pub enum Status {
+    /// `exit` came after `shutdown` was answered.
+    Done,
+    /// The input ended before `exit`.
+    InputEnded,
+    /// There was no memory for the next step.
+    OutOfMemory,
+    /// The source refused a call.
+    ReadFault,
+    /// The sink refused a call.
+    WriteFault,
+    /// The words are no command.
+    BadWords,
+    /// Behind this many frames comes what this version does not read.
+    NotBuilt { frames: u32 },
+}
+
+impl Status {
+    /// The exit status of the process.
+    pub fn number(self) -> u8
+        ensures { result ≡ number_of self }
+    {
+        match self {
+            Status::Done => 0,
+            Status::InputEnded => 2,
+            Status::OutOfMemory => 3,
+            Status::ReadFault => 5,
+            Status::WriteFault => 6,
+            Status::BadWords => 7,
+            Status::NotBuilt { .. } => 9,
+        }
+    }
+}
+
+impl fmt::Display for Status {
+    fn fmt<W: fmt::Write>(&self, f: &mut fmt::Formatter<W>) -> fmt::Result {
+        match self {
+            Status::Done => write!(f, "Done"),
+            Status::InputEnded => write!(f, "InputEnded"),
+            Status::OutOfMemory => write!(f, "OutOfMemory"),
+            Status::ReadFault => write!(f, "ReadFault"),
+            Status::WriteFault => write!(f, "WriteFault"),
+            Status::BadWords => write!(f, "BadWords"),
+            Status::NotBuilt { frames } => write!(f, "NotBuilt after {frames} frames"),
+        }
+    }
+}
