@@ -168,6 +168,13 @@ impl MemoryLibrary {
     {
         self.calls.as_slice()
     }
+
+    /// How many calls failed, or the greatest u64.
+    pub fn refusals(&self) -> u64
+        ensures { result ≡ self.now.refusals }
+    {
+        self.refusals
+    }
 }
 
 /// Whether the next call is to fail, where so many were made.

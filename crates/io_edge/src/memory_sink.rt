@@ -87,6 +87,13 @@ impl MemorySink {
     {
         self.bytes.as_slice()
     }
+
+    /// How many puts failed, or the greatest u64.
+    pub fn refusals(&self) -> u64
+        ensures { result ≡ self.now.refusals }
+    {
+        self.refusals
+    }
 }
 
 impl Sink for MemorySink {

@@ -101,6 +101,21 @@ impl MemorySource {
             refusals: 0,
         }
     }
+
+    /// The bytes not yet taken.
+    pub fn rest(&self) -> &[u8]
+        ensures { result.now ≡ self.now.bytes }
+    {
+        let (_, rest) = self.bytes.split_at(self.taken);
+        rest
+    }
+
+    /// How many takes failed, or the greatest u64.
+    pub fn refusals(&self) -> u64
+        ensures { result ≡ self.now.refusals }
+    {
+        self.refusals
+    }
 }
 
 impl Source for MemorySource {

@@ -32,6 +32,13 @@ impl<W: Write> StdSink<W> {
             refusals: 0,
         }
     }
+
+    /// How many puts failed, or the greatest u64.
+    pub fn refusals(&self) -> u64
+        ensures { result ≡ self.now }
+    {
+        self.refusals
+    }
 }
 
 /// Writes once, again where a signal interrupted the write.
