@@ -1,5 +1,5 @@
 //! A library that holds its folders and files.
-ghost use Rattle.std.specs.Prelude.{◌≡◌, ℕ, ◌+◌, ◌<◌, ◌≤◌, ◌↔◌, List, [], ◌++◌, Some, map, find, length, string_bytes, IfOk, IsErr, IsErrOf, IsTrue};
+ghost use Rattle.std.specs.Prelude.{◌≡◌, ◌↔◌, List, [], Some, map, find, length, string_bytes, IfOk, IsErr, IsErrOf, IsTrue};
 ghost use Rattle.std.specs.Option.{option_map, option_copied};
 ghost use Rattle.std.specs.Str.{bytes_eq};
 ghost use Rattle.io_edge.specs.Counts.{IsToFail};
@@ -185,7 +185,7 @@ fn is_to_fail(failing: &[u64], calls: usize) -> bool
 }
 
 impl Library for MemoryLibrary {
-    ghost use Rattle.io_edge.specs.LibraryCall.{LibraryCall, listing, reading, HasLibraryCause};
+    ghost use Rattle.io_edge.specs.LibraryCall.{listing, reading, HasLibraryCause};
     ghost use Rattle.io_edge.specs.MemoryLibrary.{Shelf, after_call, names_at, bytes_at};
 
     ghost calls = { λ l. Some l.calls };

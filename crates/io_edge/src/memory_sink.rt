@@ -1,5 +1,5 @@
 //! A sink that holds its bytes.
-ghost use Rattle.std.specs.Prelude.{◌≡◌, ℕ, ◌+◌, ◌<◌, ◌≤◌, ◌↔◌, List, [], ◌++◌, Some, length, IfOk, IsErr, vec_len, vec_capacity};
+ghost use Rattle.std.specs.Prelude.{◌≡◌, ◌+◌, ◌<◌, ◌≤◌, ◌↔◌, [], ◌++◌, Some, length, IfOk, IsErr, vec_len, vec_capacity};
 ghost use Rattle.io_edge.specs.Told.{Gains, counted, HasCause};
 
 use crate::number::is_listed;

@@ -1,5 +1,5 @@
 //! A source that holds its bytes.
-ghost use Rattle.std.specs.Prelude.{◌≡◌, ℕ, ◌+◌, ◌-◌, ◌<◌, ◌≤◌, ◌↔◌, List, [], ◌++◌, Bool, Option, Ok, length, take, drop, min, IfOk, IfSome, IsErr, All, slice_get};
+ghost use Rattle.std.specs.Prelude.{◌≡◌, ℕ, ◌+◌, ◌-◌, ◌<◌, ◌≤◌, ◌↔◌, ◌++◌, Ok, length, take, drop, min, IfOk, IfSome, IsErr, All};
 ghost use Rattle.std.specs.Option.{option_map};
 ghost use Rattle.io_edge.specs.MemorySource.{piece_limit, turned};
 ghost use Rattle.io_edge.specs.Told.{Gives, counted, overwritten, IsAtEnd, HasCause, first_wait};

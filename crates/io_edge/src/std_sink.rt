@@ -1,6 +1,6 @@
 //! A sink over std's `Write`.
-ghost use Rattle.std.specs.Prelude.{◌≡◌, ℕ, ◌<◌, ◌≤◌, List, None, length, IfOk};
-ghost use Rattle.io_edge.specs.Told.{Gains, counted, HasCause};
+ghost use Rattle.std.specs.Prelude.{◌≡◌, ℕ, ◌<◌, ◌≤◌, None, length, IfOk};
+ghost use Rattle.io_edge.specs.Told.{HasCause};
 
 use crate::interrupted::{TRIES, is_interrupted};
 use crate::{Failed, Sink};

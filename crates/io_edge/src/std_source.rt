@@ -1,5 +1,5 @@
 //! A source over std's `Read`.
-ghost use Rattle.std.specs.Prelude.{◌≡◌, ℕ, ◌+◌, ◌<◌, ◌≤◌, ◌↔◌, List, [], ◌++◌, None, Ok, Bool, length, min, take, IfOk, IsTrue};
+ghost use Rattle.std.specs.Prelude.{◌≡◌, ℕ, ◌+◌, ◌<◌, ◌≤◌, ◌↔◌, [], ◌++◌, None, Ok, length, min, take, IfOk, IsTrue};
 ghost use Rattle.io_edge.specs.Told.{counted, HasCause};
 
 use crate::interrupted::{TRIES, is_interrupted};
@@ -113,7 +113,6 @@ impl<R: Read> StdSource<R> {
 }
 
 impl<R: Read> Source for StdSource<R> {
-    ghost use Rattle.io_edge.specs.Counts.{one_more};
     ghost use Rattle.io_edge.specs.StdForms.{Ahead, counted_fault};
 
     ghost left = { λ _. None };
