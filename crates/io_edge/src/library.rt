@@ -1,5 +1,5 @@
 //! Where files come from.
-ghost use Rattle.std.specs.Prelude.{◌≡◌, ℕ, List, Option};
+ghost use Rattle.std.specs.Prelude.{ℕ, List, Option};
 ghost use Rattle.io_edge.specs.Told.{Gains};
 ghost use Rattle.io_edge.specs.LibraryCall.{LibraryCall, listing, reading, HasLibraryCause};
 

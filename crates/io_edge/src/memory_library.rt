@@ -1,5 +1,5 @@
 //! A library that holds its folders and files.
-ghost use Rattle.std.specs.Prelude.{◌≡◌, ℕ, ◌+◌, ◌<◌, ◌≤◌, ◌↔◌, List, [], ◌++◌, Some, map, find, length, string_bytes, IfOk, IsErr, IsErrOf, IsTrue};
+ghost use Rattle.std.specs.Prelude.{◌≡◌, ◌↔◌, List, [], Some, map, find, length, string_bytes, IfOk, IsErr, IsErrOf, IsTrue};
 ghost use Rattle.std.specs.Option.{option_map, option_copied};
 ghost use Rattle.std.specs.Str.{bytes_eq};
 ghost use Rattle.io_edge.specs.Counts.{IsToFail};
@@ -168,6 +168,13 @@ impl MemoryLibrary {
     {
         self.calls.as_slice()
     }
+
+    /// How many calls failed, or the greatest u64.
+    pub fn refusals(&self) -> u64
+        ensures { result ≡ self.now.refusals }
+    {
+        self.refusals
+    }
 }
 
 /// Whether the next call is to fail, where so many were made.
@@ -178,7 +185,7 @@ fn is_to_fail(failing: &[u64], calls: usize) -> bool
 }
 
 impl Library for MemoryLibrary {
-    ghost use Rattle.io_edge.specs.LibraryCall.{LibraryCall, listing, reading, HasLibraryCause};
+    ghost use Rattle.io_edge.specs.LibraryCall.{listing, reading, HasLibraryCause};
     ghost use Rattle.io_edge.specs.MemoryLibrary.{Shelf, after_call, names_at, bytes_at};
 
     ghost calls = { λ l. Some l.calls };

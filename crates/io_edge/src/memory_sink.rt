@@ -1,5 +1,5 @@
 //! A sink that holds its bytes.
-ghost use Rattle.std.specs.Prelude.{◌≡◌, ℕ, ◌+◌, ◌<◌, ◌≤◌, ◌↔◌, List, [], ◌++◌, Some, length, IfOk, IsErr, vec_len, vec_capacity};
+ghost use Rattle.std.specs.Prelude.{◌≡◌, ◌+◌, ◌<◌, ◌≤◌, ◌↔◌, [], ◌++◌, Some, length, IfOk, IsErr, vec_len, vec_capacity};
 ghost use Rattle.io_edge.specs.Told.{Gains, counted, HasCause};
 
 use crate::number::is_listed;
@@ -86,6 +86,13 @@ impl MemorySink {
         ensures { result.now ≡ self.now.bytes }
     {
         self.bytes.as_slice()
+    }
+
+    /// How many puts failed, or the greatest u64.
+    pub fn refusals(&self) -> u64
+        ensures { result ≡ self.now.refusals }
+    {
+        self.refusals
     }
 }
 

@@ -1,5 +1,5 @@
 //! A source that holds its bytes.
-ghost use Rattle.std.specs.Prelude.{◌≡◌, ℕ, ◌+◌, ◌-◌, ◌<◌, ◌≤◌, ◌↔◌, List, [], ◌++◌, Bool, Option, Ok, length, take, drop, min, IfOk, IfSome, IsErr, All, slice_get};
+ghost use Rattle.std.specs.Prelude.{◌≡◌, ℕ, ◌+◌, ◌-◌, ◌<◌, ◌≤◌, ◌↔◌, ◌++◌, Ok, length, take, drop, min, IfOk, IfSome, IsErr, All};
 ghost use Rattle.std.specs.Option.{option_map};
 ghost use Rattle.io_edge.specs.MemorySource.{piece_limit, turned};
 ghost use Rattle.io_edge.specs.Told.{Gives, counted, overwritten, IsAtEnd, HasCause, first_wait};
@@ -100,6 +100,21 @@ impl MemorySource {
             takes: 0,
             refusals: 0,
         }
+    }
+
+    /// The bytes not yet taken.
+    pub fn rest(&self) -> &[u8]
+        ensures { result.now ≡ self.now.bytes }
+    {
+        let (_, rest) = self.bytes.split_at(self.taken);
+        rest
+    }
+
+    /// How many takes failed, or the greatest u64.
+    pub fn refusals(&self) -> u64
+        ensures { result ≡ self.now.refusals }
+    {
+        self.refusals
     }
 }
 

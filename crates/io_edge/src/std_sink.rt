@@ -1,6 +1,6 @@
 //! A sink over std's `Write`.
-ghost use Rattle.std.specs.Prelude.{◌≡◌, ℕ, ◌<◌, ◌≤◌, List, None, length, IfOk};
-ghost use Rattle.io_edge.specs.Told.{Gains, counted, HasCause};
+ghost use Rattle.std.specs.Prelude.{◌≡◌, ℕ, ◌<◌, ◌≤◌, None, length, IfOk};
+ghost use Rattle.io_edge.specs.Told.{HasCause};
 
 use crate::interrupted::{TRIES, is_interrupted};
 use crate::{Failed, Sink};
@@ -31,6 +31,13 @@ impl<W: Write> StdSink<W> {
             writer,
             refusals: 0,
         }
+    }
+
+    /// How many puts failed, or the greatest u64.
+    pub fn refusals(&self) -> u64
+        ensures { result ≡ self.now }
+    {
+        self.refusals
     }
 }
 

@@ -1,5 +1,5 @@
 //! A source over std's `Read`.
-ghost use Rattle.std.specs.Prelude.{◌≡◌, ℕ, ◌+◌, ◌<◌, ◌≤◌, ◌↔◌, List, [], ◌++◌, None, Ok, Bool, length, min, take, IfOk, IsTrue};
+ghost use Rattle.std.specs.Prelude.{◌≡◌, ℕ, ◌+◌, ◌<◌, ◌≤◌, ◌↔◌, [], ◌++◌, None, Ok, length, min, take, IfOk, IsTrue};
 ghost use Rattle.io_edge.specs.Told.{counted, HasCause};
 
 use crate::interrupted::{TRIES, is_interrupted};
@@ -73,6 +73,13 @@ fn read_once<R: Read>(reader: &mut R, buffer: &mut [u8]) -> Result<usize, Failed
 impl<R: Read> StdSource<R> {
     ghost use Rattle.io_edge.specs.StdForms.{Ahead, counted_fault};
 
+    /// How many takes failed, or the greatest u64.
+    pub fn refusals(&self) -> u64
+        ensures { result ≡ self.now.refusals }
+    {
+        self.refusals
+    }
+
     /// Reads once into the buffer, in place of what was read ahead.
     fn fill(&mut self) -> Result<(), Failed>
         ensures counts { self.new.refusals ≡ counted_fault result self.old.refusals }
@@ -106,7 +113,6 @@ impl<R: Read> StdSource<R> {
 }
 
 impl<R: Read> Source for StdSource<R> {
-    ghost use Rattle.io_edge.specs.Counts.{one_more};
     ghost use Rattle.io_edge.specs.StdForms.{Ahead, counted_fault};
 
     ghost left = { λ _. None };
