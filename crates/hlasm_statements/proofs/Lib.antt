@@ -1,0 +1,6 @@
+pub mod CharLaws
+pub mod ListLaws
+pub mod FieldLaws
+pub mod SourceLaws
+pub mod GroupLaws
+pub mod StatementLaws
