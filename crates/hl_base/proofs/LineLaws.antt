@@ -1,14 +1,15 @@
 -- The lines of a text, from its front.
-use Rattle.std.proofs.Common.{◌≡◌, ◌∙◌, ℕ, ◌<◌, true, false, not, List, [], ◌∷◌, ◌++◌, length, take, drop, get_or, refl, sym, inl, inr, ap, subst, arith, lit<, append-nil, take-append-drop, get_or-take}
-use Rattle.std.specs.Prelude.{◌==◌, slice_index, encode_utf8_all, chars, IsUtf8, IsCharBoundary, position, nat_lt, encode_utf8, Some, None}
-use Rattle.std.specs.List.{AllByRecursion, onto_first, position_or_len}
+use Rattle.std.proofs.Common.{◌≡◌, ◌∙◌, ℕ, ◌+◌, ◌<◌, true, false, not, List, [], ◌∷◌, ◌++◌, length, take, drop, get_or, refl, sym, inl, inr, ap, subst, arith, lit<, append-nil, take-append-drop, get_or-take}
+use Rattle.std.specs.Prelude.{◌==◌, count_by, slice_index, encode_utf8_all, chars, IsUtf8, IsCharBoundary, position, nat_lt, encode_utf8, Some, None}
+use Rattle.std.proofs.lemmas.List.Splits.{length-slice_split, join_with_byte-slice_split}
+use Rattle.std.specs.List.{AllByRecursion, onto_first, position_or_len, join_with_byte}
 use Rattle.std.proofs.lemmas.Option.{cond_some, none-some}
 use Rattle.std.proofs.lemmas.List.Elements.{recursion_from_All}
 use Rattle.std.proofs.lemmas.List.Sums.{prefix_len_passes, prefix_len_stops}
 use Rattle.std.proofs.lemmas.List.Folds.{length-prefix_len}
 use Rattle.std.proofs.lemmas.Bool.{ltb-true, ltb-false, not-true, not-false, eqb-true, true≢false, both_ways, or_parts, or_cases, and_parts, and_cases, false_from_ne_true}
 use Rattle.std.proofs.lemmas.Str.{chars_past_char, encode_ascii, IsUtf8-past_char, IsUtf8-take, IsCharBoundary-before_ascii, IsCharBoundary-after_ascii, encodes-chars, chars-append}
-use Rattle.hl_base.specs.Texts.{lines, begins_crlf}
+use Rattle.hl_base.specs.Texts.{lines, with_line_feeds, begins_crlf}
 use Rattle.hl_base.specs.Remaining.{ends_line}
 
 -- a character within a line
@@ -156,3 +157,13 @@ lines-first bs i rest u e h =
     ap (λ xs. lines (chars xs)) (sym (take-append-drop i bs))
     ∙ ap lines (chars-append (take i bs) (drop i bs) utf8)
     ∙ rw append-nil at (lines-append (chars (take i bs)) (chars (drop i bs)) [] rest (within_text _ utf8 (within_before bs i e)) h)
+
+-- one line more than line ends
+pub length-lines : (text : List ℕ) → length (lines text) ≡ count_by (λ c. c == 10) (with_line_feeds text) + 1
+unfolding lines
+length-lines text = length-slice_split (λ c. c == 10) (with_line_feeds text)
+
+-- the lines, joined by LFs
+pub join-lines : (text : List ℕ) → join_with_byte 10 (lines text) ≡ with_line_feeds text
+unfolding lines
+join-lines text = join_with_byte-slice_split 10 (with_line_feeds text)

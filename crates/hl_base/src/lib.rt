@@ -15,7 +15,7 @@ mod place;
 mod steps;
 mod text;
 
-pub use line::{TextLines, lines, units};
+pub use line::{TextLines, lines, lines_are_between_ends, units};
 pub use memory::OutOfMemory;
 pub use name::Name;
 pub use note::{Note, Notes, Severity};

@@ -1,5 +1,6 @@
 //! The lines of a text, and how wide they are for the editor.
-ghost use Rattle.std.specs.Prelude.{◌≡◌, [], ◌∷◌, IsTrue, drop, slice_index, position};
+ghost use Rattle.std.specs.Prelude.{◌≡◌, ◌==◌, ◌+◌, ℕ, List, length, count_by, [], ◌∷◌, IsTrue, drop, slice_index, position};
+ghost use Rattle.std.specs.List.{join_with_byte};
 ghost use Rattle.std.specs.Str.{chars};
 ghost use Rattle.hl_base.specs.Texts as texts;
 ghost use Rattle.hl_base.specs.Remaining as remaining;
@@ -98,3 +99,9 @@ pub fn units(line: &str) -> usize
     }
     width
 }
+
+/// A text has one line more than it has line ends, and its lines, joined by LFs, are the text with a LF for every end.
+pub fn lines_are_between_ends()
+    ensures count { (text : List ℕ) → length (texts.lines text) ≡ count_by (λ c. c == 10) (texts.with_line_feeds text) + 1 }
+    ensures joined { (text : List ℕ) → join_with_byte 10 (texts.lines text) ≡ texts.with_line_feeds text }
+{}

@@ -4,3 +4,4 @@ pub mod FieldLaws
 pub mod SourceLaws
 pub mod GroupLaws
 pub mod StatementLaws
+pub mod GroupsLaws

@@ -3,3 +3,4 @@ pub mod Shape
 pub mod Faults
 pub mod Statements
 pub mod Reading
+pub mod Laws

@@ -6,7 +6,7 @@ ghost use Rattle.std.specs.Str.{chars};
 use crate::column::{is_all_blank, split_columns};
 use crate::field::Fields;
 use crate::shape::opening;
-use crate::{ColumnFault, Faults, Shape, Statement};
+use crate::{Faults, Shape, Statement};
 use hl_base::OutOfMemory;
 use std::alloc::Global;
 

@@ -12,8 +12,12 @@ mod column;
 mod fault;
 mod field;
 mod group;
+pub mod laws;
 mod shape;
 mod statement;
 
 pub use fault::{ColumnFault, Faults};
 pub use statement::{Shape, Statement, Statements, read_statements};
+
+#[cfg(test)]
+mod tests;
