@@ -1,1 +1,3 @@
 pub mod SymbolLaws
+pub mod LineLaws
+pub mod UnitLaws

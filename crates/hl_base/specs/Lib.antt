@@ -1,1 +1,3 @@
 pub mod Symbols
+pub mod Texts
+pub mod Remaining

@@ -7,6 +7,7 @@
 //! lists. What allocates takes the allocator first and answers `OutOfMemory` where there is no memory.
 #![tactic(auto)]
 
+mod line;
 mod memory;
 mod name;
 mod note;
@@ -14,6 +15,7 @@ mod place;
 mod steps;
 mod text;
 
+pub use line::{TextLines, lines, lines_are_between_ends, units};
 pub use memory::OutOfMemory;
 pub use name::Name;
 pub use note::{Note, Notes, Severity};

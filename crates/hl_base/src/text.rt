@@ -1,5 +1,5 @@
 //! Owned text, seen as the list of its characters.
-ghost use Rattle.std.specs.Prelude.{◌≡◌, [], IfOk, encode_utf8_all};
+ghost use Rattle.std.specs.Prelude.{◌≡◌, ◌↔◌, [], ◌++◌, IfOk, OnOk, OnErr, IsTrue, encode_utf8_all};
 ghost use Rattle.std.specs.Str.{chars};
 
 use crate::OutOfMemory;
@@ -38,6 +38,22 @@ impl Text {
         Ok(Text {
             content: String::from_str(alloc, text)?,
         })
+    }
+
+    /// Adds a text behind the one that is there. An `Err` changes nothing.
+    pub fn push_str(&mut self, text: &str) -> Result<(), OutOfMemory>
+        ensures ok { OnOk result (self.new ≡ self.old ++ chars text.now) }
+        ensures err { OnErr result (self.new ≡ self.old) }
+    {
+        self.content.push_str(text)?;
+        Ok(())
+    }
+
+    /// Whether it has no character.
+    pub fn is_empty(&self) -> bool
+        ensures { IsTrue result ↔ (self.now ≡ []) }
+    {
+        self.as_str().is_empty()
     }
 
     /// The text in UTF-8.
