@@ -1,3 +1,4 @@
+pub mod DiagnosticLaws
 pub mod FeedingLaws
 pub mod HeadlineLaws
 pub mod ListLemmas

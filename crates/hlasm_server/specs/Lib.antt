@@ -2,6 +2,7 @@ pub mod Diagnostics
 pub mod Feeding
 pub mod Headline
 pub mod Messages
+pub mod Notes
 pub mod Output
 pub mod Replies
 pub mod Sending

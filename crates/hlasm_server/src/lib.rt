@@ -14,6 +14,7 @@ mod diagnostics;
 mod feeding;
 pub mod laws;
 mod messages;
+mod notes;
 mod sending;
 mod serving;
 mod session;

@@ -56,7 +56,7 @@ impl Model for Session {
 fn list_of(alloc: Global, document: &Document) -> Result<Vec<u8>, OutOfMemory>
     ensures { IfOk result (λ body. body.items ≡ list_of document.now) }
 {
-    let list = diagnostics_of(alloc, &document.text)?;
+    let list = diagnostics_of(alloc, document.text.as_str())?;
     published_list(alloc, &document.uri, document.version, &list)
 }
 

@@ -16,6 +16,7 @@ pub mod laws;
 mod shape;
 mod statement;
 
+pub use column::split_columns;
 pub use fault::{ColumnFault, Faults};
 pub use statement::{Shape, Statement, Statements, read_statements};
 

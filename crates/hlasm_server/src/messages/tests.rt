@@ -106,8 +106,8 @@ fn tells_an_opened_document(rt: HostRuntime) -> Result<(), Fail> {
         ),
         (r#""text":"","uri":"file:///a","version":1"#, "none"),
         (
-            r#""languageId":"hlasm","text":" ","uri":"file:///a","version":1"#,
-            "none",
+            r#""languageId":"hlasm","text":" \n\u0041","uri":"file:///a","version":1"#,
+            "open file:///a 1 ' \nA'",
         ),
         (
             r#""languageId":"hlasm","text":null,"uri":"file:///a","version":1"#,
@@ -156,6 +156,24 @@ fn tells_an_opened_document(rt: HostRuntime) -> Result<(), Fail> {
         )?;
         let message = read_message(alloc, body.as_bytes())?;
         assert!(rt; told(alloc, &message)?.as_str() == wanted, "{members}");
+    }
+    Ok(())
+}
+
+#[test]
+fn opens_texts_of_four_mebibytes(rt: HostRuntime) -> Result<(), Fail> {
+    let alloc = rt.alloc();
+    for (blanks, opens) in [(4_194_304u32, true), (4_194_305, false)] {
+        let mut body = String::from_str(
+            alloc,
+            "{\"jsonrpc\":\"2.0\",\"method\":\"textDocument/didOpen\",\"params\":{\"textDocument\":{\"languageId\":\"hlasm\",\"uri\":\"file:///a\",\"version\":1,\"text\":\"",
+        )?;
+        for _ in 0..blanks {
+            body.push_str(" ")?;
+        }
+        body.push_str("\"}}}")?;
+        let message = read_message(alloc, body.as_bytes())?;
+        assert_eq!(rt; message.is_some(), opens, "{blanks}");
     }
     Ok(())
 }
