@@ -1,0 +1,85 @@
+//! The language server as a program, over standard input and output.
+//!
+//! It hands the words after its name, standard input and standard output to `hlasm_server::run`, and ends with the
+//! number of the status. Where the status is not `Done`, its name is printed on standard error; standard output has
+//! nothing but the session's frames. What a run writes is the contract of `run`; here is only what it runs on.
+#![tactic(auto)]
+
+ghost use Rattle.std.specs.Prelude.{◌≡◌, None, map, string_bytes, ◌⊎◌};
+ghost use Rattle.hlasm_server.specs.Words.{command_of};
+
+use hl_base::{Ledger, OutOfMemory, Steps};
+use hlasm_server::{Status, run};
+use io_edge::{MemoryLibrary, StdSink, StdSource};
+use std::alloc::Global;
+use std::env;
+use std::io::{ErrorKind, Read, Write};
+use std::marker::Brand;
+use std::process::ExitCode;
+use std::sync::ledger::Blank;
+
+/// The words after the program's name. Words that are no UTF-8 are no command.
+fn words_after_name(rt: &HostRuntime) -> Result<Vec<String>, Status> {
+    let mut words = match env::args(rt) {
+        Ok(words) => words,
+        Err(error) if error.kind() == ErrorKind::OutOfMemory => return Err(Status::OutOfMemory),
+        Err(_) => return Err(Status::BadWords),
+    };
+    let _name = words.next();
+    let mut after = Vec::new(rt.alloc());
+    for word in words {
+        if after.push(word).is_err() {
+            return Err(Status::OutOfMemory);
+        }
+    }
+    Ok(after)
+}
+
+/// Runs the command over an input and an output, with no files and in a ledger that nothing else uses.
+fn run_on_streams<I: Read + Drop, O: Write + Drop, L: Ledger>(
+    alloc: Global,
+    words: &[String],
+    input: I,
+    output: O,
+    blank: Blank,
+) -> Status
+    requires name { blank.name ≡ L.name }
+    requires parts { blank.parts ≡ L.parts }
+    requires one { blank.parts ≡ 1 }
+    ensures no_command { command_of (map string_bytes words.now) ≡ None
+        → (result ≡ Status.BadWords) ⊎ (result ≡ Status.OutOfMemory) }
+    ensures bad_words { result ≡ Status.BadWords → command_of (map string_bytes words.now) ≡ None }
+{
+    let mut source = match StdSource::new(alloc, input) {
+        Ok(source) => source,
+        Err(OutOfMemory) => return Status::OutOfMemory,
+    };
+    let mut sink = StdSink::new(output);
+    let mut library = MemoryLibrary::new(alloc, Vec::new(alloc), Vec::new(alloc), Vec::new(alloc));
+    let mut steps = Steps::<L>::open(blank);
+    run(
+        alloc,
+        words,
+        &mut source,
+        &mut sink,
+        &mut library,
+        &mut steps,
+    )
+}
+
+fn main(rt: HostRuntime) -> ExitCode {
+    let status = match words_after_name(&rt) {
+        Ok(words) => run_on_streams::<_, _, Brand>(
+            rt.alloc(),
+            &words,
+            rt.stdin(),
+            rt.stdout(),
+            Blank::new(1),
+        ),
+        Err(status) => status,
+    };
+    if status != Status::Done {
+        let _ = rt.eprintln(status);
+    }
+    ExitCode::from(status.number())
+}
