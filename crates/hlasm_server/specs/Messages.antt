@@ -46,17 +46,13 @@ is_file_uri uri = starts_with nat_eq uri (codes "file:///") && list_all is_path_
 abbrev pub is_short : List ℕ → Bool
 is_short text = nat_le (length text) (4 * 1024 * 1024)
 
--- so far the empty text is the only one that is opened
-abbrev pub is_built : List ℕ → Bool
-is_built text = length text == 0
-
 -- the URI of a document
 abbrev pub uri_of : Data → Option (List ℕ)
 uri_of document = option_and_then (kept_if is_file_uri) (text_member (codes "uri") document)
 
 -- the text of a document
 abbrev pub text_of : Data → Option (List ℕ)
-text_of document = option_and_then (kept_if (λ text. is_short text && is_built text)) (text_member (codes "text") document)
+text_of document = option_and_then (kept_if is_short) (text_member (codes "text") document)
 
 -- a document, where none of its parts is missing
 abbrev pub whole_document : Option (List ℕ) → Option ℤ → Option (List ℕ) → Option Document

@@ -2,7 +2,7 @@
 ghost use Rattle.std.specs.Prelude.{◌≡◌, IfOk, option_map};
 ghost use Rattle.std.specs.List.{list_all};
 ghost use Rattle.serde_json.specs.View.{view};
-ghost use Rattle.hlasm_server.specs.Messages.{message_of, message_in, message_named, opened_document, document_of, uri_of, text_of, is_built, id_of, has_text, text_member, whole_member, is_notification, is_file_uri, is_path_character};
+ghost use Rattle.hlasm_server.specs.Messages.{message_of, message_in, message_named, opened_document, document_of, uri_of, text_of, id_of, has_text, text_member, whole_member, is_notification, is_file_uri, is_path_character};
 
 use hl_base::{OutOfMemory, Text};
 use serde_json::Value;
@@ -110,14 +110,7 @@ fn uri(members: &Value) -> Option<&str>
 fn text(members: &Value) -> Option<&str>
     ensures { option_map (λ s. s.now) result ≡ text_of (view members.now) }
 {
-    text_member(members, "text").filter(|text| text.len() <= LONGEST_TEXT && is_built(text))
-}
-
-/// So far the empty text is the only one that is opened.
-fn is_built(text: &str) -> bool
-    ensures { result ≡ is_built text.now }
-{
-    text.is_empty()
+    text_member(members, "text").filter(|text| text.len() <= LONGEST_TEXT)
 }
 
 /// Whether a URI is `file:///` and a path that needs no escapes.
