@@ -19,7 +19,8 @@ const MARGIN: usize = 15;
 /// The lines of a statement so far.
 #[derive(Drop)]
 pub struct Group {
-    first: u32,
+    /// The number of the first of them.
+    pub first: u32,
     /// The number of the line behind them.
     pub next: u32,
     /// The shape by the first line alone.
