@@ -38,7 +38,7 @@ pub fn initialize_reply(alloc: Global, id: i32) -> Result<Vec<u8>, OutOfMemory>
     ensures { IfOk result (λ bytes. bytes.items ≡ initialize_reply_of id) }
 {
     let initialized = initialized_json(alloc)?;
-    body(alloc, &reply_json(alloc, id, &initialized)?)
+    body(alloc, &reply_json(alloc, id, initialized)?)
 }
 
 /// The reply to `shutdown`.
@@ -46,7 +46,7 @@ pub fn initialize_reply(alloc: Global, id: i32) -> Result<Vec<u8>, OutOfMemory>
 pub fn shutdown_reply(alloc: Global, id: i32) -> Result<Vec<u8>, OutOfMemory>
     ensures { IfOk result (λ bytes. bytes.items ≡ shutdown_reply_of id) }
 {
-    body(alloc, &reply_json(alloc, id, &Value::Null)?)
+    body(alloc, &reply_json(alloc, id, Value::Null)?)
 }
 
 /// The notification that shows a document's reports, at the version of the document that they were found in.
@@ -62,7 +62,7 @@ pub fn published_list(
 {
     let params = params_json(alloc, uri, version, diagnostics)?;
     let method = "textDocument/publishDiagnostics";
-    body(alloc, &notification_json(alloc, method, &params)?)
+    body(alloc, &notification_json(alloc, method, params)?)
 }
 
 /// The text of a value that has no float.
@@ -73,14 +73,14 @@ fn body(alloc: Global, value: &Value) -> Result<Vec<u8>, OutOfMemory>
     Ok(value.to_string(alloc)?.into_bytes())
 }
 
-fn reply_json(alloc: Global, id: i32, result_json: &Value) -> Result<Value, OutOfMemory>
-    ensures { IfOk result (λ v. view v ≡ reply_of id (view result_json.now)) }
+fn reply_json(alloc: Global, id: i32, outcome: Value) -> Result<Value, OutOfMemory>
+    ensures { IfOk result (λ v. view v ≡ reply_of id (view outcome)) }
 {
-    Ok(json!(in alloc; {"jsonrpc": "2.0", "id": id, "result": result_json})?)
+    Ok(json!(in alloc; {"jsonrpc": "2.0", "id": id, "result": outcome})?)
 }
 
-fn notification_json(alloc: Global, method: &str, params: &Value) -> Result<Value, OutOfMemory>
-    ensures { IfOk result (λ v. view v ≡ notification_of method.now (view params.now)) }
+fn notification_json(alloc: Global, method: &str, params: Value) -> Result<Value, OutOfMemory>
+    ensures { IfOk result (λ v. view v ≡ notification_of method.now (view params)) }
 {
     Ok(json!(in alloc; {"jsonrpc": "2.0", "method": method, "params": params})?)
 }
@@ -90,7 +90,7 @@ fn initialized_json(alloc: Global) -> Result<Value, OutOfMemory>
 {
     let capabilities = capabilities_json(alloc)?;
     let server = server_json(alloc)?;
-    Ok(json!(in alloc; {"capabilities": &capabilities, "serverInfo": &server})?)
+    Ok(json!(in alloc; {"capabilities": capabilities, "serverInfo": server})?)
 }
 
 fn capabilities_json(alloc: Global) -> Result<Value, OutOfMemory>
@@ -128,7 +128,7 @@ fn params_json(
     ensures { IfOk result (λ v. view v ≡ published_params uri.now version diagnostics.now) }
 {
     let list = list_json(alloc, diagnostics)?;
-    Ok(json!(in alloc; {"uri": uri.as_str(), "version": version, "diagnostics": &list})?)
+    Ok(json!(in alloc; {"uri": uri.as_str(), "version": version, "diagnostics": list})?)
 }
 
 fn list_json(alloc: Global, diagnostics: &[Diagnostic]) -> Result<Value, OutOfMemory>
@@ -159,7 +159,7 @@ fn span_json(alloc: Global, span: Span) -> Result<Value, OutOfMemory>
 {
     let start = position_json(alloc, span.start)?;
     let end = position_json(alloc, span.end)?;
-    Ok(json!(in alloc; {"start": &start, "end": &end})?)
+    Ok(json!(in alloc; {"start": start, "end": end})?)
 }
 
 fn position_json(alloc: Global, position: Position) -> Result<Value, OutOfMemory>
