@@ -23,3 +23,6 @@ mod words;
 
 pub use serving::run;
 pub use status::Status;
+
+#[cfg(test)]
+mod tests;

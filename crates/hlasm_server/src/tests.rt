@@ -1,0 +1,386 @@
+//! Whole runs: a session with an empty text, whose bytes were worked out by hand from LSP 3.17.
+ghost use Rattle.std.specs.Prelude.{◌≡◌, ◌<◌, None, All, IfOk};
+
+use crate::{Status, run};
+use hl_base::{Ledger, Steps};
+use io_edge::{Failed, MemoryLibrary, MemorySink, MemorySource, Sink, Source};
+use std::alloc::{AllocError, Global};
+use std::cell::Cell;
+use std::marker::Brand;
+use std::rc::Rc;
+use std::sync::ledger::Blank;
+use std::test::Fail;
+
+/// What comes in: 370 bytes, whose frames begin at 0, 80, 249 and 315.
+const INPUT: [&str; 8] = [
+    "Content-Length: 58\r\n\r\n",
+    r#"{"id":1,"jsonrpc":"2.0","method":"initialize","params":{}}"#,
+    "Content-Length: 146\r\n\r\n",
+    r#"{"jsonrpc":"2.0","method":"textDocument/didOpen","params":{"textDocument":{"languageId":"hlasm","text":"","uri":"file:///w/a.hlasm","version":1}}}"#,
+    "Content-Length: 44\r\n\r\n",
+    r#"{"id":2,"jsonrpc":"2.0","method":"shutdown"}"#,
+    "Content-Length: 33\r\n\r\n",
+    r#"{"jsonrpc":"2.0","method":"exit"}"#,
+];
+
+/// What goes out: 670 bytes, whose frames begin at 0, 302 and 610.
+const OUTPUT: [&str; 6] = [
+    "Content-Length: 279\r\n\r\n",
+    r#"{"id":1,"jsonrpc":"2.0","result":{"capabilities":{"definitionProvider":true,"documentSymbolProvider":true,"hoverProvider":true,"positionEncoding":"utf-16","referencesProvider":true,"textDocumentSync":{"change":2,"openClose":true}},"serverInfo":{"name":"hlasm_ls","version":"1"}}}"#,
+    "Content-Length: 285\r\n\r\n",
+    r#"{"jsonrpc":"2.0","method":"textDocument/publishDiagnostics","params":{"diagnostics":[{"code":"H003","message":"END statement is missing","range":{"end":{"character":0,"line":0},"start":{"character":0,"line":0}},"severity":2,"source":"hlasm_ls"}],"uri":"file:///w/a.hlasm","version":1}}"#,
+    "Content-Length: 38\r\n\r\n",
+    r#"{"id":2,"jsonrpc":"2.0","result":null}"#,
+];
+
+/// The first so many of the frames, each given as a header and a body.
+fn frames(alloc: Global, pieces: &[&str], count: usize) -> Result<Vec<u8>, AllocError> {
+    let mut bytes = Vec::new(alloc);
+    for piece in pieces.iter().take(count.saturating_mul(2)) {
+        bytes.extend_from_slice(piece.as_bytes())?;
+    }
+    Ok(bytes)
+}
+
+/// The first so many of the bytes of the frames.
+fn first_bytes(alloc: Global, pieces: &[&str], count: usize) -> Result<Vec<u8>, AllocError> {
+    let mut bytes = frames(alloc, pieces, pieces.len())?;
+    bytes.truncate(count);
+    Ok(bytes)
+}
+
+/// Runs in a ledger that nothing else uses.
+fn run_counted<S: Source, K: Sink, L: Ledger>(
+    alloc: Global,
+    words: &[String],
+    source: &mut S,
+    sink: &mut K,
+    blank: Blank,
+) -> Status
+    requires name { blank.name ≡ L.name }
+    requires parts { blank.parts ≡ L.parts }
+    requires one { blank.parts ≡ 1 }
+{
+    let mut library = MemoryLibrary::new(alloc, Vec::new(alloc), Vec::new(alloc), Vec::new(alloc));
+    let mut steps = Steps::<L>::open(blank);
+    run(alloc, words, source, sink, &mut library, &mut steps)
+}
+
+/// Runs with no files.
+fn run_words<S: Source, K: Sink>(
+    alloc: Global,
+    words: &[String],
+    source: &mut S,
+    sink: &mut K,
+) -> Status {
+    run_counted::<S, K, Brand>(alloc, words, source, sink, Blank::new(1))
+}
+
+/// Runs `serve`.
+fn serve<S: Source, K: Sink>(
+    alloc: Global,
+    source: &mut S,
+    sink: &mut K,
+) -> Result<Status, AllocError> {
+    let words = vec![in alloc; String::from_str(alloc, "serve")?]?;
+    Ok(run_words(alloc, &words, source, sink))
+}
+
+/// The sizes, with 1 for 0.
+fn positive(alloc: Global, sizes: &[usize]) -> Result<Vec<usize>, AllocError>
+    ensures { IfOk result (λ sizes. All (λ size. 0 < size) sizes.items) }
+{
+    let mut result = Vec::new(alloc);
+    for size in sizes {
+        result.push((*size).max(1))?;
+    }
+    Ok(result)
+}
+
+/// A source of these bytes, in pieces of these sizes, of which the listed takes fail.
+fn source_of(
+    alloc: Global,
+    bytes: Vec<u8>,
+    sizes: &[usize],
+    failing: &[u64],
+) -> Result<MemorySource, AllocError> {
+    let sizes = positive(alloc, sizes)?;
+    let failing = Vec::from_slice(alloc, failing)?;
+    Ok(MemorySource::new(bytes, sizes, Vec::new(alloc), failing))
+}
+
+/// A sink with this room, that takes at most so many bytes a call, of which the listed puts fail.
+fn sink_of(alloc: Global, room: usize, most: usize, failing: &[u64]) -> Result<MemorySink, Fail> {
+    let failing = Vec::from_slice(alloc, failing)?;
+    Ok(MemorySink::new(alloc, room, most.max(1), failing)?)
+}
+
+#[test]
+fn each_cutting_gives_the_same(rt: HostRuntime) -> Result<(), Fail> {
+    let alloc = rt.alloc();
+    let cuttings: [(&[usize], usize); 8] = [
+        (&[], 8_192),
+        (&[], 1),
+        (&[1], 8_192),
+        (&[1], 1),
+        (&[7], 5),
+        (&[1, 30, 2, 9], 100),
+        (&[23, 1, 1, 57], 3),
+        (&[400, 1, 13], 301),
+    ];
+    let wanted = frames(alloc, &OUTPUT, 3)?;
+    assert_eq!(rt; wanted.len(), 670);
+    for (sizes, most) in cuttings {
+        let mut input = frames(alloc, &INPUT, 4)?;
+        assert_eq!(rt; input.len(), 370);
+        input.push(b'C')?;
+        let mut source = source_of(alloc, input, sizes, &[])?;
+        let mut sink = sink_of(alloc, 1_000, most, &[])?;
+        assert_eq!(rt;
+            serve(alloc, &mut source, &mut sink)?,
+            Status::Done,
+            "{sizes:?}"
+        );
+        assert!(rt; sink.contents() == wanted.as_slice(), "{sizes:?}");
+        assert!(rt; source.rest() == b"C".as_slice(), "{sizes:?}");
+    }
+    Ok(())
+}
+
+/// A header is taken byte by byte and a body in one take: 23, 24, 23 and 23 takes. What is written where one fails.
+#[test]
+fn a_take_that_fails_ends_the_output_at_a_frame(rt: HostRuntime) -> Result<(), Fail> {
+    let alloc = rt.alloc();
+    for (first, last, written) in [(1, 23, 0), (24, 47, 1), (48, 70, 2), (71, 93, 3)] {
+        let wanted = frames(alloc, &OUTPUT, written)?;
+        for number in first..=last {
+            let mut source = source_of(alloc, frames(alloc, &INPUT, 4)?, &[], &[number])?;
+            let mut sink = sink_of(alloc, 1_000, 1_000, &[])?;
+            let status = serve(alloc, &mut source, &mut sink)?;
+            assert_eq!(rt; status, Status::ReadFault, "take {number}");
+            assert!(rt; sink.contents() == wanted.as_slice(), "take {number}");
+        }
+    }
+    let mut source = source_of(alloc, frames(alloc, &INPUT, 4)?, &[], &[94])?;
+    let mut sink = sink_of(alloc, 1_000, 1_000, &[])?;
+    assert_eq!(rt; serve(alloc, &mut source, &mut sink)?, Status::Done);
+    Ok(())
+}
+
+/// Sinks by their room, by what they take a call and by the puts that fail, with how many bytes they hold at the end.
+#[test]
+fn a_sink_that_refuses_holds_the_first_bytes(rt: HostRuntime) -> Result<(), Fail> {
+    let alloc = rt.alloc();
+    let cases: [(usize, usize, &[u64], usize, Status); 11] = [
+        (0, 1_000, &[], 0, Status::WriteFault),
+        (10, 1_000, &[], 10, Status::WriteFault),
+        (10, 1, &[], 10, Status::WriteFault),
+        (302, 1_000, &[], 302, Status::WriteFault),
+        (303, 1_000, &[], 303, Status::WriteFault),
+        (669, 7, &[], 669, Status::WriteFault),
+        (670, 7, &[], 670, Status::Done),
+        (1_000, 1_000, &[1], 0, Status::WriteFault),
+        (1_000, 1_000, &[3], 610, Status::WriteFault),
+        (1_000, 1, &[400], 399, Status::WriteFault),
+        (1_000, 1_000, &[4], 670, Status::Done),
+    ];
+    for (room, most, failing, held, wanted) in cases {
+        let mut source = source_of(alloc, frames(alloc, &INPUT, 4)?, &[], &[])?;
+        let mut sink = sink_of(alloc, room, most, failing)?;
+        let status = serve(alloc, &mut source, &mut sink)?;
+        assert_eq!(rt; status, wanted, "room {room}, most {most}, {failing:?}");
+        let output = first_bytes(alloc, &OUTPUT, held)?;
+        assert_eq!(rt; output.len(), held);
+        assert!(rt;
+            sink.contents() == output.as_slice(),
+            "room {room}, most {most}"
+        );
+    }
+    Ok(())
+}
+
+/// How many of the bytes of the session come in before the input ends, and how many frames are written for them.
+#[test]
+fn an_input_that_ends_is_answered_so_far(rt: HostRuntime) -> Result<(), Fail> {
+    let alloc = rt.alloc();
+    for (bytes, written, wanted) in [
+        (0, 0, Status::InputEnded),
+        (1, 0, Status::InputEnded),
+        (22, 0, Status::InputEnded),
+        (79, 0, Status::InputEnded),
+        (80, 1, Status::InputEnded),
+        (102, 1, Status::InputEnded),
+        (248, 1, Status::InputEnded),
+        (249, 2, Status::InputEnded),
+        (314, 2, Status::InputEnded),
+        (315, 3, Status::InputEnded),
+        (369, 3, Status::InputEnded),
+        (370, 3, Status::Done),
+    ] {
+        let mut source = source_of(alloc, first_bytes(alloc, &INPUT, bytes)?, &[5, 40], &[])?;
+        let mut sink = sink_of(alloc, 1_000, 1_000, &[])?;
+        let status = serve(alloc, &mut source, &mut sink)?;
+        assert_eq!(rt; status, wanted, "{bytes} bytes");
+        let output = frames(alloc, &OUTPUT, written)?;
+        assert!(rt; sink.contents() == output.as_slice(), "{bytes} bytes");
+    }
+    Ok(())
+}
+
+/// What comes behind the first so many frames of the session and is not read. Each of those was answered by one frame.
+#[test]
+fn what_is_not_built_ends_the_run(rt: HostRuntime) -> Result<(), Fail> {
+    let alloc = rt.alloc();
+    for (heard, behind) in [
+        (0, "Content-Type: x\r\n\r\n"),
+        (0, "{"),
+        (0, "Content-Length: 16777217\r\n\r\n"),
+        (0, "Content-Length: 1\r\n\r\n["),
+        (
+            0,
+            "Content-Length: 44\r\n\r\n{\"id\":9,\"jsonrpc\":\"2.0\",\"method\":\"shutdown\"}",
+        ),
+        (1, "Content-Length: 33\n"),
+        (
+            1,
+            "Content-Length: 33\r\n\r\n{\"jsonrpc\":\"2.0\",\"method\":\"exit\"}",
+        ),
+        (
+            1,
+            "Content-Length: 146\r\n\r\n{\"jsonrpc\":\"2.0\",\"method\":\"textDocument/didOpen\",\"params\":{\"textDocument\":{\"languageId\":\"cobol\",\"text\":\"\",\"uri\":\"file:///w/a.hlasm\",\"version\":1}}}",
+        ),
+        (2, "Content-Length: 0\r\n\r\n"),
+        (
+            3,
+            "Content-Length: 44\r\n\r\n{\"id\":3,\"jsonrpc\":\"2.0\",\"method\":\"shutdown\"}",
+        ),
+    ] {
+        let mut input = frames(alloc, &INPUT, heard as usize)?;
+        input.extend_from_slice(behind.as_bytes())?;
+        let mut source = source_of(alloc, input, &[], &[])?;
+        let mut sink = sink_of(alloc, 1_000, 1_000, &[])?;
+        let status = serve(alloc, &mut source, &mut sink)?;
+        let wanted = Status::NotBuilt { frames: heard };
+        assert_eq!(rt; status, wanted, "{behind}");
+        let output = frames(alloc, &OUTPUT, heard as usize)?;
+        assert!(rt; sink.contents() == output.as_slice(), "{behind}");
+    }
+    Ok(())
+}
+
+#[test]
+fn other_words_run_nothing(rt: HostRuntime) -> Result<(), Fail> {
+    let alloc = rt.alloc();
+    let cases: [&[&str]; 6] = [
+        &[],
+        &[""],
+        &["SERVE"],
+        &["serve", "serve"],
+        &["--budget", "serve"],
+        &["serve", "--budget", "5"],
+    ];
+    for case in cases {
+        let mut words = Vec::new(alloc);
+        for word in case {
+            words.push(String::from_str(alloc, *word)?)?;
+        }
+        let mut source = source_of(alloc, frames(alloc, &INPUT, 4)?, &[], &[])?;
+        let mut sink = sink_of(alloc, 1_000, 1_000, &[])?;
+        let status = run_words(alloc, &words, &mut source, &mut sink);
+        assert_eq!(rt; status, Status::BadWords, "{case:?}");
+        assert_eq!(rt; source.rest().len(), 370, "{case:?}");
+        assert!(rt; sink.contents().is_empty(), "{case:?}");
+    }
+    Ok(())
+}
+
+/// A client that sends a frame after the first only when it holds all that is written for the frames before it, and
+/// else has nothing more to send.
+#[derive(Drop)]
+struct PatientClient {
+    bytes: Vec<u8>,
+    taken: usize,
+    held: Rc<Cell<u64>>,
+}
+
+/// Where each frame of the input begins, and how many bytes are written for the frames before it.
+const TURNS: [(usize, u64); 4] = [(0, 0), (80, 302), (249, 610), (315, 670)];
+
+impl PatientClient {
+    /// How many bytes of its input it has sent when it has nothing more to send.
+    fn sendable(&self) -> usize {
+        for (start, written) in TURNS {
+            if self.held.get() < written {
+                return start;
+            }
+        }
+        self.bytes.len()
+    }
+}
+
+impl Source for PatientClient {
+    ghost left = { λ _. None };
+
+    ghost waits = { λ _. None };
+
+    ghost faults = { λ _. 0 };
+
+    fn take(&mut self, buf: &mut [u8]) -> Result<usize, Failed> {
+        let count = self.sendable().saturating_sub(self.taken).min(buf.len());
+        let ahead = self.bytes.iter().skip(self.taken);
+        for (place, byte) in buf.iter_mut().zip(ahead).take(count) {
+            *place = *byte;
+        }
+        self.taken = self.taken.saturating_add(count);
+        Ok(count)
+    }
+
+    fn waiting(&mut self) -> bool {
+        false
+    }
+}
+
+/// A sink that counts its bytes where the client sees them.
+#[derive(Drop)]
+struct CountingSink {
+    held: Rc<Cell<u64>>,
+}
+
+impl Sink for CountingSink {
+    ghost held = { λ _. None };
+
+    ghost faults = { λ _. 0 };
+
+    fn put(&mut self, piece: &[u8]) -> Result<usize, Failed> {
+        let count = piece.len();
+        self.held.set(self.held.get().saturating_add(count as u64));
+        Ok(count)
+    }
+}
+
+#[test]
+fn each_answer_is_out_before_the_next_frame_is_asked_for(rt: HostRuntime) -> Result<(), Fail> {
+    let alloc = rt.alloc();
+    let held = Rc::new(alloc, Cell::new(0))?;
+    let mut client = PatientClient {
+        bytes: frames(alloc, &INPUT, 4)?,
+        taken: 0,
+        held: held.clone()?,
+    };
+    let mut sink = CountingSink {
+        held: held.clone()?,
+    };
+    assert_eq!(rt; serve(alloc, &mut client, &mut sink)?, Status::Done);
+    assert_eq!(rt; held.get(), 670);
+    assert_eq!(rt; client.taken, 370);
+
+    // A client that sees nothing of the output sends no second frame.
+    let mut blind = PatientClient {
+        bytes: frames(alloc, &INPUT, 4)?,
+        taken: 0,
+        held: Rc::new(alloc, Cell::new(0))?,
+    };
+    assert_eq!(rt; serve(alloc, &mut blind, &mut sink)?, Status::InputEnded);
+    assert_eq!(rt; blind.taken, 80);
+    Ok(())
+}
