@@ -25,8 +25,8 @@ pub enum ParseFault {
 
 /// The value that bytes are.
 pub fn parse(alloc: Global, bytes: &[u8]) -> Result<Value, ParseFault>
-    ensures value { IfOk result (λ v. reading bytes.now ≡ Some (view v)) }
-    ensures not_json { result ≡ Err ParseFault.NotJson → reading bytes.now ≡ None }
+    ensures ok { IfOk result (λ v. reading bytes.now ≡ Some (view v)) }
+    ensures refused { result ≡ Err ParseFault.NotJson → reading bytes.now ≡ None }
     ensures levels { IfOk result (λ v. depth (view v) ≤ max_depth) }
 {
     match Value::from_slice(alloc, bytes) {
