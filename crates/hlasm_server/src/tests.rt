@@ -294,6 +294,70 @@ fn other_words_run_nothing(rt: HostRuntime) -> Result<(), Fail> {
     Ok(())
 }
 
+/// Texts: the frame that opens one, and the frame that is published for it, worked out by hand. They are one unmarked
+/// line; an END; a marked line with five characters of two UTF-16 units before column 72; and a line of 74 characters,
+/// 72 of them of two units, continued by a line with text in column 1, with three kinds of line ends.
+const OPENED: [[&str; 4]; 4] = [
+    [
+        "Content-Length: 153\r\n\r\n",
+        r#"{"jsonrpc":"2.0","method":"textDocument/didOpen","params":{"textDocument":{"languageId":"hlasm","text":" LR 1,2","uri":"file:///w/a.hlasm","version":1}}}"#,
+        "Content-Length: 285\r\n\r\n",
+        r#"{"jsonrpc":"2.0","method":"textDocument/publishDiagnostics","params":{"diagnostics":[{"code":"H003","message":"END statement is missing","range":{"end":{"character":0,"line":0},"start":{"character":0,"line":0}},"severity":2,"source":"hlasm_ls"}],"uri":"file:///w/a.hlasm","version":1}}"#,
+    ],
+    [
+        "Content-Length: 150\r\n\r\n",
+        r#"{"jsonrpc":"2.0","method":"textDocument/didOpen","params":{"textDocument":{"languageId":"hlasm","text":" END","uri":"file:///w/a.hlasm","version":1}}}"#,
+        "Content-Length: 126\r\n\r\n",
+        r#"{"jsonrpc":"2.0","method":"textDocument/publishDiagnostics","params":{"diagnostics":[],"uri":"file:///w/a.hlasm","version":1}}"#,
+    ],
+    [
+        "Content-Length: 233\r\n\r\n",
+        r#"{"jsonrpc":"2.0","method":"textDocument/didOpen","params":{"textDocument":{"languageId":"hlasm","text":"*😀😀😀😀😀aaaaaaaaaaaaaaaaaaaaaaaaaaaaaaaaaaaaaaaaaaaaaaaaaaaaaaaaaaaaaaaaaX","uri":"file:///w/a.hlasm","version":1}}}"#,
+        "Content-Length: 473\r\n\r\n",
+        r#"{"jsonrpc":"2.0","method":"textDocument/publishDiagnostics","params":{"diagnostics":[{"code":"H005","message":"the text ends where a continuation line is expected","range":{"end":{"character":76,"line":0},"start":{"character":0,"line":0}},"severity":2,"source":"hlasm_ls"},{"code":"H003","message":"END statement is missing","range":{"end":{"character":0,"line":0},"start":{"character":0,"line":0}},"severity":2,"source":"hlasm_ls"}],"uri":"file:///w/a.hlasm","version":1}}"#,
+    ],
+    [
+        "Content-Length: 523\r\n\r\n",
+        r#"{"jsonrpc":"2.0","method":"textDocument/didOpen","params":{"textDocument":{"languageId":"hlasm","text":"😀😀😀😀😀😀😀😀😀😀😀😀😀😀😀😀😀😀😀😀😀😀😀😀😀😀😀😀😀😀😀😀😀😀😀😀😀😀😀😀😀😀😀😀😀😀😀😀😀😀😀😀😀😀😀😀😀😀😀😀😀😀😀😀😀😀😀😀😀😀😀😀zz\r\nB\r end\t\n MVC                                                                   X","uri":"file:///w/a.hlasm","version":1}}}"#,
+        "Content-Length: 503\r\n\r\n",
+        r#"{"jsonrpc":"2.0","method":"textDocument/publishDiagnostics","params":{"diagnostics":[{"code":"H001","message":"columns 1 to 15 of a continuation line are not blank","range":{"end":{"character":142,"line":0},"start":{"character":0,"line":0}},"severity":1,"source":"hlasm_ls"},{"code":"H005","message":"the text ends where a continuation line is expected","range":{"end":{"character":71,"line":3},"start":{"character":0,"line":3}},"severity":2,"source":"hlasm_ls"}],"uri":"file:///w/a.hlasm","version":1}}"#,
+    ],
+];
+
+/// A session with another frame for its second.
+fn with_second(
+    alloc: Global,
+    pieces: &[&str],
+    header: &str,
+    body: &str,
+) -> Result<Vec<u8>, AllocError> {
+    let mut bytes = Vec::new(alloc);
+    for (index, piece) in pieces.iter().enumerate() {
+        let shown = match index {
+            2 => header,
+            3 => body,
+            _ => *piece,
+        };
+        bytes.extend_from_slice(shown.as_bytes())?;
+    }
+    Ok(bytes)
+}
+
+#[test]
+fn column_faults_are_published(rt: HostRuntime) -> Result<(), Fail> {
+    let alloc = rt.alloc();
+    for [header, body, published_header, published] in OPENED {
+        let input = with_second(alloc, &INPUT, header, body)?;
+        let mut source = source_of(alloc, input, &[], &[])?;
+        let mut sink = sink_of(alloc, 2_000, 2_000, &[])?;
+        let status = serve(alloc, &mut source, &mut sink)?;
+        assert_eq!(rt; status, Status::Done, "{body}");
+        let output = with_second(alloc, &OUTPUT, published_header, published)?;
+        assert!(rt; sink.contents() == output.as_slice(), "{body}");
+    }
+    Ok(())
+}
+
 /// A client that sends a frame after the first only when it holds all that is written for the frames before it, and
 /// else has nothing more to send.
 #[derive(Drop)]
