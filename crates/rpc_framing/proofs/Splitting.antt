@@ -1,7 +1,7 @@
 -- A stream is read in one way: as frames and less than a whole one, or as frames and a first fault.
 use Rattle.std.proofs.Common.{◌≡◌, ℕ, ◌+◌, ◌-◌, ◌<◌, List, [], ◌∷◌, ◌++◌, length, take, drop, refl, sym, ◌∙◌, ap, subst, arith, append_assoc, length-append}
-use Rattle.std.proofs.lemmas.List.{append-nil, take-append-drop, take-append-le, take-take}
-use Rattle.rpc_framing.specs.Frames.{IsFrame, IsFrames, BeginsFrames, IsPartial, Splits, IsBadStart, Breaks}
+use Rattle.std.proofs.lemmas.List.{take-append-drop, take-append-le, take-take}
+use Rattle.rpc_framing.specs.Frames.{IsFrames, BeginsFrames, IsPartial, Splits, IsBadStart, Breaks}
 use Rattle.rpc_framing.proofs.FrameLaws.{IsFrame-unique, length-IsFrame, IsPartial-take, HasNoFrame, HasNoFrame-IsPartial, HasNoFrame-IsBadStart, IsBadStart-unique, BeginsFrames-front, BeginsFrames-IsPartial, take-past}
 
 -- Frames one behind the other, up to what begins with none, are read in one way.
