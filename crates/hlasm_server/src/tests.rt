@@ -294,6 +294,23 @@ fn other_words_run_nothing(rt: HostRuntime) -> Result<(), Fail> {
     Ok(())
 }
 
+#[test]
+fn a_status_has_its_name(rt: HostRuntime) -> Result<(), Fail> {
+    for (status, name) in [
+        (Status::Done, "Done"),
+        (Status::InputEnded, "InputEnded"),
+        (Status::OutOfMemory, "OutOfMemory"),
+        (Status::ReadFault, "ReadFault"),
+        (Status::WriteFault, "WriteFault"),
+        (Status::BadWords, "BadWords"),
+        (Status::NotBuilt { frames: 2 }, "NotBuilt after 2 frames"),
+    ] {
+        let printed = format!(in rt.alloc(); "{status}")?;
+        assert!(rt; printed.as_str() == name, "{name}");
+    }
+    Ok(())
+}
+
 /// A client that sends a frame after the first only when it holds all that is written for the frames before it, and
 /// else has nothing more to send.
 #[derive(Drop)]
