@@ -10,7 +10,7 @@ show = awk '{ gsub(/\r/, ""); gsub(/Content-Length/, "\n&"); print }' | sed -e '
 
 run:
 	cd $(program) && rt run -- serve < stdin > /dev/null
-	@echo; echo 'The editor sends:'; $(show) < $(program)/stdin
+	@echo; echo 'The editor sends:'; cat $(program)/stdin | $(show)
 	@echo; echo 'hlasm_ls serve answers:'; $(program)/out/hlasm_ls serve < $(program)/stdin | $(show)
 
 test:

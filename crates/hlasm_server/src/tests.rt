@@ -358,6 +358,23 @@ fn column_faults_are_published(rt: HostRuntime) -> Result<(), Fail> {
     Ok(())
 }
 
+#[test]
+fn a_status_has_its_name(rt: HostRuntime) -> Result<(), Fail> {
+    for (status, name) in [
+        (Status::Done, "Done"),
+        (Status::InputEnded, "InputEnded"),
+        (Status::OutOfMemory, "OutOfMemory"),
+        (Status::ReadFault, "ReadFault"),
+        (Status::WriteFault, "WriteFault"),
+        (Status::BadWords, "BadWords"),
+        (Status::NotBuilt { frames: 2 }, "NotBuilt after 2 frames"),
+    ] {
+        let printed = format!(in rt.alloc(); "{status}")?;
+        assert!(rt; printed.as_str() == name, "{name}");
+    }
+    Ok(())
+}
+
 /// A client that sends a frame after the first only when it holds all that is written for the frames before it, and
 /// else has nothing more to send.
 #[derive(Drop)]
