@@ -14,7 +14,7 @@ mod laws;
 mod pool;
 
 pub use fault::PoolFault;
-pub use laws::interned_texts_stand;
+pub use laws::{freed_numbers_are_free, interned_texts_stand};
 pub use pool::{LONGEST_TEXT, TextPool, live_texts_differ};
 
 #[cfg(test)]
