@@ -1,5 +1,4 @@
-use Rattle.std.proofs.Common.{◌≡◌, ◌+◌, ◌<◌, arith}
-use Rattle.text_pool.specs.Pool.{owners_of}
+use Rattle.std.proofs.Common.{arith}
 use Rattle.text_pool.proofs.CallerLemmas.{IsInterned-live, IsInterned-owners, IsLive-recounted, owners_of-recounted, owners_of-empty}
 use Rattle.text_pool.proofs.tests.a_number_is_free_with_its_last_owner.Goals as goal
 
