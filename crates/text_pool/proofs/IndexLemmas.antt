@@ -1,5 +1,5 @@
 -- The numbers by text stay those of the entries, and tell equal texts.
-use Rattle.std.proofs.Common.{◌≡◌, ◌≢◌, ◌⊎◌, ◌<◌, ℕ, Bool, true, false, cond, List, [], ◌∷◌, Option, Some, None, refl, sym, ap, subst, ◌∙◌, inl, inr}
+use Rattle.std.proofs.Common.{◌≤◌, length, ◌≡◌, ◌≢◌, ◌⊎◌, ◌<◌, ℕ, Bool, true, false, cond, List, [], ◌∷◌, Option, Some, None, refl, sym, ap, subst, ◌∙◌, inl, inr}
 use Rattle.std.specs.Ordering.{nat_cmp, is_eq}
 use Rattle.std.specs.Str.{chars, IsUtf8}
 use Rattle.std.specs.Rc.{rc_str_bytes}
@@ -17,6 +17,7 @@ use Rattle.std.proofs.lemmas.Map.Text.{is_eq-slice_cmp}
 use Rattle.slab.specs.Slab.{Slab, get, Updates}
 use Rattle.text_pool.specs.Entries.{number_of, IsIndexed}
 use Rattle.text_pool.specs.declared.entry.Entry.{Entry}
+use Rattle.text_pool.specs.declared.pool.TheConstants.{LONGEST_TEXT}
 
 -- two texts in UTF-8 of the same characters are the same bytes
 pub same_bytes : (a b : List ℕ) → IsUtf8 a → IsUtf8 b → chars a ≡ chars b → a ≡ b
@@ -111,6 +112,12 @@ IsIndexed-recounted old new numbers id entry written indexed was updates same ow
         subst (λ (t : RcStr Global). IsUtf8 (rc_str_bytes t)) (sym same ∙ ap (λ e. e.text) is) (indexed.utf8 id entry was)
     | inr there ↦ indexed.utf8 other now there.1
   ];
+  short = λ other now found. elim (after_update old new id _ updates other now found) [
+    | inl here ↦
+        let is : written ≡ now = same_Some _ _ here.1 in
+        subst (λ (t : RcStr Global). length (rc_str_bytes t) ≤ LONGEST_TEXT) (sym same ∙ ap (λ e. e.text) is) (indexed.short id entry was)
+    | inr there ↦ indexed.short other now there.1
+  ];
   owned = λ other now found. elim (after_update old new id _ updates other now found) [
     | inl here ↦ subst (λ (e : Entry). 0 < e.owners) (same_Some _ _ here.1) owned
     | inr there ↦ indexed.owned other now there.1
@@ -140,8 +147,8 @@ either false = inr refl
 pub IsIndexed-admitted : (old new : Slab Entry) (numbers later : BTreeMap (RcStr Global) ℕ) (id : ℕ) (entry : Entry) (bytes : List ℕ) →
     IsIndexed old numbers → Updates old new id (Some entry) → get old id ≡ None → rc_str_bytes entry.text ≡ bytes →
     number_at numbers bytes ≡ None → ChangesAt numbers later bytes (Some id) → IsUtf8 (rc_str_bytes entry.text) →
-    0 < entry.owners → IsIndexed new later
-IsIndexed-admitted old new numbers later id entry bytes indexed updates free is absent changes utf8 owned = record {
+    length (rc_str_bytes entry.text) ≤ LONGEST_TEXT → 0 < entry.owners → IsIndexed new later
+IsIndexed-admitted old new numbers later id entry bytes indexed updates free is absent changes utf8 short owned = record {
   listed = λ other now found. elim (after_update old new id _ updates other now found) [
     | inl here ↦
         let same : bytes ≡ rc_str_bytes now.text = sym is ∙ ap (λ e. rc_str_bytes e.text) (same_Some _ _ here.1) in
@@ -163,6 +170,10 @@ IsIndexed-admitted old new numbers later id entry bytes indexed updates free is 
   utf8 = λ other now found. elim (after_update old new id _ updates other now found) [
     | inl here ↦ subst (λ (e : Entry). IsUtf8 (rc_str_bytes e.text)) (same_Some _ _ here.1) utf8
     | inr there ↦ indexed.utf8 other now there.1
+  ];
+  short = λ other now found. elim (after_update old new id _ updates other now found) [
+    | inl here ↦ subst (λ (e : Entry). length (rc_str_bytes e.text) ≤ LONGEST_TEXT) (same_Some _ _ here.1) short
+    | inr there ↦ indexed.short other now there.1
   ];
   owned = λ other now found. elim (after_update old new id _ updates other now found) [
     | inl here ↦ subst (λ (e : Entry). 0 < e.owners) (same_Some _ _ here.1) owned
@@ -195,6 +206,10 @@ IsIndexed-removed old new numbers later id entry indexed was updates changes = r
     | inl here ↦ absurd (none_is_some None now refl here.1)
     | inr there ↦ indexed.utf8 other now there.1
   ];
+  short = λ other now found. elim (after_update old new id _ updates other now found) [
+    | inl here ↦ absurd (none_is_some None now refl here.1)
+    | inr there ↦ indexed.short other now there.1
+  ];
   owned = λ other now found. elim (after_update old new id _ updates other now found) [
     | inl here ↦ absurd (none_is_some None now refl here.1)
     | inr there ↦ indexed.owned other now there.1
@@ -214,5 +229,6 @@ IsIndexed-kept old new numbers later slots listed indexed =
           let entry = indexed.found text id (sym (at text) ∙ found) in
           (entry.0, sym (there id) ∙ entry.1, entry.2);
       utf8 = λ id entry found. indexed.utf8 id entry (there id ∙ found);
+      short = λ id entry found. indexed.short id entry (there id ∙ found);
       owned = λ id entry found. indexed.owned id entry (there id ∙ found);
     }

@@ -1,5 +1,5 @@
 //! The pool: a text is found by its number, and its number by the text.
-ghost use Rattle.std.specs.Prelude.{ℕ, ◌≡◌, ◌↔◌, ◌+◌, ◌-◌, ◌<◌, ◌^◌, length, IfOk, OnErr, IsErrOf, encode_utf8_all, slice_get};
+ghost use Rattle.std.specs.Prelude.{ℕ, ◌≡◌, ◌↔◌, ◌+◌, ◌-◌, ◌<◌, ◌≤◌, ◌^◌, length, IfOk, OnErr, IsErrOf, encode_utf8_all, slice_get};
 ghost use Rattle.std.specs.Str.{chars};
 ghost use Rattle.std.specs.Rc.{rc_str_bytes};
 ghost use Rattle.std.specs.Option.{option_map};
@@ -77,6 +77,7 @@ impl TextPool {
         requires live { IsLive self.now id.0 }
         ensures characters { chars result.now ≡ text_of self.now id.0 }
         ensures bytes { result.now ≡ encode_utf8_all (text_of self.now id.0) }
+        ensures short { length result.now ≤ LONGEST_TEXT }
     {
         self.entries[id.0 as usize].text.as_str()
     }
@@ -150,6 +151,7 @@ impl TextPool {
 
     /// A free number for a text that is not live, with one owner.
     fn admit(&mut self, alloc: Global, text: &str) -> Result<TextId, PoolFault>
+        requires short { length text.now ≤ LONGEST_TEXT }
         requires absent { (id : ℕ) → IsLive self.old id → ¬ (text_of self.old id ≡ chars text.now) }
         ensures ok { IfOk result (λ id. IsInterned self.old self.new (chars text.now) id.0) }
         ensures err { OnErr result (self.new ≡ self.old) }

@@ -55,6 +55,7 @@ invariant_of-self-2 c =
     ∙ number_from_absent _ _ _ _ c.self.view_is c.self.invariant c.requires.absent)
     (λ text. c.in_ok-insert.ensures.updates.0 text)
     (subst IsUtf8 (sym c.in_ok-text.ensures.ok) c.utf8.text)
+    (omega (arith, c.in_ok-text.ensures.len, c.requires.short))
     (omega arith)
 
 pub returns-clause-ok : goal.returns-clause-ok

@@ -1,4 +1,4 @@
-use Rattle.std.proofs.Common.{sym}
+use Rattle.std.proofs.Common.{sym, arith}
 use Rattle.text_pool.proofs.InternLemmas.{found-live, absent_from_number, interned_found}
 use Rattle.text_pool.proofs.pool.TextPool.intern.Goals as goal
 
@@ -9,6 +9,7 @@ own-requires c = record {
 
 pub admit-requires : goal.admit-requires
 admit-requires c = record {
+  short = omega (arith, c.if-text-gt-LONGEST_TEXT.false);
   absent = absent_from_number _ _ _ _ c.self.view_is c.self.invariant c.utf8.text (sym c.in-None.ensures.value);
 }
 
