@@ -19,7 +19,7 @@ pub use line::{TextLines, lines, lines_are_between_ends, units};
 pub use memory::OutOfMemory;
 pub use name::Name;
 pub use note::{Note, Notes, Severity};
-pub use place::{Frame, FrameKind, Frames, Origin, PathId};
+pub use place::{Frame, FrameKind, Frames, Origin, PathId, TextId};
 pub use std::sync::ledger::Ledger;
 pub use steps::Steps;
 pub use text::Text;

@@ -9,6 +9,10 @@ use std::marker::Model;
 #[derive(Clone, Copy, Debug, PartialEq, Eq)]
 pub struct PathId(pub u32);
 
+/// The number of a text that is held once. Equal numbers of live texts are equal texts.
+#[derive(Clone, Copy, Debug, PartialEq, Eq)]
+pub struct TextId(pub u32);
+
 /// The first line of a statement, counted from 0, in the file of a path.
 #[derive(Clone, Copy, Debug, PartialEq, Eq)]
 pub struct Origin {

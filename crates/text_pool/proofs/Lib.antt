@@ -1,0 +1,4 @@
+pub mod PoolLemmas
+pub mod IndexLemmas
+pub mod InternLemmas
+pub mod CallerLemmas

@@ -1,0 +1,21 @@
+//! Texts under numbers: each text is held once, and its owners are counted.
+//!
+//! Contracts see the pool as a finite map from the live numbers to what is held of each, the characters and the count
+//! of owners. Equal numbers of live texts are equal texts and equal texts have equal numbers, so callers compare
+//! numbers. A number is free again with its last owner, and may be given out again for another text.
+//!
+//! It knows nothing of documents, files and paths: an owner is whoever asked for the text. A text has at most 4 MiB in
+//! UTF-8.
+#![tactic(auto)]
+
+mod entry;
+mod fault;
+mod laws;
+mod pool;
+
+pub use fault::PoolFault;
+pub use laws::{freed_numbers_are_free, interned_texts_stand};
+pub use pool::{LONGEST_TEXT, TextPool, live_texts_differ};
+
+#[cfg(test)]
+mod tests;
