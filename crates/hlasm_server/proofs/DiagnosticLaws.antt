@@ -1,5 +1,5 @@
 -- Bounds on what is shown of a note, and the last line of a text.
-use Rattle.std.proofs.Common.{◌≡◌, ℕ, ◌+◌, ◌-◌, ◌*◌, ◌<◌, ◌≤◌, List, [], ◌∷◌, length, take, Option, Some, None, suc, get_or, map, min, Bool, true, false, cond, ◌++◌, refl, ap, sym, ◌∙◌, subst, arith, slice_get}
+use Rattle.std.proofs.Common.{◌≡◌, ℕ, ◌+◌, ◌-◌, ◌*◌, ◌<◌, ◌≤◌, List, [], ◌∷◌, length, take, Some, None, suc, get_or, map, min, ◌++◌, ap, sym, ◌∙◌, subst, arith, slice_get}
 use Rattle.std.proofs.lemmas.List.{length-take, take_all, take_min}
 use Rattle.std.proofs.lemmas.List.Sums.{sum_by-le}
 use Rattle.hl_base.specs.Texts.{lines, units, unit_width}

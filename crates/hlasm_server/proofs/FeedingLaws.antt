@@ -1,12 +1,11 @@
 -- What a reader has after pieces no longer than it wanted.
-use Rattle.std.proofs.Common.{◌≡◌, ℕ, zero, suc, ◌+◌, ◌-◌, ◌<◌, ◌≤◌, Bool, List, [], ◌∷◌, ◌++◌, length, take, Option, None, ◌⊎◌, inl, inr, min, refl, sym, ap, ◌∙◌, subst, arith, length-append, append_assoc, drop}
-use Rattle.std.proofs.lemmas.List.{take-append-drop, length-take-le, append-nil}
-use Rattle.std.proofs.lemmas.Bool.{cases_lt}
-use Rattle.io_edge.specs.Told.{Gives, IsAtEnd, HasRisen}
+use Rattle.std.proofs.Common.{◌≡◌, ℕ, ◌+◌, ◌-◌, ◌<◌, ◌≤◌, Bool, List, [], ◌∷◌, ◌++◌, length, take, Option, None, inl, inr, min, refl, sym, ap, ◌∙◌, subst, arith, length-append}
+use Rattle.std.proofs.lemmas.List.{length-take-le}
+use Rattle.io_edge.specs.Told.{Gives, IsAtEnd}
 use Rattle.io_edge.proofs.ToldLaws.{Gives-nil, Gives-append, same_of_Gives-nil}
-use Rattle.rpc_framing.specs.Frames.{IsFrame, IsFrames, IsPartial, IsBadStart, BeginsFrames, Splits, Breaks}
+use Rattle.rpc_framing.specs.Frames.{IsFrame, IsPartial, IsBadStart, Breaks}
 use Rattle.rpc_framing.specs.Reading.{Reading, GoesOn, Stops, Waits}
-use Rattle.hlasm_server.specs.Feeding.{IsBetweenFrames, Taking, Within, Completes, Brings}
+use Rattle.hlasm_server.specs.Feeding.{IsBetweenFrames, Taking, Brings}
 use Rattle.rpc_framing.proofs.FrameLaws.{IsPartial-nil, length-IsPartial}
 use Rattle.rpc_framing.proofs.ReaderLaws.{GoesOn-Waits, Breaks-Waits}
 

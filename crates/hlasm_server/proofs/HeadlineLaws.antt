@@ -1,5 +1,5 @@
 -- Completeness follows from the headline and the causes.
-use Rattle.std.proofs.Common.{◌≡◌, ℕ, ◌+◌, ◌<◌, ◌≤◌, Bool, List, [], ◌++◌, length, drop, Option, Some, None, ◌⊎◌, inl, inr, refl, sym, ap, ◌∙◌, subst, arith, length-append}
+use Rattle.std.proofs.Common.{◌≡◌, ℕ, List, [], ◌++◌, length, drop, Option, Some, None, inl, inr, refl, sym, ap, ◌∙◌, subst}
 use Rattle.std.proofs.Math.Seq.{drop-append_seam}
 use Rattle.io_edge.specs.Told.{Gives, Gains, HasRisen}
 use Rattle.hlasm_server.specs.declared.status.Status.{Status}
@@ -8,7 +8,6 @@ use Rattle.hlasm_server.specs.Session.{start, written}
 use Rattle.hlasm_server.specs.Output.{Out}
 use Rattle.hlasm_server.specs.Headline.{Whole, IsPlainRun, HasStatusCause, Completes}
 use Rattle.hlasm_server.proofs.OutputLaws.{one_out}
-use Rattle.hlasm_server.proofs.ServeLaws.{took}
 
 -- what is left behind what was taken
 left_now : (before now : Option (List ℕ)) (taken bytes : List ℕ) → Gives before taken now → before ≡ Some bytes → now ≡ Some (drop (length taken) bytes)

@@ -1,9 +1,9 @@
 -- How what is sent piece by piece adds up.
-use Rattle.std.proofs.Common.{◌≡◌, ◌≢◌, ℕ, ◌+◌, ◌-◌, ◌<◌, ◌≤◌, List, [], ◌∷◌, ◌++◌, length, map, take, drop, Option, Result, Ok, Err, refl, sym, ap, ◌∙◌, subst, arith, append_assoc}
+use Rattle.std.proofs.Common.{◌≡◌, ◌≢◌, ℕ, ◌<◌, ◌≤◌, List, [], ◌∷◌, ◌++◌, length, map, take, drop, Option, Ok, Err, refl, sym, ap, ◌∙◌, subst, arith, append_assoc}
 use Rattle.std.proofs.lemmas.Grind.{flat_map-append}
-use Rattle.std.proofs.lemmas.List.{append-nil, take-append-drop, length-drop}
-use Rattle.io_edge.specs.Told.{Gains, HasRisen}
-use Rattle.io_edge.proofs.ToldLaws.{Gains-append, Gains-nil, HasRisen-widen}
+use Rattle.std.proofs.lemmas.List.{append-nil, take-append-drop}
+use Rattle.io_edge.specs.Told.{Gains}
+use Rattle.io_edge.proofs.ToldLaws.{Gains-append, Gains-nil}
 use Rattle.rpc_framing.specs.Frames.{frame}
 use Rattle.hlasm_server.specs.declared.messages.reading.Document.{Document}
 use Rattle.hlasm_server.specs.declared.session.Phase.{Phase}
@@ -11,7 +11,6 @@ use Rattle.hlasm_server.specs.Session.{State, Step, Goes, Ends, Refuses, list_of
 use Rattle.hlasm_server.specs.Sending.{PutsFront, PutsFirst, Sends, Hears}
 use Rattle.hlasm_server.specs.declared.sending.Stop.{Stop}
 use Rattle.hlasm_server.specs.declared.sending.Stop.TheVariants as stop
-use Rattle.hlasm_server.specs.declared.session.Event.{Event}
 use Rattle.hlasm_server.specs.declared.session.Event.TheVariants.{Running, Ended, Refused}
 
 -- ---- bytes

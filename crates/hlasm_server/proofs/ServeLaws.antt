@@ -1,10 +1,8 @@
 -- A session that was served so far, and each way in which it comes to its end.
-use Rattle.std.proofs.Common.{◌≡◌, ℕ, ◌+◌, ◌*◌, ◌^◌, ◌<◌, ◌≤◌, Bool, List, [], ◌∷◌, ◌++◌, length, Option, Some, None, Ok, Err, Result, ◌⊎◌, inl, inr, refl, sym, ap, ◌∙◌, subst, arith, length-append, append_assoc, lit<}
-use Rattle.std.specs.Option.{option_map}
+use Rattle.std.proofs.Common.{◌≡◌, ℕ, ◌+◌, ◌*◌, ◌^◌, ◌<◌, ◌≤◌, Bool, List, [], ◌∷◌, ◌++◌, length, Option, Some, None, Err, inl, inr, refl, sym, ap, ◌∙◌, subst, arith, length-append, append_assoc, lit<}
 use Rattle.std.proofs.lemmas.Grind.{flat_map-append}
-use Rattle.std.proofs.lemmas.List.{append-nil, append_cancel_left}
-use Rattle.io_edge.specs.Told.{Gives, Gains, IsAtEnd, HasRisen}
-use Rattle.io_edge.specs.LibraryCall.{LibraryCall}
+use Rattle.std.proofs.lemmas.List.{append-nil}
+use Rattle.io_edge.specs.Told.{Gives, Gains, IsAtEnd}
 use Rattle.io_edge.proofs.ToldLaws.{Gives-nil, Gives-append, Gains-nil, Gains-append, HasRisen-widen}
 use Rattle.rpc_framing.specs.Frames.{IsFrame, IsFrames, IsPartial, IsBadStart, frame}
 use Rattle.rpc_framing.specs.Reading.{Reading}
@@ -18,15 +16,15 @@ use Rattle.hlasm_server.specs.declared.messages.reading.Message.{Message}
 use Rattle.hlasm_server.specs.declared.messages.reading.Message.TheVariants.{Initialize, DidOpen, Shutdown, Exit}
 use Rattle.hlasm_server.specs.Messages.{message_of}
 use Rattle.hlasm_server.specs.Session.{State, Step, Goes, Ends, Refuses, start, in_order, answer_to, after_message, with_turns, hear, said, GoesTo, written}
-use Rattle.hlasm_server.specs.Output.{Leads, Meets, EndsAt, Out}
-use Rattle.hlasm_server.specs.Headline.{Whole, FirstFrames, FirstBytes, IsPlainRun, HasStatusCause}
+use Rattle.hlasm_server.specs.Output.{Leads, EndsAt, Out}
+use Rattle.hlasm_server.specs.Headline.{Whole, IsPlainRun, HasStatusCause}
 use Rattle.hlasm_server.specs.Status.{status_of}
 use Rattle.hlasm_server.specs.declared.sending.Stop.{Stop}
 use Rattle.hlasm_server.specs.declared.sending.Stop.TheVariants as stop
 use Rattle.hlasm_server.specs.declared.session.Event.{Event}
 use Rattle.hlasm_server.specs.Feeding.{IsBetweenFrames}
 use Rattle.hlasm_server.specs.Sending.{PutsFront, PutsFirst, Hears, HasStopCause}
-use Rattle.hlasm_server.proofs.OutputLaws.{Effect, going, ending, refusing, effect_of, SomeOut, some_out, Out-here, Out-behind, Leads-append, one_more, met_frame}
+use Rattle.hlasm_server.proofs.OutputLaws.{going, ending, refusing, effect_of, some_out, Out-here, Out-behind, Leads-append, met_frame}
 
 -- What was heard and written so far, where the session stands open between two frames.
 pub record IsServing (left_before left_now held_before held_now : Option (List ℕ)) (waits_before waits_now : Option (List Bool))

@@ -6,7 +6,6 @@ use Rattle.std.specs.Str.{chars}
 use Rattle.hl_base.specs.Texts.{lines, units}
 use Rattle.hl_base.specs.declared.note.Note.{Note}
 use Rattle.hl_base.specs.declared.place.Frame.{Frame}
-use Rattle.hlasm_server.specs.declared.messages.writing.Position.{Position}
 use Rattle.hlasm_server.specs.declared.messages.writing.Span.{Span}
 use Rattle.hlasm_server.specs.declared.messages.writing.Diagnostic.{Diagnostic}
 use Rattle.hlasm_server.specs.Notes.{notes_of, missing_end_code}

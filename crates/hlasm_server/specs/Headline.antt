@@ -5,7 +5,7 @@ use Rattle.io_edge.specs.Told.{Gives, Gains, HasRisen}
 use Rattle.io_edge.specs.LibraryCall.{LibraryCall}
 use Rattle.hlasm_server.specs.declared.status.Status.{Status}
 use Rattle.hlasm_server.specs.declared.status.Status.TheVariants.{Done, InputEnded, OutOfMemory, ReadFault, WriteFault, BadWords, NotBuilt}
-use Rattle.hlasm_server.specs.Session.{State, start, written}
+use Rattle.hlasm_server.specs.Session.{start, written}
 use Rattle.hlasm_server.specs.Output.{Out}
 
 -- the whole output of the input, with this status

@@ -1,5 +1,5 @@
 -- What the sink has gained when bodies were written, or when writing stopped (this project).
-use Rattle.std.specs.Prelude.{◌≡◌, ℕ, List, [], ◌++◌, Option, Result, Ok, Err}
+use Rattle.std.specs.Prelude.{◌≡◌, ℕ, List, ◌++◌, Option, Result, Ok, Err}
 use Rattle.io_edge.specs.Told.{Gains, HasRisen}
 use Rattle.hlasm_server.specs.declared.session.Event.{Event}
 use Rattle.hlasm_server.specs.declared.session.Event.TheVariants.{Running, Ended, Refused}

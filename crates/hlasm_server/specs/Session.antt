@@ -1,6 +1,6 @@
 -- The plain session (this project): what one message does to the state, and what is written for it. Everything is
 -- computed afresh from the state; nothing is kept between events but the state itself.
-use Rattle.std.specs.Prelude.{◌≡◌, ℕ, ℤ, List, [], ◌∷◌, ◌++◌, map, drop, Option, Some, None}
+use Rattle.std.specs.Prelude.{◌≡◌, ℕ, List, [], ◌∷◌, ◌++◌, map, drop, Option, Some, None}
 use Rattle.std.specs.List.{flat_map}
 use Rattle.rpc_framing.specs.Frames.{frame}
 use Rattle.hlasm_server.specs.declared.session.Event.{Event}

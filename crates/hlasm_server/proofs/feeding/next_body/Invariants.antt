@@ -1,4 +1,4 @@
-use Rattle.std.proofs.Common.{◌≡◌, ◌≤◌, ◌+◌, ◌-◌, [], None, length}
+use Rattle.std.proofs.Common.{◌-◌, length}
 use Rattle.hlasm_server.proofs.FeedingLaws.{IsReading}
 use Rattle.hlasm_server.proofs.feeding.next_body.Given as goal
 

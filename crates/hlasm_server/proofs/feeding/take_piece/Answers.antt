@@ -1,4 +1,4 @@
-use Rattle.std.proofs.Common.{◌≡◌, ◌<◌, ◌≤◌, List, ℕ, Ok, Err, length, take, refl, ap, ◌∙◌, arith}
+use Rattle.std.proofs.Common.{◌<◌, ◌≤◌, List, ℕ, Ok, Err, length, take, refl, ap, ◌∙◌, arith}
 use Rattle.rpc_framing.proofs.ReaderLaws.{IsPartial-Waits}
 use Rattle.hlasm_server.proofs.FeedingLaws.{Brings-GoesOn, IsBadStart-Stops, IsAtEnd-Gives, piece_size, some_room}
 use Rattle.hlasm_server.proofs.feeding.take_piece.Goals as goal

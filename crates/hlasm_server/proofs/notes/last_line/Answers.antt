@@ -1,4 +1,4 @@
-use Rattle.std.proofs.Common.{arith, sym}
+use Rattle.std.proofs.Common.{sym}
 use Rattle.hlasm_server.proofs.DiagnosticLaws.{FollowOn-last, FollowOn-none}
 use Rattle.hlasm_server.proofs.notes.last_line.Goals as goal
 

@@ -1,8 +1,7 @@
-use Rattle.std.proofs.Common.{◌≡◌, ◌++◌, List, ℕ, ap, ◌∙◌, subst}
+use Rattle.std.proofs.Common.{◌≡◌, ◌++◌, ap, ◌∙◌, subst}
 use Rattle.std.proofs.lemmas.Result.{err_from_is_err_and}
 use Rattle.io_edge.specs.Told.{Gains}
-use Rattle.hlasm_server.specs.Session.{hear, said, written, after_message, Answers}
-use Rattle.hlasm_server.specs.declared.session.Event.{Event}
+use Rattle.hlasm_server.specs.Session.{hear, said, written, after_message}
 use Rattle.hlasm_server.specs.Sending.{PutsFront}
 use Rattle.hlasm_server.proofs.SendingLaws.{broken_before_turns, broken_in_turns}
 use Rattle.hlasm_server.proofs.sending.hear.Goals as goal

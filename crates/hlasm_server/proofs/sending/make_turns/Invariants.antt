@@ -1,4 +1,4 @@
-use Rattle.std.proofs.Common.{◌≤◌, length}
+use Rattle.std.proofs.Common.{length}
 use Rattle.hlasm_server.proofs.SendingLaws.{IsTurning}
 use Rattle.hlasm_server.proofs.sending.make_turns.Given as goal
 

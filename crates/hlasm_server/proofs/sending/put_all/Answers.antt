@@ -1,4 +1,3 @@
-use Rattle.std.proofs.Common.{◌≡◌, ◌≤◌, List, ℕ, take, drop}
 use Rattle.hlasm_server.proofs.SendingLaws.{putting_goes_on}
 use Rattle.hlasm_server.proofs.sending.put_all.Goals as goal
 

@@ -1,4 +1,4 @@
-use Rattle.std.proofs.Common.{◌≤◌, length}
+use Rattle.std.proofs.Common.{length}
 use Rattle.hlasm_server.proofs.SendingLaws.{IsPutting}
 use Rattle.hlasm_server.proofs.sending.put_all.Given as goal
 

@@ -1,4 +1,4 @@
-use Rattle.std.proofs.Common.{◌≡◌, ◌+◌, ◌<◌, ◌≤◌, List, ℕ, Err, refl, sym, ap, ◌∙◌, subst, arith}
+use Rattle.std.proofs.Common.{refl, sym, ◌∙◌, subst, arith}
 use Rattle.rpc_framing.specs.Frames.{IsFrame}
 use Rattle.hlasm_server.proofs.ServeLaws.{serving_begins, serving_goes_on, between_at_first, frames_few, hear_advances, ends_with_input, ends_with_read_fault, ends_without_memory, ends_with_exit, ends_with_refusal, ends_with_bad_start, ends_stopped, HasStatusCause-stopped, status_of-is_no_BadWords}
 use Rattle.hlasm_server.proofs.serving.serve.Goals as goal
