@@ -168,42 +168,43 @@ impl Read for Rising {
     }
 }
 
-/// What takes of a room give of a reader that fails once: `None` is a failure.
+/// Readers by the read that fails and how, and a room for each take: what takes give, where `None` is a failure.
+const TAKES: [(u8, ErrorKind, usize, &[Option<&[u8]>]); 4] = [
+    (
+        0,
+        ErrorKind::Other,
+        8,
+        &[Some(&[1]), Some(&[2, 2]), Some(&[3, 3, 3]), Some(&[])],
+    ),
+    (
+        2,
+        ErrorKind::Other,
+        8,
+        &[Some(&[1]), None, Some(&[3, 3, 3]), Some(&[])],
+    ),
+    (
+        2,
+        ErrorKind::Interrupted,
+        8,
+        &[Some(&[1]), Some(&[3, 3, 3]), Some(&[])],
+    ),
+    (
+        0,
+        ErrorKind::Other,
+        2,
+        &[
+            Some(&[1]),
+            Some(&[2, 2]),
+            Some(&[3, 3]),
+            Some(&[3]),
+            Some(&[]),
+        ],
+    ),
+];
+
 #[test]
 fn a_std_source_gives_what_one_read_gives(rt: HostRuntime) -> Result<(), Fail> {
-    let cases: [(u8, ErrorKind, usize, &[Option<&[u8]>]); 4] = [
-        (
-            0,
-            ErrorKind::Other,
-            8,
-            &[Some(&[1]), Some(&[2, 2]), Some(&[3, 3, 3]), Some(&[])],
-        ),
-        (
-            2,
-            ErrorKind::Other,
-            8,
-            &[Some(&[1]), None, Some(&[3, 3, 3]), Some(&[])],
-        ),
-        (
-            2,
-            ErrorKind::Interrupted,
-            8,
-            &[Some(&[1]), Some(&[3, 3, 3]), Some(&[])],
-        ),
-        (
-            0,
-            ErrorKind::Other,
-            2,
-            &[
-                Some(&[1]),
-                Some(&[2, 2]),
-                Some(&[3, 3]),
-                Some(&[3]),
-                Some(&[]),
-            ],
-        ),
-    ];
-    for (fails, kind, room, pieces) in cases {
+    for (fails, kind, room, pieces) in TAKES {
         assert!(rt; room <= 8);
         let reader = Rising {
             reads: 0,

@@ -20,137 +20,143 @@ fn told(alloc: Global, message: &Option<Message>) -> Result<String, AllocError> 
     }
 }
 
+/// Bodies, each with the message that it is, in words.
+const BODIES: [(&str, &str); 26] = [
+    (
+        r#"{"id":1,"jsonrpc":"2.0","method":"initialize","params":{}}"#,
+        "initialize 1",
+    ),
+    (
+        r#" { "method" : "initialize", "jsonrpc" : "2\u002e0", "id" : -2147483648 } "#,
+        "initialize -2147483648",
+    ),
+    (
+        r#"{"id":2147483647,"jsonrpc":"2.0","method":"shutdown","params":7}"#,
+        "shutdown 2147483647",
+    ),
+    (
+        r#"{"id":0,"jsonrpc":"2.0","method":"shutdown"}"#,
+        "shutdown 0",
+    ),
+    (r#"{"jsonrpc":"2.0","method":"exit"}"#, "exit"),
+    (
+        r#"{"id":1,"jsonrpc":"2.0","method":"exit","id":2,"method":"shutdown"}"#,
+        "shutdown 2",
+    ),
+    (
+        r#"{"id":2147483648,"jsonrpc":"2.0","method":"shutdown"}"#,
+        "none",
+    ),
+    (
+        r#"{"id":-2147483649,"jsonrpc":"2.0","method":"shutdown"}"#,
+        "none",
+    ),
+    (r#"{"id":1.0,"jsonrpc":"2.0","method":"shutdown"}"#, "none"),
+    (r#"{"id":1e2,"jsonrpc":"2.0","method":"shutdown"}"#, "none"),
+    (r#"{"id":-0,"jsonrpc":"2.0","method":"shutdown"}"#, "none"),
+    (r#"{"id":"1","jsonrpc":"2.0","method":"shutdown"}"#, "none"),
+    (
+        r#"{"id":null,"jsonrpc":"2.0","method":"initialize"}"#,
+        "none",
+    ),
+    (
+        r#"{"jsonrpc":"2.0","method":"initialize","params":{}}"#,
+        "none",
+    ),
+    (r#"{"id":1,"jsonrpc":"1.0","method":"initialize"}"#, "none"),
+    (r#"{"id":1,"jsonrpc":2.0,"method":"initialize"}"#, "none"),
+    (r#"{"id":1,"method":"initialize"}"#, "none"),
+    (r#"{"id":1,"jsonrpc":"2.0"}"#, "none"),
+    (r#"{"id":1,"jsonrpc":"2.0","method":null}"#, "none"),
+    (r#"{"id":1,"jsonrpc":"2.0","method":"Initialize"}"#, "none"),
+    (r#"{"id":1,"jsonrpc":"2.0","method":"exit"}"#, "none"),
+    (r#"{"id":null,"jsonrpc":"2.0","method":"exit"}"#, "none"),
+    (r#"[{"jsonrpc":"2.0","method":"exit"}]"#, "none"),
+    (r#"{"jsonrpc":"2.0","method":"exit"}x"#, "none"),
+    (r#"{"jsonrpc":"2.0","method":"exit""#, "none"),
+    ("", "none"),
+];
+
 #[test]
 fn tells_requests_and_notifications(rt: HostRuntime) -> Result<(), Fail> {
     let alloc = rt.alloc();
-    for (body, wanted) in [
-        (
-            r#"{"id":1,"jsonrpc":"2.0","method":"initialize","params":{}}"#,
-            "initialize 1",
-        ),
-        (
-            r#" { "method" : "initialize", "jsonrpc" : "2\u002e0", "id" : -2147483648 } "#,
-            "initialize -2147483648",
-        ),
-        (
-            r#"{"id":2147483647,"jsonrpc":"2.0","method":"shutdown","params":7}"#,
-            "shutdown 2147483647",
-        ),
-        (
-            r#"{"id":0,"jsonrpc":"2.0","method":"shutdown"}"#,
-            "shutdown 0",
-        ),
-        (r#"{"jsonrpc":"2.0","method":"exit"}"#, "exit"),
-        (
-            r#"{"id":1,"jsonrpc":"2.0","method":"exit","id":2,"method":"shutdown"}"#,
-            "shutdown 2",
-        ),
-        (
-            r#"{"id":2147483648,"jsonrpc":"2.0","method":"shutdown"}"#,
-            "none",
-        ),
-        (
-            r#"{"id":-2147483649,"jsonrpc":"2.0","method":"shutdown"}"#,
-            "none",
-        ),
-        (r#"{"id":1.0,"jsonrpc":"2.0","method":"shutdown"}"#, "none"),
-        (r#"{"id":1e2,"jsonrpc":"2.0","method":"shutdown"}"#, "none"),
-        (r#"{"id":-0,"jsonrpc":"2.0","method":"shutdown"}"#, "none"),
-        (r#"{"id":"1","jsonrpc":"2.0","method":"shutdown"}"#, "none"),
-        (
-            r#"{"id":null,"jsonrpc":"2.0","method":"initialize"}"#,
-            "none",
-        ),
-        (
-            r#"{"jsonrpc":"2.0","method":"initialize","params":{}}"#,
-            "none",
-        ),
-        (r#"{"id":1,"jsonrpc":"1.0","method":"initialize"}"#, "none"),
-        (r#"{"id":1,"jsonrpc":2.0,"method":"initialize"}"#, "none"),
-        (r#"{"id":1,"method":"initialize"}"#, "none"),
-        (r#"{"id":1,"jsonrpc":"2.0"}"#, "none"),
-        (r#"{"id":1,"jsonrpc":"2.0","method":null}"#, "none"),
-        (r#"{"id":1,"jsonrpc":"2.0","method":"Initialize"}"#, "none"),
-        (r#"{"id":1,"jsonrpc":"2.0","method":"exit"}"#, "none"),
-        (r#"{"id":null,"jsonrpc":"2.0","method":"exit"}"#, "none"),
-        (r#"[{"jsonrpc":"2.0","method":"exit"}]"#, "none"),
-        (r#"{"jsonrpc":"2.0","method":"exit"}x"#, "none"),
-        (r#"{"jsonrpc":"2.0","method":"exit""#, "none"),
-        ("", "none"),
-    ] {
+    for (body, wanted) in BODIES {
         let message = read_message(alloc, body.as_bytes())?;
         assert!(rt; told(alloc, &message)?.as_str() == wanted, "{body}");
     }
     Ok(())
 }
 
+/// Members of a document, each with the message that opens it, in words.
+const DOCUMENTS: [(&str, &str); 17] = [
+    (
+        r#""languageId":"hlasm","text":"","uri":"file:///w/a.hlasm","version":1"#,
+        "open file:///w/a.hlasm 1 ''",
+    ),
+    (
+        r#""languageId":"hlasm","text":"","uri":"file:///A-z_0~9","version":-1,"x":[]"#,
+        "open file:///A-z_0~9 -1 ''",
+    ),
+    (
+        r#""languageId":"hlasm","text":"","uri":"file:///","version":0"#,
+        "open file:/// 0 ''",
+    ),
+    (
+        r#""languageId":"cobol","text":"","uri":"file:///a","version":1"#,
+        "none",
+    ),
+    (r#""text":"","uri":"file:///a","version":1"#, "none"),
+    (
+        r#""languageId":"hlasm","text":" \n\u0041","uri":"file:///a","version":1"#,
+        "open file:///a 1 ' \nA'",
+    ),
+    (
+        r#""languageId":"hlasm","text":null,"uri":"file:///a","version":1"#,
+        "none",
+    ),
+    (
+        r#""languageId":"hlasm","uri":"file:///a","version":1"#,
+        "none",
+    ),
+    (
+        r#""languageId":"hlasm","text":"","uri":"file:///a%20b","version":1"#,
+        "none",
+    ),
+    (
+        r#""languageId":"hlasm","text":"","uri":"file:///é","version":1"#,
+        "none",
+    ),
+    (
+        r#""languageId":"hlasm","text":"","uri":"file://a","version":1"#,
+        "none",
+    ),
+    (
+        r#""languageId":"hlasm","text":"","uri":"http:///a","version":1"#,
+        "none",
+    ),
+    (
+        r#""languageId":"hlasm","text":"","uri":7,"version":1"#,
+        "none",
+    ),
+    (r#""languageId":"hlasm","text":"","version":1"#, "none"),
+    (
+        r#""languageId":"hlasm","text":"","uri":"file:///a","version":1.0"#,
+        "none",
+    ),
+    (
+        r#""languageId":"hlasm","text":"","uri":"file:///a","version":2147483648"#,
+        "none",
+    ),
+    (
+        r#""languageId":"hlasm","text":"","uri":"file:///a""#,
+        "none",
+    ),
+];
+
 #[test]
 fn tells_an_opened_document(rt: HostRuntime) -> Result<(), Fail> {
     let alloc = rt.alloc();
-    for (members, wanted) in [
-        (
-            r#""languageId":"hlasm","text":"","uri":"file:///w/a.hlasm","version":1"#,
-            "open file:///w/a.hlasm 1 ''",
-        ),
-        (
-            r#""languageId":"hlasm","text":"","uri":"file:///A-z_0~9","version":-1,"x":[]"#,
-            "open file:///A-z_0~9 -1 ''",
-        ),
-        (
-            r#""languageId":"hlasm","text":"","uri":"file:///","version":0"#,
-            "open file:/// 0 ''",
-        ),
-        (
-            r#""languageId":"cobol","text":"","uri":"file:///a","version":1"#,
-            "none",
-        ),
-        (r#""text":"","uri":"file:///a","version":1"#, "none"),
-        (
-            r#""languageId":"hlasm","text":" \n\u0041","uri":"file:///a","version":1"#,
-            "open file:///a 1 ' \nA'",
-        ),
-        (
-            r#""languageId":"hlasm","text":null,"uri":"file:///a","version":1"#,
-            "none",
-        ),
-        (
-            r#""languageId":"hlasm","uri":"file:///a","version":1"#,
-            "none",
-        ),
-        (
-            r#""languageId":"hlasm","text":"","uri":"file:///a%20b","version":1"#,
-            "none",
-        ),
-        (
-            r#""languageId":"hlasm","text":"","uri":"file:///é","version":1"#,
-            "none",
-        ),
-        (
-            r#""languageId":"hlasm","text":"","uri":"file://a","version":1"#,
-            "none",
-        ),
-        (
-            r#""languageId":"hlasm","text":"","uri":"http:///a","version":1"#,
-            "none",
-        ),
-        (
-            r#""languageId":"hlasm","text":"","uri":7,"version":1"#,
-            "none",
-        ),
-        (r#""languageId":"hlasm","text":"","version":1"#, "none"),
-        (
-            r#""languageId":"hlasm","text":"","uri":"file:///a","version":1.0"#,
-            "none",
-        ),
-        (
-            r#""languageId":"hlasm","text":"","uri":"file:///a","version":2147483648"#,
-            "none",
-        ),
-        (
-            r#""languageId":"hlasm","text":"","uri":"file:///a""#,
-            "none",
-        ),
-    ] {
+    for (members, wanted) in DOCUMENTS {
         let body = format!(in alloc;
             "{{\"jsonrpc\":\"2.0\",\"method\":\"textDocument/didOpen\",\"params\":{{\"textDocument\":{{{members}}}}}}}"
         )?;
