@@ -1,3 +1,4 @@
 pub mod SymbolLaws
 pub mod LineLaws
 pub mod UnitLaws
+pub mod OrderLaws

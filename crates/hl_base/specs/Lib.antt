@@ -1,3 +1,4 @@
 pub mod Symbols
 pub mod Texts
 pub mod Remaining
+pub mod Order

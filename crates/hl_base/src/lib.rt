@@ -7,19 +7,25 @@
 //! lists. What allocates takes the allocator first and answers `OutOfMemory` where there is no memory.
 #![tactic(auto)]
 
+mod edit;
 mod line;
 mod memory;
 mod name;
 mod note;
+mod order;
 mod place;
+mod set;
 mod steps;
 mod text;
 
+pub use edit::{Edit, Edits, Position};
 pub use line::{TextLines, lines, lines_are_between_ends, units};
 pub use memory::OutOfMemory;
 pub use name::Name;
 pub use note::{Note, Notes, Severity};
+pub use order::{compare, ebcdic, texts_are_ordered};
 pub use place::{Frame, FrameKind, Frames, Origin, PathId, TextId};
+pub use set::{Answer, Attr, Declaration, Declarations, Key, Line, SetKind, SetValue};
 pub use std::sync::ledger::Ledger;
 pub use steps::Steps;
 pub use text::Text;

@@ -1,6 +1,9 @@
 use crate::{
-    Frame, FrameKind, Frames, Name, Note, Notes, Origin, PathId, Severity, Text, lines, units,
+    Answer, Declaration, Declarations, Edit, Edits, Frame, FrameKind, Frames, Key, Line, Name,
+    Note, Notes, Origin, PathId, Position, SetKind, SetValue, Severity, Text, compare, ebcdic,
+    lines, units,
 };
+use std::cmp::Ordering;
 use std::test::Fail;
 
 /// Values from the Language Reference: which texts are ordinary symbols, and what they are called.
@@ -119,4 +122,108 @@ fn units_are_those_of_utf16(rt: HostRuntime) {
     ] {
         assert_eq!(rt; units(line), want, "at {line:?}");
     }
+}
+
+/// Bytes of code page 037 from its public table, one at each end of each run of characters and between.
+#[test]
+fn characters_have_their_bytes(rt: HostRuntime) -> Result<(), Fail> {
+    for (character, byte) in [
+        (' ', 0x40),
+        ('\t', 0x40),
+        ('!', 0x5A),
+        ('&', 0x50),
+        ('(', 0x4D),
+        ('/', 0x61),
+        ('0', 0xF0),
+        ('9', 0xF9),
+        (':', 0x7A),
+        ('@', 0x7C),
+        ('A', 0xC1),
+        ('I', 0xC9),
+        ('J', 0xD1),
+        ('R', 0xD9),
+        ('S', 0xE2),
+        ('Z', 0xE9),
+        ('[', 0xBA),
+        ('\\', 0xE0),
+        (']', 0xBB),
+        ('^', 0xB0),
+        ('_', 0x6D),
+        ('`', 0x79),
+        ('a', 0x81),
+        ('i', 0x89),
+        ('j', 0x91),
+        ('r', 0x99),
+        ('s', 0xA2),
+        ('z', 0xA9),
+        ('{', 0xC0),
+        ('|', 0x4F),
+        ('}', 0xD0),
+        ('~', 0xA1),
+        ('\u{7f}', 0x3F),
+        ('\u{0}', 0x3F),
+        ('é', 0x3F),
+        ('𝄞', 0x3F),
+    ] {
+        assert_eq!(rt; ebcdic(character), byte, "{character}");
+    }
+    Ok(())
+}
+
+#[test]
+fn texts_are_compared_by_length_and_then_by_bytes(rt: HostRuntime) -> Result<(), Fail> {
+    for (a, b, order) in [
+        ("AB", "C", Ordering::Greater),
+        ("", "", Ordering::Equal),
+        ("A", "a", Ordering::Greater),
+        ("1", "A", Ordering::Greater),
+        ("AB1", "ABA", Ordering::Greater),
+        ("é", "𝄞", Ordering::Equal),
+        ("a", "é", Ordering::Greater),
+        ("ABC", "ABD", Ordering::Less),
+        ("\t", " ", Ordering::Equal),
+    ] {
+        assert!(rt; compare(a, b) == order, "{a} {b}");
+        assert!(rt; compare(b, a) == order.reverse(), "{b} {a}");
+    }
+    Ok(())
+}
+
+/// What the later layers hand on: each kind of value is copied once.
+#[test]
+fn plain_values_are_copied(rt: HostRuntime) -> Result<(), Fail> {
+    let alloc = rt.alloc();
+    let name = Name::read("x").ok_or("a name")?;
+    let value = SetValue::C(Text::of(alloc, "v")?).copy(alloc)?;
+    assert!(rt; matches!(&value, SetValue::C(text) if text.as_str() == "v"));
+    let key = Key::Global(SetKind::B, name.copy(), 7).copy();
+    assert!(rt; matches!(&key, Key::Global(SetKind::B, n, 7) if n.text() == "X"));
+    let answer = Answer::Chars(Text::of(alloc, "t")?).copy(alloc)?;
+    assert!(rt; matches!(&answer, Answer::Chars(text) if text.as_str() == "t"));
+    let mut declarations = Declarations::new(alloc);
+    declarations.push(Declaration {
+        kind: SetKind::A,
+        name,
+        global: true,
+        array: false,
+    })?;
+    assert_eq!(rt; declarations.copy(alloc)?.as_slice().len(), 1);
+    let line = Line {
+        label: Text::of(alloc, "L")?,
+        op: Text::of(alloc, "DC")?,
+        operands: Text::of(alloc, "F'1'")?,
+    };
+    assert!(rt; line.copy(alloc)?.op.as_str() == "DC");
+    let mut edits = Edits::new(alloc);
+    let from = Some(Position {
+        line: 1,
+        character: 2,
+    });
+    edits.push(Edit {
+        from,
+        to: from,
+        text: Text::of(alloc, "")?,
+    })?;
+    assert_eq!(rt; edits.as_slice().len(), 1);
+    Ok(())
 }
