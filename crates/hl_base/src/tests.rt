@@ -228,6 +228,7 @@ fn plain_values_are_copied(rt: HostRuntime) -> Result<(), Fail> {
     assert_eq!(rt; edits.as_slice().len(), 1);
     Ok(())
 }
+
 /// What each character of a text stands in: `q` within quotes, else how many parentheses are open.
 fn nesting_of(alloc: Global, text: &str) -> Result<String, OutOfMemory> {
     let mut nesting = Nesting::new();
