@@ -21,3 +21,6 @@ pub use document::{Document, MemberText};
 pub use fault::StoreFault;
 pub use limits::MOST_DOCUMENTS;
 pub use place::{column, position};
+
+#[cfg(test)]
+mod tests;
