@@ -14,3 +14,5 @@ pub mod Rows
 pub mod StackLaws
 pub mod MoveLaws
 pub mod TextLaws
+pub mod SplitLaws
+pub mod SplitSublistLaws

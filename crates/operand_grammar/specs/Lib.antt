@@ -4,6 +4,8 @@ pub mod Moves
 pub mod Parts
 pub mod Reading
 pub mod Spelling
+pub mod Split
+pub mod SplitSublist
 pub mod Stacks
 pub mod Trees
 pub mod Views
