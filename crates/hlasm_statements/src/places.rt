@@ -35,6 +35,7 @@ impl Places {
     }
 
     /// Adds a place behind those that are there. What an `Err` leaves is of no use.
+    #[inline(always)]
     pub fn push(&mut self, line: u32, column: u32) -> Result<(), OutOfMemory>
         ensures { OnOk result (self.new ≡ self.old ++ (line, column) ∷ []) }
     {

@@ -40,6 +40,7 @@ pub struct Reader {
 }
 
 /// Adds a character behind a text. An `Err` changes nothing.
+#[inline(always)]
 fn push(text: &mut Text, c: char) -> Result<(), OutOfMemory>
     ensures ok { OnOk result (text.new ≡ text.old ++ c ∷ []) }
     ensures err { OnErr result (text.new ≡ text.old) }
@@ -88,6 +89,7 @@ impl Reader {
     }
 
     /// Whether the rest of the source is of no use.
+    #[inline(always)]
     fn is_done(&self) -> bool
         ensures { result ≡ is_done self.now.stage }
     {
@@ -120,6 +122,7 @@ impl Reader {
     }
 
     /// Reads the next character.
+    #[inline(always)]
     fn read(&mut self, alternate: bool, c: char, line: u32, column: u32) -> Result<(), OutOfMemory>
         ensures { OnOk result ((source : List Placed) → IsRead self.old alternate source
             → IsRead self.new alternate (source ++ record { char = c; line = line; column = column } ∷ [])) }
@@ -145,6 +148,7 @@ impl Reader {
     }
 
     /// The stage that a character leaves.
+    #[inline(always)]
     fn stage_behind(&self, alternate: bool, c: char, line: u32) -> Stage
         ensures { (before : List ℕ) → IsBehind self.now.nesting before → self.now.ends_in_comma ≡ (slice_index before 0 == 44)
             → result ≡ stage_behind alternate (fields.keeps_groups self.now.op) before self.now.stage c line }
@@ -164,6 +168,7 @@ impl Reader {
         }
     }
 
+    #[inline(always)]
     fn stage_in_operands(&self, alternate: bool, c: char, line: u32) -> Stage
         ensures { (before : List ℕ) → IsBehind self.now.nesting before → self.now.ends_in_comma ≡ (slice_index before 0 == 44)
             → result ≡ stage_in_operands alternate (fields.keeps_groups self.now.op) before c line }
