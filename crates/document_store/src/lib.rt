@@ -12,6 +12,7 @@
 mod changes;
 mod document;
 mod fault;
+mod laws;
 mod limits;
 mod lines;
 mod place;
@@ -19,6 +20,7 @@ mod place;
 pub use changes::after_edits;
 pub use document::{Document, MemberText};
 pub use fault::StoreFault;
+pub use laws::{columns_are_found_again, positions_are_found_again};
 pub use limits::MOST_DOCUMENTS;
 pub use place::{column, position};
 
