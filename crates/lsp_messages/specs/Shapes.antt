@@ -4,14 +4,14 @@ use Rattle.std.specs.Prelude.{ℕ, List, [], ◌∷◌, Bool, is_some, if◌then
 use Rattle.serde_json.specs.Data.{Data, no_items, object, no_members}
 use Rattle.serde_json.specs.Find.{get, as_null, as_str, as_array}
 use Rattle.json_view.specs.Members.{as_object_value, as_i32, list_of}
-use Rattle.lsp_messages.specs.declared.base.Position.{Position}
-use Rattle.lsp_messages.specs.declared.base.Edit.{Edit}
+use Rattle.hl_base.specs.declared.edit.Position.{Position}
+use Rattle.hl_base.specs.declared.edit.Edit.{Edit}
 use Rattle.lsp_messages.specs.declared.incoming.LspIn.{LspIn}
 use Rattle.lsp_messages.specs.declared.incoming.LspIn.TheVariants.{DidOpen, DidChange, DidClose}
 use Rattle.lsp_messages.specs.declared.parameters.Parameter.{Parameter}
 use Rattle.lsp_messages.specs.declared.parameters.Parameter.TheVariants.{Params, RootUri, WorkspaceFolders, TextDocument, Uri, LanguageId, Version, Text, ContentChanges, Range, Start, End, Line, Character}
 use Rattle.lsp_messages.specs.Parameters.{name_of, needed, optional, object_in, coordinate, ◌>>=◌, each, all}
-use Rattle.lsp_messages.specs.Uris.{path_of}
+use Rattle.file_uri.specs.Paths.{path_of}
 
 -- the parameters of a message; where there are none, an object without members
 abbrev pub params_of : Data → Result Data Parameter
@@ -37,7 +37,7 @@ given kind parameter value = if is_null_at parameter value then Ok None else opt
 
 -- a URI must have the path of a file
 abbrev pub checked_uri : Parameter → List ℕ → Result ⊤ Parameter
-checked_uri parameter uri = if is_some (path_of uri) then Ok tt else Err parameter
+checked_uri parameter uri = if is_some (path_of (chars uri)) then Ok tt else Err parameter
 
 -- a folder of the workspace, by its URI
 abbrev pub folder_in : Data → Result (List ℕ) Parameter

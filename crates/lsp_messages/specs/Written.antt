@@ -5,7 +5,7 @@ use Rattle.serde_json.specs.Data.{Data, Members, null, boolean, number, unsigned
 use Rattle.serde_json.specs.Find.{of_integer}
 use Rattle.serde_json.specs.View.{view, items_of}
 use Rattle.serde_json.specs.Written.{compact_text, has_float}
-use Rattle.lsp_messages.specs.declared.base.Position.{Position}
+use Rattle.hl_base.specs.declared.edit.Position.{Position}
 use Rattle.lsp_messages.specs.declared.incoming.Id.{Id}
 use Rattle.lsp_messages.specs.declared.incoming.Id.TheVariants.{Number, Words}
 use Rattle.lsp_messages.specs.declared.outgoing.Span.{Span}

@@ -1,8 +1,7 @@
 //! What is read: the messages of a client, and why a value is none.
 ghost use Rattle.std.specs.Prelude.{◌≡◌, IfOk};
 
-use crate::base::Edits;
-use hl_base::{OutOfMemory, Text};
+use hl_base::{Edits, OutOfMemory, Text};
 use std::alloc::Global;
 use thiserror::Error;
 
@@ -34,7 +33,7 @@ pub struct Head {
 
 /// A message of the client (LSP 3.17, "Lifecycle Messages" and "Text Document Synchronization"). URIs and texts are as
 /// they came; `root` is the URI of the folder that the client works in.
-#[derive(Debug, Drop)]
+#[derive(Drop)]
 pub enum LspIn {
     Initialize {
         id: Id,

@@ -9,7 +9,6 @@
 //! named; and what is written is the compact text of a stated value, members in the order of the bytes of their names.
 #![tactic(auto)]
 
-mod base;
 mod incoming;
 mod outgoing;
 mod parameters;
@@ -17,7 +16,6 @@ mod reading;
 mod shapes;
 mod writing;
 
-pub use base::{Edit, Edits, Position, UriFault, file_path};
 pub use incoming::{Head, Id, LspIn, Refusal};
 pub use outgoing::{Diagnostic, Diagnostics, LspOut, Relation, Relations, Span};
 pub use reading::{is_response, read_lsp};

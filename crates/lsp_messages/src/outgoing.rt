@@ -1,9 +1,8 @@
 //! What is written: the messages of the server.
 ghost use Rattle.std.specs.Prelude.{◌≡◌, [], ◌∷◌, ◌++◌, OnOk, OnErr};
 
-use crate::base::Position;
 use crate::incoming::Id;
-use hl_base::{OutOfMemory, Text};
+use hl_base::{OutOfMemory, Position, Text};
 use serde_json::Value;
 use std::alloc::Global;
 use std::marker::Model;

@@ -1,5 +1,5 @@
 //! Which message a value is.
-ghost use Rattle.std.specs.Prelude.{◌≡◌, Result, IfOk, Some, None, Err};
+ghost use Rattle.std.specs.Prelude.{◌≡◌, Result, IfOk, IsTrue, Some, None, Err};
 ghost use Rattle.serde_json.specs.View.{view};
 ghost use Rattle.lsp_messages.specs.Messages.{is_response, is_version_2, method_of, id_of, head_with, unless_bad, refusal_for, initialized_at, request_of, notification_of, message_named, message_of, IsReading};
 ghost use Rattle.json_view.specs.Members.{shown};
@@ -19,7 +19,8 @@ use std::alloc::Global;
 /// Whether a value answers a request of ours (JSON-RPC 2.0, "Response object"): it has a result or an error, and no
 /// method. It is no request; whoever sent no request drops it.
 pub fn is_response(v: &Value) -> bool
-    ensures { result ≡ is_response (view v.now) }
+    ensures answer { result ≡ is_response (view v.now) }
+    ensures no_request { IsTrue result → message_of (view v.now) ≡ Err Refusal.NotRequest }
 {
     v.get("method").is_none() && (v.get("result").is_some() || v.get("error").is_some())
 }

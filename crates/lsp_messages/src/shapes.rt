@@ -7,12 +7,12 @@ ghost use Rattle.json_view.specs.Members.{shown};
 ghost use Rattle.lsp_messages.specs.Parameters.{Answers, all, each};
 ghost use Rattle.lsp_messages.specs.Shapes.{params_of, document_in, is_null_at, given, checked_uri, folder_in, first_folder, root_among, own_root, folders_in, root_of, opened, place_in, place_at, edit_within, edit_in, edits_in, changed, closed};
 
-use crate::base::{Edit, Edits, Position, UriFault, file_path};
 use crate::incoming::LspIn;
 use crate::parameters::{
     Parameter, ParameterFault, coordinate, element, list, object, object_if, text, whole,
 };
-use hl_base::Text;
+use file_uri::{UriFault, file_path};
+use hl_base::{Edit, Edits, Position, Text};
 use json_view::{opt_list, opt_text};
 use serde_json::{Map, Value};
 use std::alloc::Global;

@@ -6,10 +6,9 @@ ghost use Rattle.serde_json.specs.View.{view, items_of};
 ghost use Rattle.json_view.specs.Texts.{reading};
 ghost use Rattle.lsp_messages.specs.Written.{id_value, answered_value, reply_value, error_value, fault_value, notification_value, log_params, position_value, span_value, location_value, relation_value, report_value, placed_value, diagnostic_value, published_params, value_of, text_of, has_fraction, sync_value, capabilities_value, server_value, initialize_result_value};
 
-use crate::base::Position;
 use crate::incoming::Id;
 use crate::outgoing::{Diagnostic, LspOut, Relation, Span};
-use hl_base::{OutOfMemory, Text};
+use hl_base::{OutOfMemory, Position, Text};
 use json_view::compact;
 use serde_json::{Value, json};
 use std::alloc::Global;

@@ -2,7 +2,7 @@ use Rattle.std.proofs.Common.{◌≡◌, Result, Ok, Err, List, map, sym, ap, su
 use Rattle.std.proofs.lemmas.Result.{err_from_is_err_and}
 use Rattle.std.proofs.Math.ListN.{drop_of_length-le}
 use Rattle.serde_json.specs.View.{view}
-use Rattle.lsp_messages.specs.declared.base.Edit.{Edit}
+use Rattle.hl_base.specs.declared.edit.Edit.{Edit}
 use Rattle.lsp_messages.specs.declared.parameters.Parameter.{Parameter}
 use Rattle.lsp_messages.specs.Parameters.{each, Answers}
 use Rattle.lsp_messages.specs.Shapes.{edit_in}
