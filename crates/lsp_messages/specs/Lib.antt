@@ -1,0 +1,4 @@
+pub mod Messages
+pub mod Parameters
+pub mod Shapes
+pub mod Written

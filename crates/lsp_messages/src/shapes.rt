@@ -1,0 +1,258 @@
+//! The parameters of each message.
+ghost use Rattle.std.specs.Prelude.{◌≡◌, map, option_map};
+ghost use Rattle.serde_json.specs.Data.{object, no_members};
+ghost use Rattle.serde_json.specs.Find.{as_str, as_array};
+ghost use Rattle.serde_json.specs.View.{view, items_view};
+ghost use Rattle.json_view.specs.Members.{shown};
+ghost use Rattle.lsp_messages.specs.Parameters.{Answers, all, each};
+ghost use Rattle.lsp_messages.specs.Shapes.{params_of, document_in, is_null_at, given, checked_uri, folder_in, first_folder, root_among, own_root, folders_in, root_of, opened, place_in, place_at, edit_within, edit_in, edits_in, changed, closed};
+
+use crate::incoming::LspIn;
+use crate::parameters::{
+    Parameter, ParameterFault, coordinate, element, list, object, object_if, text, whole,
+};
+use file_uri::{UriFault, file_path};
+use hl_base::{Edit, Edits, Position, Text};
+use json_view::{opt_list, opt_text};
+use serde_json::{Map, Value};
+use std::alloc::Global;
+
+/// The parameters of a message, or the value that is handed in where there are none.
+fn params<'a>(message: &'a Value, none: &'a Value) -> Result<&'a Value, Parameter>
+    requires { view none.now ≡ object no_members }
+    ensures { shown (λ o. view o.now) result ≡ params_of (view message.now) }
+{
+    Ok(object_if(message, Parameter::Params)?.unwrap_or(none))
+}
+
+/// The URI of the folder that the client works in.
+#[tactic(auto, unfolding(crate::specs::Shapes::root_of))]
+pub fn root(alloc: Global, message: &Value) -> Result<Option<Text>, ParameterFault>
+    ensures { Answers result (root_of (view message.now)) }
+{
+    let none = Value::Object(Map::new(alloc));
+    let params = params(message, &none)?;
+    let own = own_root(alloc, params)?;
+    let folders = folders(params)?;
+    root_among(alloc, own, folders)
+}
+
+fn is_null_at(value: &Value, parameter: Parameter) -> bool
+    ensures { result ≡ is_null_at parameter (view value.now) }
+{
+    value
+        .get(parameter.name())
+        .and_then(Value::as_null)
+        .is_some()
+}
+
+fn given_text(value: &Value, parameter: Parameter) -> Result<Option<&str>, Parameter>
+    ensures { shown (option_map (λ s. s.now)) result ≡ given as_str parameter (view value.now) }
+{
+    if is_null_at(value, parameter) {
+        return Ok(None);
+    }
+    opt_text(value, parameter.name()).map_err(|_| parameter)
+}
+
+fn given_list<'a>(value: &'a Value, parameter: Parameter) -> Result<Option<&'a [Value]>, Parameter>
+    ensures { shown (option_map (λ l. items_view l.now)) result
+        ≡ given as_array parameter (view value.now) }
+{
+    if is_null_at(value, parameter) {
+        return Ok(None);
+    }
+    opt_list(value, parameter.name()).map_err(|_| parameter)
+}
+
+/// The client's own root.
+fn own_root<'a>(alloc: Global, params: &'a Value) -> Result<Option<&'a str>, ParameterFault>
+    ensures { Answers (shown (option_map (λ s. s.now)) result) (own_root (view params.now)) }
+{
+    let own = given_text(params, Parameter::RootUri)?;
+    if let Some(uri) = own {
+        check_uri(alloc, uri, Parameter::RootUri)?;
+    }
+    Ok(own)
+}
+
+fn folders(params: &Value) -> Result<&[Value], Parameter>
+    ensures { shown (λ l. map view l.now) result ≡ folders_in (view params.now) }
+{
+    match given_list(params, Parameter::WorkspaceFolders)? {
+        Some(folders) => Ok(folders),
+        None => Ok(&[]),
+    }
+}
+
+fn root_among(
+    alloc: Global,
+    own: Option<&str>,
+    folders: &[Value],
+) -> Result<Option<Text>, ParameterFault>
+    ensures { Answers result (root_among (option_map (λ s. s.now) own.entry) (map view folders.now)) }
+{
+    match own {
+        Some(uri) => {
+            check_folders(folders)?;
+            Ok(Some(Text::of(alloc, uri)?))
+        }
+        None => first_folder(alloc, folders),
+    }
+}
+
+fn first_folder(alloc: Global, folders: &[Value]) -> Result<Option<Text>, ParameterFault>
+    ensures { Answers result (first_folder (map view folders.now)) }
+{
+    let Some((first, others)) = folders.split_first() else {
+        return Ok(None);
+    };
+    let uri = folder(first)?;
+    check_uri(alloc, uri, Parameter::Uri)?;
+    check_folders(others)?;
+    Ok(Some(Text::of(alloc, uri)?))
+}
+
+fn check_folders(folders: &[Value]) -> Result<(), Parameter>
+    ensures { result ≡ all folder_in (map view folders.now) }
+{
+    for element in folders {
+        folder(element)?;
+    }
+    Ok(())
+}
+
+/// The URI of a folder.
+fn folder(value: &Value) -> Result<&str, Parameter>
+    ensures { shown (λ s. s.now) result ≡ folder_in (view value.now) }
+{
+    text(element(value, Parameter::WorkspaceFolders)?, Parameter::Uri)
+}
+
+fn check_uri(alloc: Global, uri: &str, parameter: Parameter) -> Result<(), ParameterFault>
+    ensures { Answers result (checked_uri parameter uri.now) }
+{
+    match file_path(alloc, uri) {
+        Ok(_) => Ok(()),
+        Err(UriFault::BadUri) => Err(ParameterFault::Bad(parameter)),
+        Err(UriFault::OutOfMemory) => Err(ParameterFault::OutOfMemory),
+    }
+}
+
+/// A document that is opened.
+#[tactic(auto, unfolding(crate::specs::Shapes::opened))]
+pub fn opened(alloc: Global, message: &Value) -> Result<LspIn, ParameterFault>
+    ensures { Answers result (opened (view message.now)) }
+{
+    let none = Value::Object(Map::new(alloc));
+    let document = document(message, &none)?;
+    let uri = text(document, Parameter::Uri)?;
+    let language = text(document, Parameter::LanguageId)?;
+    let version = whole(document, Parameter::Version)?;
+    let content = text(document, Parameter::Text)?;
+    Ok(LspIn::DidOpen {
+        uri: Text::of(alloc, uri)?,
+        language: Text::of(alloc, language)?,
+        version,
+        text: Text::of(alloc, content)?,
+    })
+}
+
+/// A document that is closed.
+#[tactic(auto, unfolding(crate::specs::Shapes::closed))]
+pub fn closed(alloc: Global, message: &Value) -> Result<LspIn, ParameterFault>
+    ensures { Answers result (closed (view message.now)) }
+{
+    let none = Value::Object(Map::new(alloc));
+    let uri = text(document(message, &none)?, Parameter::Uri)?;
+    Ok(LspIn::DidClose {
+        uri: Text::of(alloc, uri)?,
+    })
+}
+
+/// A document that is changed.
+#[tactic(auto, unfolding(crate::specs::Shapes::changed))]
+pub fn changed(alloc: Global, message: &Value) -> Result<LspIn, ParameterFault>
+    ensures { Answers result (changed (view message.now)) }
+{
+    let none = Value::Object(Map::new(alloc));
+    let params = params(message, &none)?;
+    let document = object(params, Parameter::TextDocument)?;
+    let uri = text(document, Parameter::Uri)?;
+    let version = whole(document, Parameter::Version)?;
+    let edits = edits(alloc, params)?;
+    Ok(LspIn::DidChange {
+        uri: Text::of(alloc, uri)?,
+        version,
+        edits,
+    })
+}
+
+/// The members that name a document.
+fn document<'a>(message: &'a Value, none: &'a Value) -> Result<&'a Value, Parameter>
+    requires { view none.now ≡ object no_members }
+    ensures { shown (λ o. view o.now) result ≡ document_in (view message.now) }
+{
+    object(params(message, none)?, Parameter::TextDocument)
+}
+
+fn edits(alloc: Global, params: &Value) -> Result<Edits, ParameterFault>
+    ensures { Answers result (edits_in (view params.now)) }
+{
+    edits_of(alloc, list(params, Parameter::ContentChanges)?)
+}
+
+fn edits_of(alloc: Global, changes: &[Value]) -> Result<Edits, ParameterFault>
+    ensures { Answers result (each edit_in (map view changes.now)) }
+{
+    let mut edits = Edits::new(alloc);
+    for change in changes {
+        edits.push(edit(alloc, change)?)?;
+    }
+    Ok(edits)
+}
+
+fn edit(alloc: Global, value: &Value) -> Result<Edit, ParameterFault>
+    ensures { Answers result (edit_in (view value.now)) }
+{
+    let change = element(value, Parameter::ContentChanges)?;
+    let replacement = text(change, Parameter::Text)?;
+    let range = object_if(change, Parameter::Range)?;
+    edit_within(alloc, replacement, range)
+}
+
+fn edit_within(
+    alloc: Global,
+    replacement: &str,
+    range: Option<&Value>,
+) -> Result<Edit, ParameterFault>
+    ensures { Answers result (edit_within replacement.now (option_map (λ o. view o.now) range.entry)) }
+{
+    let (from, to) = match range {
+        None => (None, None),
+        Some(range) => (
+            Some(place_at(range, Parameter::Start)?),
+            Some(place_at(range, Parameter::End)?),
+        ),
+    };
+    Ok(Edit {
+        from,
+        to,
+        text: Text::of(alloc, replacement)?,
+    })
+}
+
+fn place_at(range: &Value, parameter: Parameter) -> Result<Position, Parameter>
+    ensures { result ≡ place_at parameter (view range.now) }
+{
+    place(object(range, parameter)?)
+}
+
+fn place(value: &Value) -> Result<Position, Parameter>
+    ensures { result ≡ place_in (view value.now) }
+{
+    Ok(Position {
+        line: coordinate(value, Parameter::Line)?,
+        character: coordinate(value, Parameter::Character)?,
+    })
+}

@@ -1,0 +1,869 @@
+use crate::{
+    Diagnostic, Diagnostics, Head, Id, LspIn, LspOut, Refusal, Relation, Relations, Span,
+    initialize_result, is_response, read_lsp,
+};
+use hl_base::{Edit, Position, Text};
+use json_view::parse;
+use serde_json::Value;
+use std::alloc::{AllocError, Global};
+use std::test::Fail;
+
+/// An id in words: a text in quotes.
+fn id_words(alloc: Global, id: &Id) -> Result<String, AllocError> {
+    match id {
+        Id::Number(number) => format!(in alloc; "{number}"),
+        Id::Words(words) => {
+            let words = words.as_str();
+            format!(in alloc; "'{words}'")
+        }
+    }
+}
+
+/// A head in words: the method, and the id if there is one.
+fn head_words(alloc: Global, head: &Head) -> Result<String, AllocError> {
+    let method = head.method.as_str();
+    match &head.id {
+        None => format!(in alloc; "{method}"),
+        Some(id) => {
+            let id = id_words(alloc, id)?;
+            format!(in alloc; "{method} {id}")
+        }
+    }
+}
+
+fn place_words(alloc: Global, place: Option<Position>) -> Result<String, AllocError> {
+    match place {
+        None => String::from_str(alloc, "*"),
+        Some(place) => {
+            let (line, character) = (place.line, place.character);
+            format!(in alloc; "{line}.{character}")
+        }
+    }
+}
+
+fn edit_words(alloc: Global, edit: &Edit) -> Result<String, AllocError> {
+    let from = place_words(alloc, edit.from)?;
+    let to = place_words(alloc, edit.to)?;
+    let text = edit.text.as_str();
+    format!(in alloc; " {from}-{to}'{text}'")
+}
+
+fn change_words(
+    alloc: Global,
+    uri: &Text,
+    version: i32,
+    edits: &[Edit],
+) -> Result<String, AllocError> {
+    let uri = uri.as_str();
+    let mut words = format!(in alloc; "change {uri} {version}")?;
+    for edit in edits {
+        words.push_str(edit_words(alloc, edit)?.as_str())?;
+    }
+    Ok(words)
+}
+
+/// A message in words.
+fn message_words(alloc: Global, message: &LspIn) -> Result<String, AllocError> {
+    match message {
+        LspIn::Initialize { id, root } => {
+            let id = id_words(alloc, id)?;
+            let root = match root {
+                None => "-",
+                Some(root) => root.as_str(),
+            };
+            format!(in alloc; "initialize {id} {root}")
+        }
+        LspIn::Shutdown { id } => {
+            let id = id_words(alloc, id)?;
+            format!(in alloc; "shutdown {id}")
+        }
+        LspIn::Initialized => String::from_str(alloc, "initialized"),
+        LspIn::Exit => String::from_str(alloc, "exit"),
+        LspIn::DidOpen {
+            uri,
+            language,
+            version,
+            text,
+        } => {
+            let (uri, language, text) = (uri.as_str(), language.as_str(), text.as_str());
+            format!(in alloc; "open {uri} {language} {version} '{text}'")
+        }
+        LspIn::DidChange {
+            uri,
+            version,
+            edits,
+        } => change_words(alloc, uri, *version, edits.as_slice()),
+        LspIn::DidClose { uri } => {
+            let uri = uri.as_str();
+            format!(in alloc; "close {uri}")
+        }
+        LspIn::DidSave => String::from_str(alloc, "save"),
+        LspIn::DidChangeConfiguration => String::from_str(alloc, "configuration"),
+    }
+}
+
+/// What is read, in words.
+fn told(alloc: Global, read: &Result<LspIn, Refusal>) -> Result<String, AllocError> {
+    match read {
+        Ok(message) => message_words(alloc, message),
+        Err(Refusal::NotRequest) => String::from_str(alloc, "NotRequest"),
+        Err(Refusal::UnknownMethod(head)) => {
+            let head = head_words(alloc, head)?;
+            format!(in alloc; "{head}: UnknownMethod")
+        }
+        Err(Refusal::BadParams(head, name)) => {
+            let head = head_words(alloc, head)?;
+            let name = name.as_str();
+            format!(in alloc; "{head}: BadParams({name})")
+        }
+        Err(Refusal::OutOfMemory) => String::from_str(alloc, "OutOfMemory"),
+    }
+}
+
+/// Bodies, each with what it is, in words.
+const BODIES: [(&str, &str); 52] = [
+    (
+        r#"{"id":1,"jsonrpc":"2.0","method":"initialize","params":{}}"#,
+        "initialize 1 -",
+    ),
+    (
+        r#" { "method" : "initialize", "jsonrpc" : "2\u002e0", "id" : "\u0061\"" } "#,
+        "initialize 'a\"' -",
+    ),
+    (
+        r#"{"id":2,"jsonrpc":"2.0","method":"shutdown"}"#,
+        "shutdown 2",
+    ),
+    (
+        r#"{"id":-2147483648,"jsonrpc":"2.0","method":"shutdown","params":7}"#,
+        "shutdown -2147483648",
+    ),
+    (
+        r#"{"id":2147483647,"jsonrpc":"2.0","method":"shutdown","params":null}"#,
+        "shutdown 2147483647",
+    ),
+    (
+        r#"{"id":"","jsonrpc":"2.0","method":"shutdown"}"#,
+        "shutdown ''",
+    ),
+    (r#"{"jsonrpc":"2.0","method":"initialized"}"#, "initialized"),
+    (
+        r#"{"jsonrpc":"2.0","method":"initialized","params":[]}"#,
+        "initialized",
+    ),
+    (r#"{"jsonrpc":"2.0","method":"exit","params":"x"}"#, "exit"),
+    (
+        r#"{"jsonrpc":"2.0","method":"textDocument/didSave","params":5}"#,
+        "save",
+    ),
+    (
+        r#"{"jsonrpc":"2.0","method":"workspace/didChangeConfiguration","params":null}"#,
+        "configuration",
+    ),
+    // The last of two members of one name counts.
+    (
+        r#"{"id":1,"jsonrpc":"1.0","method":"exit","id":2,"method":"shutdown","jsonrpc":"2.0"}"#,
+        "shutdown 2",
+    ),
+    (
+        r#"{"id":1,"jsonrpc":"2.0","method":"shutdown","id":null}"#,
+        "NotRequest",
+    ),
+    // Ids that are none.
+    (
+        r#"{"id":null,"jsonrpc":"2.0","method":"initialize"}"#,
+        "NotRequest",
+    ),
+    (
+        r#"{"id":1.5,"jsonrpc":"2.0","method":"shutdown"}"#,
+        "NotRequest",
+    ),
+    (
+        r#"{"id":1.0,"jsonrpc":"2.0","method":"shutdown"}"#,
+        "NotRequest",
+    ),
+    (
+        r#"{"id":1e2,"jsonrpc":"2.0","method":"shutdown"}"#,
+        "NotRequest",
+    ),
+    (
+        r#"{"id":-0,"jsonrpc":"2.0","method":"shutdown"}"#,
+        "NotRequest",
+    ),
+    (
+        r#"{"id":2147483648,"jsonrpc":"2.0","method":"shutdown"}"#,
+        "NotRequest",
+    ),
+    (
+        r#"{"id":-2147483649,"jsonrpc":"2.0","method":"shutdown"}"#,
+        "NotRequest",
+    ),
+    (
+        r#"{"id":9223372036854775807,"jsonrpc":"2.0","method":"shutdown"}"#,
+        "NotRequest",
+    ),
+    (
+        r#"{"id":18446744073709551616,"jsonrpc":"2.0","method":"shutdown"}"#,
+        "NotRequest",
+    ),
+    (
+        r#"{"id":true,"jsonrpc":"2.0","method":"shutdown"}"#,
+        "NotRequest",
+    ),
+    (
+        r#"{"id":[1],"jsonrpc":"2.0","method":"shutdown"}"#,
+        "NotRequest",
+    ),
+    (
+        r#"{"id":{},"jsonrpc":"2.0","method":"foo/bar"}"#,
+        "NotRequest",
+    ),
+    // No request and no notification.
+    (r#"{"id":6,"method":"initialize"}"#, "NotRequest"),
+    (
+        r#"{"id":6,"jsonrpc":2.0,"method":"initialize"}"#,
+        "NotRequest",
+    ),
+    (
+        r#"{"id":6,"jsonrpc":"2.00","method":"initialize"}"#,
+        "NotRequest",
+    ),
+    (
+        r#"{"id":6,"jsonrpc":null,"method":"initialize"}"#,
+        "NotRequest",
+    ),
+    (r#"{"id":6,"jsonrpc":"2.0"}"#, "NotRequest"),
+    (r#"{"id":6,"jsonrpc":"2.0","method":null}"#, "NotRequest"),
+    (r#"{"id":6,"jsonrpc":"2.0","method":5}"#, "NotRequest"),
+    (r#"{"jsonrpc":"2.0","method":["exit"]}"#, "NotRequest"),
+    (r#"{"jsonrpc":"2.0","result":1,"id":1}"#, "NotRequest"),
+    ("[]", "NotRequest"),
+    (
+        r#"[{"id":1,"jsonrpc":"2.0","method":"shutdown"}]"#,
+        "NotRequest",
+    ),
+    ("{}", "NotRequest"),
+    ("null", "NotRequest"),
+    ("\"exit\"", "NotRequest"),
+    ("1", "NotRequest"),
+    // Methods that are not known, or not in this form.
+    (
+        r#"{"id":"x","jsonrpc":"2.0","method":"foo/bar"}"#,
+        "foo/bar 'x': UnknownMethod",
+    ),
+    (
+        r#"{"jsonrpc":"2.0","method":"x/y","params":5}"#,
+        "x/y: UnknownMethod",
+    ),
+    (r#"{"jsonrpc":"2.0","method":"$/x"}"#, "$/x: UnknownMethod"),
+    (r#"{"jsonrpc":"2.0","method":""}"#, ": UnknownMethod"),
+    (
+        r#"{"jsonrpc":"2.0","method":"Exit"}"#,
+        "Exit: UnknownMethod",
+    ),
+    (
+        r#"{"jsonrpc":"2.0","method":"exit\u0000"}"#,
+        "exit\0: UnknownMethod",
+    ),
+    (
+        r#"{"jsonrpc":"2.0","method":"\ud83d\ude00é"}"#,
+        "😀é: UnknownMethod",
+    ),
+    (
+        r#"{"id":7,"jsonrpc":"2.0","method":"exit"}"#,
+        "exit 7: UnknownMethod",
+    ),
+    (
+        r#"{"id":8,"jsonrpc":"2.0","method":"textDocument/didOpen"}"#,
+        "textDocument/didOpen 8: UnknownMethod",
+    ),
+    (
+        r#"{"id":8,"jsonrpc":"2.0","method":"initialized"}"#,
+        "initialized 8: UnknownMethod",
+    ),
+    (
+        r#"{"jsonrpc":"2.0","method":"shutdown"}"#,
+        "shutdown: UnknownMethod",
+    ),
+    (
+        r#"{"jsonrpc":"2.0","method":"initialize","params":5}"#,
+        "initialize: UnknownMethod",
+    ),
+];
+
+#[test]
+fn reads_bodies(rt: HostRuntime) -> Result<(), Fail> {
+    let alloc = rt.alloc();
+    for (body, wanted) in BODIES {
+        let read = read_lsp(alloc, &parse(alloc, body.as_bytes())?);
+        assert!(rt; told(alloc, &read)?.as_str() == wanted, "{body}");
+    }
+    Ok(())
+}
+
+/// Parameters of initialize, each with the root, or the parameter that is named.
+const ROOTS: [(&str, &str); 27] = [
+    (r#"{"rootUri":"file:///w"}"#, "file:///w"),
+    (r#"{"rootUri":"file:///w/a%20b"}"#, "file:///w/a%20b"),
+    (r#"{"rootUri":null}"#, "-"),
+    (r#"{"rootUri":null,"workspaceFolders":null}"#, "-"),
+    (r#"{"workspaceFolders":[]}"#, "-"),
+    (
+        r#"{"workspaceFolders":[{"uri":"file:///f","name":"f"},{"uri":"http://x"}]}"#,
+        "file:///f",
+    ),
+    (
+        r#"{"rootUri":"file:///w","workspaceFolders":[{"uri":"file:///f"}]}"#,
+        "file:///w",
+    ),
+    (
+        r#"{"rootUri":"file:///w","workspaceFolders":[{"uri":"untitled:x"}]}"#,
+        "file:///w",
+    ),
+    (
+        r#"{"rootPath":"/w","capabilities":{},"processId":1.5,"trace":"off"}"#,
+        "-",
+    ),
+    ("null", "?params"),
+    ("[]", "?params"),
+    ("5", "?params"),
+    (r#""x""#, "?params"),
+    (r#"{"rootUri":5}"#, "?rootUri"),
+    (r#"{"rootUri":""}"#, "?rootUri"),
+    (r#"{"rootUri":"http://x/w"}"#, "?rootUri"),
+    (r#"{"rootUri":"/w"}"#, "?rootUri"),
+    (r#"{"rootUri":["file:///w"]}"#, "?rootUri"),
+    (
+        r#"{"rootUri":"untitled:x","workspaceFolders":5}"#,
+        "?rootUri",
+    ),
+    (r#"{"workspaceFolders":5}"#, "?workspaceFolders"),
+    (
+        r#"{"workspaceFolders":{"uri":"file:///f"}}"#,
+        "?workspaceFolders",
+    ),
+    (r#"{"workspaceFolders":["file:///f"]}"#, "?workspaceFolders"),
+    (
+        r#"{"workspaceFolders":[{"uri":"file:///f"},null]}"#,
+        "?workspaceFolders",
+    ),
+    (r#"{"workspaceFolders":[{"name":"f"}]}"#, "?uri"),
+    (r#"{"workspaceFolders":[{"uri":"http://x"},5]}"#, "?uri"),
+    (
+        r#"{"rootUri":"file:///w","workspaceFolders":[{"uri":null}]}"#,
+        "?uri",
+    ),
+    (
+        r#"{"rootUri":"file:///w","workspaceFolders":[{"uri":"file:///f"},{"uri":1}]}"#,
+        "?uri",
+    ),
+];
+
+#[test]
+fn reads_the_root(rt: HostRuntime) -> Result<(), Fail> {
+    let alloc = rt.alloc();
+    for (params, wanted) in ROOTS {
+        let body = format!(in alloc;
+            "{{\"id\":5,\"jsonrpc\":\"2.0\",\"method\":\"initialize\",\"params\":{params}}}"
+        )?;
+        let read = read_lsp(alloc, &parse(alloc, body.as_bytes())?);
+        let wanted = match wanted.strip_prefix("?") {
+            Some(name) => format!(in alloc; "initialize 5: BadParams({name})")?,
+            None => format!(in alloc; "initialize 5 {wanted}")?,
+        };
+        assert!(rt; told(alloc, &read)?.as_str() == wanted.as_str(), "{params}");
+    }
+    Ok(())
+}
+
+/// Methods and parameters, each with what the notification is, in words, or the parameter that is named.
+const NOTIFICATIONS: [(&str, &str, &str); 60] = [
+    (
+        "didOpen",
+        r#"{"textDocument":{"languageId":"hlasm","text":" END\n","uri":"file:///w/a","version":1}}"#,
+        "open file:///w/a hlasm 1 ' END\n'",
+    ),
+    (
+        "didOpen",
+        r#"{"textDocument":{"version":-2147483648,"x":{},"uri":"untitled:x","text":"","languageId":""}}"#,
+        "open untitled:x  -2147483648 ''",
+    ),
+    (
+        "didOpen",
+        r#"{"textDocument":{"languageId":"hlasm","text":"\u0000\ud83d\ude00","uri":"","version":2147483647,"version":2}}"#,
+        "open  hlasm 2 '\0😀'",
+    ),
+    ("didOpen", "null", "?params"),
+    ("didOpen", "[]", "?params"),
+    ("didOpen", "{}", "?textDocument"),
+    ("didOpen", r#"{"textDocument":null}"#, "?textDocument"),
+    ("didOpen", r#"{"textDocument":[]}"#, "?textDocument"),
+    ("didOpen", r#"{"textDocument":{}}"#, "?uri"),
+    ("didOpen", r#"{"textDocument":{"uri":null}}"#, "?uri"),
+    (
+        "didOpen",
+        r#"{"textDocument":{"uri":7,"languageId":7,"version":"1"}}"#,
+        "?uri",
+    ),
+    (
+        "didOpen",
+        r#"{"textDocument":{"uri":"x","version":"1"}}"#,
+        "?languageId",
+    ),
+    (
+        "didOpen",
+        r#"{"textDocument":{"uri":"x","languageId":false,"version":1}}"#,
+        "?languageId",
+    ),
+    (
+        "didOpen",
+        r#"{"textDocument":{"uri":"x","languageId":"y","text":5}}"#,
+        "?version",
+    ),
+    (
+        "didOpen",
+        r#"{"textDocument":{"uri":"x","languageId":"y","version":null,"text":""}}"#,
+        "?version",
+    ),
+    (
+        "didOpen",
+        r#"{"textDocument":{"uri":"x","languageId":"y","version":1.0,"text":""}}"#,
+        "?version",
+    ),
+    (
+        "didOpen",
+        r#"{"textDocument":{"uri":"x","languageId":"y","version":1e2,"text":""}}"#,
+        "?version",
+    ),
+    (
+        "didOpen",
+        r#"{"textDocument":{"uri":"x","languageId":"y","version":-0,"text":""}}"#,
+        "?version",
+    ),
+    (
+        "didOpen",
+        r#"{"textDocument":{"uri":"x","languageId":"y","version":2147483648,"text":""}}"#,
+        "?version",
+    ),
+    (
+        "didOpen",
+        r#"{"textDocument":{"uri":"x","languageId":"y","version":1}}"#,
+        "?text",
+    ),
+    (
+        "didOpen",
+        r#"{"textDocument":{"uri":"x","languageId":"y","version":1,"text":null}}"#,
+        "?text",
+    ),
+    (
+        "didChange",
+        r#"{"textDocument":{"uri":"x","version":2},"contentChanges":[]}"#,
+        "change x 2",
+    ),
+    (
+        "didChange",
+        r#"{"textDocument":{"uri":"x","version":2},"contentChanges":[{"text":"all"}]}"#,
+        "change x 2 *-*'all'",
+    ),
+    (
+        "didChange",
+        r#"{"textDocument":{"uri":"x","version":2},"contentChanges":[{"range":{"end":{"line":3,"character":4},"start":{"line":1,"character":2}},"rangeLength":9,"text":"é"},{"text":""}]}"#,
+        "change x 2 1.2-3.4'é' *-*''",
+    ),
+    (
+        "didChange",
+        r#"{"textDocument":{"uri":"x","version":2},"contentChanges":[{"range":{"end":{"line":0,"character":0},"start":{"line":2147483647,"character":2147483647}},"text":""}]}"#,
+        "change x 2 2147483647.2147483647-0.0''",
+    ),
+    ("didChange", "5", "?params"),
+    ("didChange", r#"{"contentChanges":[]}"#, "?textDocument"),
+    (
+        "didChange",
+        r#"{"textDocument":{"version":null},"contentChanges":[]}"#,
+        "?uri",
+    ),
+    (
+        "didChange",
+        r#"{"textDocument":{"uri":"x"},"contentChanges":5}"#,
+        "?version",
+    ),
+    (
+        "didChange",
+        r#"{"textDocument":{"uri":"x","version":null},"contentChanges":[]}"#,
+        "?version",
+    ),
+    (
+        "didChange",
+        r#"{"textDocument":{"uri":"x","version":2}}"#,
+        "?contentChanges",
+    ),
+    (
+        "didChange",
+        r#"{"textDocument":{"uri":"x","version":2},"contentChanges":null}"#,
+        "?contentChanges",
+    ),
+    (
+        "didChange",
+        r#"{"textDocument":{"uri":"x","version":2},"contentChanges":{"text":""}}"#,
+        "?contentChanges",
+    ),
+    (
+        "didChange",
+        r#"{"textDocument":{"uri":"x","version":2},"contentChanges":["text"]}"#,
+        "?contentChanges",
+    ),
+    (
+        "didChange",
+        r#"{"textDocument":{"uri":"x","version":2},"contentChanges":[{"text":""},null]}"#,
+        "?contentChanges",
+    ),
+    (
+        "didChange",
+        r#"{"textDocument":{"uri":"x","version":2},"contentChanges":[{}]}"#,
+        "?text",
+    ),
+    (
+        "didChange",
+        r#"{"textDocument":{"uri":"x","version":2},"contentChanges":[{"text":1,"range":1},5]}"#,
+        "?text",
+    ),
+    (
+        "didChange",
+        r#"{"textDocument":{"uri":"x","version":2},"contentChanges":[{"text":"","range":null}]}"#,
+        "?range",
+    ),
+    (
+        "didChange",
+        r#"{"textDocument":{"uri":"x","version":2},"contentChanges":[{"text":"","range":[]},{}]}"#,
+        "?range",
+    ),
+    (
+        "didChange",
+        r#"{"textDocument":{"uri":"x","version":2},"contentChanges":[{"text":"","range":{}}]}"#,
+        "?start",
+    ),
+    (
+        "didChange",
+        r#"{"textDocument":{"uri":"x","version":2},"contentChanges":[{"text":"","range":{"start":null,"end":{}}}]}"#,
+        "?start",
+    ),
+    (
+        "didChange",
+        r#"{"textDocument":{"uri":"x","version":2},"contentChanges":[{"text":"","range":{"start":{"line":0,"character":0}}}]}"#,
+        "?end",
+    ),
+    (
+        "didChange",
+        r#"{"textDocument":{"uri":"x","version":2},"contentChanges":[{"text":"","range":{"start":{"line":0,"character":0},"end":0}}]}"#,
+        "?end",
+    ),
+    (
+        "didChange",
+        r#"{"textDocument":{"uri":"x","version":2},"contentChanges":[{"text":"","range":{"start":{"character":0},"end":{}}}]}"#,
+        "?line",
+    ),
+    (
+        "didChange",
+        r#"{"textDocument":{"uri":"x","version":2},"contentChanges":[{"text":"","range":{"start":{"line":"0","character":"0"},"end":{}}}]}"#,
+        "?line",
+    ),
+    (
+        "didChange",
+        r#"{"textDocument":{"uri":"x","version":2},"contentChanges":[{"text":"","range":{"start":{"line":0,"character":0},"end":{"line":-1,"character":0}}}]}"#,
+        "?line",
+    ),
+    (
+        "didChange",
+        r#"{"textDocument":{"uri":"x","version":2},"contentChanges":[{"text":"","range":{"start":{"line":0,"character":0},"end":{"line":2147483648,"character":0}}}]}"#,
+        "?line",
+    ),
+    (
+        "didChange",
+        r#"{"textDocument":{"uri":"x","version":2},"contentChanges":[{"text":"","range":{"start":{"line":0},"end":{"line":0,"character":0}}}]}"#,
+        "?character",
+    ),
+    (
+        "didChange",
+        r#"{"textDocument":{"uri":"x","version":2},"contentChanges":[{"text":"","range":{"start":{"line":0,"character":-0},"end":{}}}]}"#,
+        "?character",
+    ),
+    (
+        "didChange",
+        r#"{"textDocument":{"uri":"x","version":2},"contentChanges":[{"text":"","range":{"start":{"line":0,"character":1.0},"end":{}}}]}"#,
+        "?character",
+    ),
+    (
+        "didChange",
+        r#"{"textDocument":{"uri":"x","version":2},"contentChanges":[{"text":""},{"text":"","range":{"start":{"line":0,"character":0},"end":{"line":0,"character":4294967296}}}]}"#,
+        "?character",
+    ),
+    (
+        "didChange",
+        r#"{"textDocument":{"uri":"x","version":2},"contentChanges":[{"text":"","range":{"end":{"line":0,"character":0}}},5]}"#,
+        "?start",
+    ),
+    (
+        "didClose",
+        r#"{"textDocument":{"uri":"file:///a%ff","version":"x"}}"#,
+        "close file:///a%ff",
+    ),
+    ("didClose", "false", "?params"),
+    ("didClose", "{}", "?textDocument"),
+    ("didClose", r#"{"textDocument":"x"}"#, "?textDocument"),
+    ("didClose", r#"{"textDocument":{}}"#, "?uri"),
+    ("didClose", r#"{"textDocument":{"uri":{}}}"#, "?uri"),
+    (
+        "didClose",
+        r#"{"textDocument":{"uri":"x"},"textDocument":{}}"#,
+        "?uri",
+    ),
+    (
+        "didClose",
+        r#"{"uri":"x","textDocument":{"Uri":"x"}}"#,
+        "?uri",
+    ),
+];
+
+#[test]
+fn reads_notifications(rt: HostRuntime) -> Result<(), Fail> {
+    let alloc = rt.alloc();
+    for (method, params, wanted) in NOTIFICATIONS {
+        let body = format!(in alloc;
+            "{{\"jsonrpc\":\"2.0\",\"method\":\"textDocument/{method}\",\"params\":{params}}}"
+        )?;
+        let read = read_lsp(alloc, &parse(alloc, body.as_bytes())?);
+        let wanted = match wanted.strip_prefix("?") {
+            Some(name) => format!(in alloc; "textDocument/{method}: BadParams({name})")?,
+            None => String::from_str(alloc, wanted)?,
+        };
+        assert!(rt; told(alloc, &read)?.as_str() == wanted.as_str(), "{params}");
+    }
+    for (method, name) in [
+        ("didOpen", "textDocument"),
+        ("didChange", "textDocument"),
+        ("didClose", "textDocument"),
+    ] {
+        let body = format!(in alloc;
+            "{{\"jsonrpc\":\"2.0\",\"method\":\"textDocument/{method}\"}}"
+        )?;
+        let read = read_lsp(alloc, &parse(alloc, body.as_bytes())?);
+        let wanted = format!(in alloc; "textDocument/{method}: BadParams({name})")?;
+        assert!(rt; told(alloc, &read)?.as_str() == wanted.as_str(), "{method}");
+    }
+    Ok(())
+}
+
+#[test]
+fn tells_answers_to_requests_of_ours(rt: HostRuntime) -> Result<(), Fail> {
+    let alloc = rt.alloc();
+    for (body, wanted) in [
+        (r#"{"result":1}"#, true),
+        (r#"{"error":null}"#, true),
+        (r#"{"error":1,"id":1,"jsonrpc":"2.0","result":2}"#, true),
+        (r#"{"method":5,"result":1}"#, false),
+        (r#"{"method":null,"error":{}}"#, false),
+        (r#"{"id":1,"jsonrpc":"2.0"}"#, false),
+        (r#"[{"result":1}]"#, false),
+        ("{}", false),
+        ("null", false),
+    ] {
+        let value = parse(alloc, body.as_bytes())?;
+        assert!(rt; is_response(&value) == wanted, "{body}");
+    }
+    Ok(())
+}
+
+/// Characters that are escaped, and some that are not.
+const HARD: &str = "a \"b\" \\ / é 😀 \u{2028} \u{7f} \0\u{1}\u{8}\t\n\u{b}\u{c}\r\u{1b}\u{1f}";
+
+fn span(from: (u32, u32), to: (u32, u32)) -> Span {
+    Span {
+        start: Position {
+            line: from.0,
+            character: from.1,
+        },
+        end: Position {
+            line: to.0,
+            character: to.1,
+        },
+    }
+}
+
+fn words(alloc: Global, text: &str) -> Result<Id, Fail> {
+    Ok(Id::Words(Text::of(alloc, text)?))
+}
+
+/// Whether the body of a message is these bytes.
+fn writes(alloc: Global, message: &LspOut, wanted: &str) -> Result<bool, Fail> {
+    Ok(message.text(alloc)?.as_slice() == wanted.as_bytes())
+}
+
+#[test]
+fn writes_replies(rt: HostRuntime) -> Result<(), Fail> {
+    let alloc = rt.alloc();
+    for (id, result, wanted) in [
+        (
+            Id::Number(2),
+            Value::Null,
+            r#"{"id":2,"jsonrpc":"2.0","result":null}"#,
+        ),
+        (
+            Id::Number(-2147483648),
+            parse(alloc, br#"[1,"x",{"b":1,"a":[]}]"#)?,
+            r#"{"id":-2147483648,"jsonrpc":"2.0","result":[1,"x",{"a":[],"b":1}]}"#,
+        ),
+        (
+            words(alloc, HARD)?,
+            Value::Bool(true),
+            "{\"id\":\"a \\\"b\\\" \\\\ / é 😀 \u{2028} \u{7f} \\u0000\\u0001\\b\\t\\n\\u000b\\f\\r\\u001b\\u001f\",\"jsonrpc\":\"2.0\",\"result\":true}",
+        ),
+        (
+            Id::Number(1),
+            initialize_result(alloc)?,
+            r#"{"id":1,"jsonrpc":"2.0","result":{"capabilities":{"definitionProvider":true,"documentSymbolProvider":true,"hoverProvider":true,"positionEncoding":"utf-16","referencesProvider":true,"textDocumentSync":{"change":2,"openClose":true}},"serverInfo":{"name":"hlasm_ls","version":"1"}}}"#,
+        ),
+    ] {
+        let reply = LspOut::Reply { id, result };
+        assert!(rt; writes(alloc, &reply, wanted)?, "{wanted}");
+    }
+    Ok(())
+}
+
+#[test]
+fn writes_faults_and_logs(rt: HostRuntime) -> Result<(), Fail> {
+    let alloc = rt.alloc();
+    for (id, code, message, wanted) in [
+        (
+            None,
+            -32700,
+            "parse error",
+            r#"{"error":{"code":-32700,"message":"parse error"},"id":null,"jsonrpc":"2.0"}"#,
+        ),
+        (
+            Some(words(alloc, "x")?),
+            -32601,
+            "unknown method",
+            r#"{"error":{"code":-32601,"message":"unknown method"},"id":"x","jsonrpc":"2.0"}"#,
+        ),
+        (
+            Some(Id::Number(9)),
+            2147483647,
+            HARD,
+            "{\"error\":{\"code\":2147483647,\"message\":\"a \\\"b\\\" \\\\ / é 😀 \u{2028} \u{7f} \\u0000\\u0001\\b\\t\\n\\u000b\\f\\r\\u001b\\u001f\"},\"id\":9,\"jsonrpc\":\"2.0\"}",
+        ),
+    ] {
+        let message = Text::of(alloc, message)?;
+        let fault = LspOut::Fault { id, code, message };
+        assert!(rt; writes(alloc, &fault, wanted)?, "{wanted}");
+    }
+    for (message, wanted) in [
+        (
+            "",
+            r#"{"jsonrpc":"2.0","method":"window/logMessage","params":{"message":"","type":2}}"#,
+        ),
+        (
+            HARD,
+            "{\"jsonrpc\":\"2.0\",\"method\":\"window/logMessage\",\"params\":{\"message\":\"a \\\"b\\\" \\\\ / é 😀 \u{2028} \u{7f} \\u0000\\u0001\\b\\t\\n\\u000b\\f\\r\\u001b\\u001f\",\"type\":2}}",
+        ),
+    ] {
+        let message = Text::of(alloc, message)?;
+        assert!(rt;
+            writes(alloc, &LspOut::Log { message }, wanted)?,
+            "{wanted}"
+        );
+    }
+    Ok(())
+}
+
+/// A report that speaks of no other place.
+fn missing_end(alloc: Global) -> Result<Diagnostic, Fail> {
+    Ok(Diagnostic {
+        code: Text::of(alloc, "H003")?,
+        message: Text::of(alloc, "END statement is missing")?,
+        range: span((0, 0), (0, 0)),
+        severity: 2,
+        related: Relations::new(alloc),
+    })
+}
+
+/// A report that speaks of two other places.
+fn hard_report(alloc: Global) -> Result<Diagnostic, Fail> {
+    let mut related = Relations::new(alloc);
+    related.push(Relation {
+        uri: Text::of(alloc, "file:///m/%C3%A9")?,
+        range: span((1, 2), (3, 4)),
+        message: Text::of(alloc, "macro OUTER")?,
+    })?;
+    related.push(Relation {
+        uri: Text::new(alloc),
+        range: span((0, 0), (0, 0)),
+        message: Text::of(alloc, "copy \"C\"")?,
+    })?;
+    Ok(Diagnostic {
+        code: Text::new(alloc),
+        message: Text::of(alloc, HARD)?,
+        range: span((4294967295, 1), (2, 3)),
+        severity: 1,
+        related,
+    })
+}
+
+#[test]
+fn writes_lists(rt: HostRuntime) -> Result<(), Fail> {
+    let alloc = rt.alloc();
+    for (uri, version, reports, wanted) in [
+        (
+            "file:///w/a",
+            None,
+            0u8,
+            r#"{"jsonrpc":"2.0","method":"textDocument/publishDiagnostics","params":{"diagnostics":[],"uri":"file:///w/a"}}"#,
+        ),
+        (
+            "file:///w/a",
+            Some(-3),
+            0,
+            r#"{"jsonrpc":"2.0","method":"textDocument/publishDiagnostics","params":{"diagnostics":[],"uri":"file:///w/a","version":-3}}"#,
+        ),
+        (
+            "file:///w/a.hlasm",
+            Some(1),
+            1,
+            r#"{"jsonrpc":"2.0","method":"textDocument/publishDiagnostics","params":{"diagnostics":[{"code":"H003","message":"END statement is missing","range":{"end":{"character":0,"line":0},"start":{"character":0,"line":0}},"severity":2,"source":"hlasm_ls"}],"uri":"file:///w/a.hlasm","version":1}}"#,
+        ),
+        (
+            "é",
+            Some(2147483647),
+            2,
+            "{\"jsonrpc\":\"2.0\",\"method\":\"textDocument/publishDiagnostics\",\"params\":{\"diagnostics\":[{\"code\":\"\",\"message\":\"a \\\"b\\\" \\\\ / é 😀 \u{2028} \u{7f} \\u0000\\u0001\\b\\t\\n\\u000b\\f\\r\\u001b\\u001f\",\"range\":{\"end\":{\"character\":3,\"line\":2},\"start\":{\"character\":1,\"line\":4294967295}},\"relatedInformation\":[{\"location\":{\"range\":{\"end\":{\"character\":4,\"line\":3},\"start\":{\"character\":2,\"line\":1}},\"uri\":\"file:///m/%C3%A9\"},\"message\":\"macro OUTER\"},{\"location\":{\"range\":{\"end\":{\"character\":0,\"line\":0},\"start\":{\"character\":0,\"line\":0}},\"uri\":\"\"},\"message\":\"copy \\\"C\\\"\"}],\"severity\":1,\"source\":\"hlasm_ls\"},{\"code\":\"H003\",\"message\":\"END statement is missing\",\"range\":{\"end\":{\"character\":0,\"line\":0},\"start\":{\"character\":0,\"line\":0}},\"severity\":2,\"source\":\"hlasm_ls\"}],\"uri\":\"é\",\"version\":2147483647}}",
+        ),
+    ] {
+        let mut diagnostics = Diagnostics::new(alloc);
+        if reports > 1 {
+            diagnostics.push(hard_report(alloc)?)?;
+        }
+        if reports > 0 {
+            diagnostics.push(missing_end(alloc)?)?;
+        }
+        let uri = Text::of(alloc, uri)?;
+        let list = LspOut::Published {
+            uri,
+            version,
+            diagnostics,
+        };
+        assert!(rt; writes(alloc, &list, wanted)?, "{wanted}");
+    }
+    Ok(())
+}
+
+#[test]
+fn copies_ids(rt: HostRuntime) -> Result<(), Fail> {
+    let alloc = rt.alloc();
+    for (id, wanted) in [
+        (Id::Number(-7), "-7"),
+        (words(alloc, "x \"é\"")?, "'x \"é\"'"),
+    ] {
+        let copy = id.copy(alloc)?;
+        assert!(rt; id_words(alloc, &copy)?.as_str() == wanted, "{wanted}");
+    }
+    Ok(())
+}
