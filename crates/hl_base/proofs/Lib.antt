@@ -2,3 +2,4 @@ pub mod SymbolLaws
 pub mod LineLaws
 pub mod UnitLaws
 pub mod OrderLaws
+pub mod QuotingLaws

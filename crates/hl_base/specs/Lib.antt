@@ -2,3 +2,4 @@ pub mod Symbols
 pub mod Texts
 pub mod Remaining
 pub mod Order
+pub mod Quoting

@@ -1,8 +1,9 @@
 use crate::{
     Answer, Declaration, Declarations, Edit, Edits, Frame, FrameKind, Frames, Key, Line, Name,
-    Note, Notes, Origin, PathId, Position, SetKind, SetValue, Severity, Text, compare, ebcdic,
-    lines, units,
+    Nesting, Note, Notes, Origin, OutOfMemory, PathId, Position, SetKind, SetValue, Severity, Text,
+    compare, ebcdic, lines, units,
 };
+use std::alloc::Global;
 use std::cmp::Ordering;
 use std::test::Fail;
 
@@ -225,5 +226,72 @@ fn plain_values_are_copied(rt: HostRuntime) -> Result<(), Fail> {
         text: Text::of(alloc, "")?,
     })?;
     assert_eq!(rt; edits.as_slice().len(), 1);
+    Ok(())
+}
+
+/// What each character of a text stands in: `q` within quotes, else how many parentheses are open.
+fn nesting_of(alloc: Global, text: &str) -> Result<String, OutOfMemory> {
+    let mut nesting = Nesting::new();
+    let mut seen = String::new(alloc);
+    for c in text.chars() {
+        if nesting.is_quoted(c) {
+            seen.push('q')?;
+        } else {
+            seen.push(match nesting.depth() {
+                0 => '0',
+                1 => '1',
+                _ => '2',
+            })?;
+        }
+        nesting.read(c)?;
+    }
+    seen.push(if nesting.is_quoted(' ') { '*' } else { '.' })?;
+    Ok(seen)
+}
+
+#[test]
+fn apostrophes_open_texts_but_not_those_of_attributes(rt: HostRuntime) -> Result<(), Fail> {
+    for (text, want) in [
+        ("", "."),
+        ("'A B'C", "0qqqq0."),
+        // two apostrophes within quotes are text
+        ("'A''B'", "0qq0qq."),
+        ("''", "0q."),
+        ("'", "0*"),
+        // each attribute letter, in either case, before each kind of character
+        ("L'A", "000."),
+        ("d'$", "000."),
+        ("I'_", "000."),
+        ("K'&A", "0000."),
+        ("N'#", "000."),
+        ("O'@", "000."),
+        ("s'z", "000."),
+        ("T'=F", "0000."),
+        // no attribute's: another letter, no symbol behind, a symbol or an ampersand before
+        ("C'A", "00q*"),
+        ("X'A", "00q*"),
+        ("L'1", "00q*"),
+        ("L'*'", "00qq."),
+        ("L'", "00*"),
+        ("L''", "00q."),
+        ("CL'A", "000q*"),
+        ("&L'A", "000q*"),
+        ("1L'A", "000q*"),
+        ("CL&L'AB'", "00000qqq."),
+        ("(L'A", "0111."),
+        (",L'A.T'B", "00000000."),
+        ("L'L'A", "00000."),
+        // within quotes an apostrophe closes
+        ("'L'A", "0qq0."),
+        // parentheses count outside quotes only, and never below none
+        ("(A)", "011."),
+        ("((A)", "0122."),
+        (")(A", "001."),
+        ("'('(A", "0qq01."),
+        ("L'A(1)", "000011."),
+    ] {
+        let seen = nesting_of(rt.alloc(), text)?;
+        assert_eq!(rt; seen.as_str(), want, "at {text:?}");
+    }
     Ok(())
 }
