@@ -1,0 +1,14 @@
+use Rattle.std.proofs.Common.{◌∙◌, ap}
+use Rattle.std.specs.Prelude.{slice_index}
+use Rattle.instruction_table.specs.Operations.{operation_of}
+use Rattle.instruction_table.specs.Rows.{meaning_in, rows_of}
+use Rattle.instruction_table.proofs.TableLaws.{meaning-is}
+use Rattle.instruction_table.proofs.table.operation.Goals as goal
+
+pub returns : goal.returns
+returns c =
+    c.meaning_in.ensures
+    ∙ ap (meaning_in c.text-name.result.now) (c.rows_of.ensures ∙ ap rows_of c.first_of.ensures)
+    ∙ ap (λ bytes. meaning_in c.text-name.result.now (rows_of (slice_index bytes 0))) c.as_bytes.ensures.value
+    ∙ meaning-is c.text-name.result.now
+    ∙ ap operation_of c.text-name.ensures

@@ -1,0 +1,4 @@
+pub mod Formats
+pub mod Instructions
+pub mod Operations
+pub mod Rows

@@ -1,0 +1,5 @@
+pub mod Kinds
+pub mod Table
+pub mod Codes
+pub mod Entries
+pub mod Laws
