@@ -1,0 +1,111 @@
+-- Turns, one after another.
+use Rattle.std.proofs.Common.{◌≡◌, ◌≢◌, ℕ, ℤ, ◌+◌, ◌-◌, ◌<◌, Bool, true, false, cond, List, [], ◌∷◌, ◌++◌, Option, Some, None, length, drop, zero, suc, slice_get, refl, sym, ap, ◌∙◌, subst, arith, append_assoc}
+use Rattle.std.proofs.lemmas.Grind.{flat_map-append}
+use Rattle.std.proofs.lemmas.List.{append-nil}
+use Rattle.hl_base.specs.declared.place.PathId.{PathId}
+use Rattle.rpc_framing.specs.Frames.{frame}
+use Rattle.document_store.specs.Store.{OpenDocument}
+use Rattle.lsp_messages.specs.declared.outgoing.Diagnostic.{Diagnostic}
+use Rattle.session_core.specs.declared.state.LastList.{LastList}
+use Rattle.session_core.specs.Diagnostics.{diagnostics_of}
+use Rattle.session_core.specs.State.{State, document_at, last_list}
+use Rattle.session_core.specs.Step.{Step, quiet, says, and_then, written, IsStep}
+use Rattle.session_core.specs.Turn.{turn, turn_of, turns, all_turns, turn_at, publish, is_published, without_first}
+
+-- a step whose state has lost the first queued program
+abbrev without_first_of : Step → Step
+without_first_of step = record step { state = without_first step.state }
+
+-- whether the first program has left the queue makes no difference to what is published
+publish_first : (s : State) (n : PathId) (document : OpenDocument) (list : List Diagnostic)
+    → publish (without_first s) n document list ≡ without_first_of (publish s n document list)
+publish_first s n document list = by_test (is_published (last_list s.published n) document.version list) _ _ where
+  by_test : (b : Bool) (published : List LastList) (body : List ℕ)
+      → cond b (quiet (without_first s)) (says (record (without_first s) { published = published }) body) ≡ without_first_of (cond b (quiet s) (says (record s { published = published }) body))
+  by_test true published body = refl
+  by_test false published body = refl
+
+turn_at_first : (s : State) (n : PathId) (document : Option OpenDocument) → turn_at (without_first s) n document ≡ without_first_of (turn_at s n document)
+turn_at_first s n None = refl
+turn_at_first s n (Some document) = publish_first s n document (diagnostics_of document.text)
+
+-- a program's Turn, and then it leaves the queue
+pub turn_first : (s now : State) (n : PathId) (before after : List ℕ) → slice_get s.queue 0 ≡ Some n
+    → IsStep (turn_at s n (document_at s.store n)) now before after → IsStep (turn s) (without_first now) before after
+unfolding turn
+turn_first s now n before after first step =
+    let made : turn s ≡ without_first_of (turn_at s n (document_at s.store n)) = ap (turn_of s) first ∙ turn_at_first s n (document_at s.store n) in
+    subst (λ z. IsStep z (without_first now) before after) (sym made) (ap without_first step.0, step.1)
+
+-- where none is queued
+pub turn_none : (s : State) (before : List ℕ) → slice_get s.queue 0 ≡ None → IsStep (turn s) s before before
+unfolding turn
+turn_none s before none = subst (λ z. IsStep z s before before) (sym (ap (turn_of s) none)) (refl, sym (append-nil before))
+
+-- publishing leaves the queue
+publish_queue : (s : State) (n : PathId) (document : OpenDocument) (list : List Diagnostic) → (publish s n document list).state.queue ≡ s.queue
+publish_queue s n document list = by_test (is_published (last_list s.published n) document.version list) _ _ where
+  by_test : (b : Bool) (published : List LastList) (body : List ℕ) → (cond b (quiet s) (says (record s { published = published }) body)).state.queue ≡ s.queue
+  by_test true published body = refl
+  by_test false published body = refl
+
+turn_at_queue : (s : State) (n : PathId) (document : Option OpenDocument) → (turn_at s n document).state.queue ≡ s.queue
+turn_at_queue s n None = refl
+turn_at_queue s n (Some document) = publish_queue s n document (diagnostics_of document.text)
+
+-- the first program has left the queue
+pub turn_queue : (s : State) → s.queue ≢ [] → (turn s).state.queue ≡ drop 1 s.queue
+unfolding turn
+turn_queue s some = by_queue s.queue refl where
+  by_queue : (queue : List PathId) → s.queue ≡ queue → (turn_of s (slice_get queue 0)).state.queue ≡ drop 1 s.queue
+  by_queue [] e = absurd (some e)
+  by_queue (n ∷ rest) e = turn_at_queue (without_first s) n (document_at s.store n)
+
+-- a Turn leaves fewer programs
+pub fewer_queued : (queue : List PathId) → queue ≢ [] → length (drop 1 queue) < length queue
+fewer_queued [] some = absurd (some refl)
+fewer_queued (n ∷ rest) some = omega arith
+
+-- a Turn and those behind it are all Turns
+turns_next : (s : State) (queue : List PathId) → s.queue ≡ queue → queue ≢ [] → all_turns s ≡ and_then (turn s) all_turns
+turns_next s [] e some = absurd (some refl)
+turns_next s (n ∷ rest) e some =
+    let here : length s.queue ≡ suc (length rest) = ap length e in
+    let behind : length (turn s).state.queue ≡ length rest = ap length (turn_queue s (λ f. let g = sym e ∙ f in cc) ∙ ap (drop 1) e) in
+    ap (λ k. turns k s) here ∙ ap (λ k. and_then (turn s) (turns k)) (sym behind)
+
+-- These bytes were added so far, and with the Turns that are left they are those of all Turns.
+pub record IsTurning (first now : State) (before after : List ℕ) : Type 0 where
+  pub done : List (List ℕ)
+  pub wrote : after ≡ before ++ written done
+  pub rest : all_turns first ≡ record (all_turns now) { bodies = done ++ (all_turns now).bodies }
+
+pub turning_begins : (s : State) (output : List ℕ) → IsTurning s s output output
+turning_begins s output = record { done = []; wrote = sym (append-nil output); rest = refl }
+
+pub turning_goes_on : (first now next : State) (before after grown : List ℕ) → IsTurning first now before after → now.queue ≢ []
+    → IsStep (turn now) next after grown → IsTurning first next before grown
+turning_goes_on first now next before after grown turning some step =
+    let bodies = (turn now).bodies in
+    let more : all_turns now ≡ record (all_turns next) { bodies = bodies ++ (all_turns next).bodies } =
+    turns_next now now.queue refl some ∙ ap (λ (z : State). record (all_turns z) { bodies = bodies ++ (all_turns z).bodies }) (sym step.0) in
+    record {
+      done = turning.done ++ bodies;
+      wrote = step.1 ∙ ap (λ z. z ++ written bodies) turning.wrote ∙ append_assoc before (written turning.done) (written bodies)
+          ∙ ap (λ z. before ++ z) (sym (flat_map-append frame turning.done bodies));
+      rest = turning.rest ∙ ap (λ (z : Step). record z { bodies = turning.done ++ z.bodies }) more
+          ∙ ap (λ z. record (all_turns next) { bodies = z }) (sym (append_assoc turning.done bodies (all_turns next).bodies));
+    }
+
+pub turning_ends : (first now : State) (before after : List ℕ) → IsTurning first now before after → now.queue ≡ [] → IsStep (all_turns first) now before after
+turning_ends first now before after turning none =
+    let left : all_turns now ≡ quiet now = ap (λ (z : List PathId). turns (length z) now) none in
+    let all : all_turns first ≡ record { state = now; bodies = turning.done } =
+    turning.rest ∙ ap (λ (z : Step). record z { bodies = turning.done ++ z.bodies }) left ∙ ap (λ z. record { state = now; bodies = z }) (append-nil turning.done) in
+    subst (λ z. IsStep z now before after) (sym all) (refl, turning.wrote)
+
+pub turning_smaller : (now next : State) (before after : List ℕ) → now.queue ≢ [] → IsStep (turn now) next before after → length next.queue < length now.queue
+turning_smaller now next before after some step =
+    let queue : length next.queue ≡ length (drop 1 now.queue) = ap (λ (s : State). length s.queue) step.0 ∙ ap length (turn_queue now some) in
+    let fewer = fewer_queued now.queue some in
+    omega arith

@@ -1,0 +1,10 @@
+use Rattle.std.proofs.Common.{length}
+use Rattle.session_core.proofs.TurnLaws.{IsTurning}
+use Rattle.session_core.proofs.standing.Standing.all_turns.Given as goal
+
+-- what is written so far, and the Turns that are left, are all Turns
+abbrev pub invariant-queue : goal.invariant-queue
+invariant-queue l = IsTurning l.initial.self l.self l.initial.output.items l.output.items
+
+abbrev pub decreases-queue : goal.decreases-queue
+decreases-queue l = length l.self.queue

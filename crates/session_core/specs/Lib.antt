@@ -1,0 +1,12 @@
+pub mod Bodies
+pub mod Codes
+pub mod Diagnostics
+pub mod Held
+pub mod Inside
+pub mod Laws
+pub mod Message
+pub mod Notes
+pub mod Same
+pub mod State
+pub mod Step
+pub mod Turn

@@ -1,0 +1,52 @@
+-- A Turn: the first queued program leaves the queue, and its list is published, of its text as it is now (this project).
+-- Nothing is kept of earlier lists but what was last published.
+use Rattle.std.specs.Prelude.{ℕ, ℤ, zero, suc, Bool, false, ◌&&◌, List, Option, Some, None, length, drop, slice_get, if◌then◌else◌}
+use Rattle.std.specs.Ordering.{int_eq}
+use Rattle.hl_base.specs.declared.place.PathId.{PathId}
+use Rattle.document_store.specs.Store.{OpenDocument}
+use Rattle.lsp_messages.specs.declared.outgoing.Diagnostic.{Diagnostic}
+use Rattle.session_core.specs.declared.state.LastList.{LastList}
+use Rattle.session_core.specs.Diagnostics.{diagnostics_of}
+use Rattle.session_core.specs.Same.{is_same_list}
+use Rattle.session_core.specs.State.{State, document_at, last_list, with_list}
+use Rattle.session_core.specs.Step.{Step, quiet, says, and_then}
+use Rattle.session_core.specs.Bodies.{list_body}
+
+-- this version and this list were the last to be published; before the first Turn of a program none was
+abbrev pub is_published : Option LastList → ℤ → List Diagnostic → Bool
+is_published None version list = false
+is_published (Some last) version list = int_eq last.version version && is_same_list last.list list
+
+-- a program's list is published, unless it was already
+abbrev pub publish : State → PathId → OpenDocument → List Diagnostic → Step
+publish s n document list =
+    if is_published (last_list s.published n) document.version list then quiet s
+    else says
+    (record s { published = with_list s.published (record { path = n; version = document.version; list = list }) })
+    (list_body document.uri (Some document.version) list)
+
+-- the Turn of the document of a number
+abbrev pub turn_at : State → PathId → Option OpenDocument → Step
+turn_at s n None = quiet s
+turn_at s n (Some document) = publish s n document (diagnostics_of document.text)
+
+-- the state without the first queued program
+abbrev pub without_first : State → State
+without_first s = record s { queue = drop 1 s.queue }
+
+abbrev pub turn_of : State → Option PathId → Step
+turn_of s None = quiet s
+turn_of s (Some n) = turn_at (without_first s) n (document_at s.store n)
+
+-- one Turn; where no program is queued, nothing
+unfoldable pub turn : State → Step
+turn s = turn_of s (slice_get s.queue 0)
+
+-- so many Turns, one after another
+abbrev pub turns : ℕ → State → Step
+turns zero s = quiet s
+turns (suc n) s = and_then (turn s) (turns n)
+
+-- Turns until no program is queued
+abbrev pub all_turns : State → Step
+all_turns s = turns (length s.queue) s

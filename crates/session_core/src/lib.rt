@@ -1,0 +1,35 @@
+//! The session of an editor: what one message does, and what one Turn publishes.
+//!
+//! `Session::message` takes the body of a message, `Session::turn` makes the list of the first queued program, and
+//! `take_output` hands out what was written, each body in its frame. Messages are those of LSP 3.17 over JSON-RPC 2.0.
+//!
+//! Its one contract in words: from any state and in any order, the new state and the bodies written are those of the
+//! definition, `message` or `turn`, and nothing else has changed; where memory runs out nothing is written, and the
+//! session answers no more. It knows nothing of the source and the sink, of when a Turn is made, and of files.
+//!
+//! Within the crate, `standing` has the state and its Turns, `messages` what a message does to it, `programs` the queue
+//! and the documents by number, `notes` and `diagnostics` the list of a text, `same` when two lists are the same, and
+//! `bodies` what is written.
+#![tactic(auto)]
+
+mod bodies;
+mod diagnostics;
+mod fault;
+pub mod laws;
+mod messages;
+mod notes;
+mod phase;
+mod programs;
+mod same;
+mod session;
+mod standing;
+mod state;
+
+pub use fault::SessionFault;
+pub use phase::Phase;
+pub use session::Session;
+
+#[cfg(test)]
+mod conversations;
+#[cfg(test)]
+mod tests;

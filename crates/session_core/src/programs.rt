@@ -1,0 +1,162 @@
+//! The open documents, by the numbers of their paths, and the queue of programs.
+ghost use Rattle.std.specs.Prelude.{◌≡◌, ◌≤◌, ◌++◌, length, map, filter, not, Some, OnOk, IfOk, IfErr, Option, option_map, slice_get, take};
+ghost use Rattle.std.specs.Borrow.{Bor};
+ghost use Rattle.std.specs.List.{list_any};
+ghost use Rattle.std.specs.Str.{chars};
+ghost use Rattle.file_uri.specs.Paths.{path_of};
+ghost use Rattle.document_store.specs.Store.{OpenDocument, number_of};
+ghost use Rattle.document_store.specs.Shown.{IsShown, Shows};
+ghost use Rattle.session_core.specs.State.{is_number, number_named, document_at, is_program, programs, is_queued, with_programs, without, last_list, without_list, published_without, with_list};
+ghost use Rattle.session_core.specs.Inside.{wanted_of};
+ghost use Rattle.session_core.specs.declared.state.LastList.{LastList};
+
+use crate::state::LastList;
+use document_store::{Document, DocumentStore, MOST_DOCUMENTS, MemberText};
+use file_uri::{UriFault, file_path};
+use hl_base::{OutOfMemory, PathId};
+use lsp_messages::Diagnostics;
+use std::alloc::Global;
+
+/// The language of programs.
+const PROGRAM_LANGUAGE: &str = "hlasm";
+
+/// The open document of a number.
+pub(crate) fn document_at(store: &DocumentStore, path: PathId) -> Option<Document<'_>>
+    requires few { length store.now.store.documents ≤ 64 }
+    ensures { IsShown store.now.store.paths (document_at store.now.store path) result }
+{
+    for index in 0..MOST_DOCUMENTS as u32 {
+        match store.document(index) {
+            Some(document) if document.path == path => return Some(document),
+            Some(_) => {}
+            None => return None,
+        }
+    }
+    None
+}
+
+/// The text of the open document of a number.
+pub(crate) fn text_at(store: &DocumentStore, path: PathId) -> &str
+    ensures { (document : OpenDocument) → document_at store.now.store path ≡ Some document
+        → slice_get store.now.store.paths path.0 ≡ Some document.path
+        → number_of store.now.store.paths document.path ≡ Some path.0
+        → chars result.now ≡ document.text }
+{
+    match store.present(path) {
+        Some(MemberText::File(text)) => store.pool().text(text),
+        Some(MemberText::Unreadable) => "",
+        None => "",
+    }
+}
+
+/// The number of the path that a URI names, if a document of it was ever opened.
+pub(crate) fn number_named(
+    alloc: Global,
+    store: &DocumentStore,
+    uri: &str,
+) -> Result<Option<PathId>, OutOfMemory>
+    ensures { IfOk result (λ number. number ≡ number_named store.now.store (chars uri.now)) }
+{
+    match file_path(alloc, uri) {
+        Ok(path) => Ok(store.path_id(path.as_str())),
+        Err(UriFault::BadUri) => Ok(None),
+        Err(UriFault::OutOfMemory) => Err(OutOfMemory),
+    }
+}
+
+/// Whether a document of a language is a program.
+fn is_program(language: &str) -> bool
+    ensures { (shown : OpenDocument) → chars language.now ≡ shown.language → result ≡ is_program shown }
+{
+    language == PROGRAM_LANGUAGE
+}
+
+fn is_queued(queue: &[PathId], path: PathId) -> bool
+    ensures { result ≡ is_queued queue.now path }
+{
+    queue.iter().any(|queued| path == *queued)
+}
+
+/// Adds a document, if it is a program that is not among the first so many of the queue.
+fn queue_document(
+    document: &Document,
+    kept: usize,
+    queue: &mut Vec<PathId>,
+) -> Result<(), OutOfMemory>
+    ensures { OnOk result ((shown : OpenDocument) → chars document.now.language.now ≡ shown.language
+        → queue.new.items ≡ queue.old.items ++ wanted_of (take kept queue.old.items) shown document.now.path) }
+{
+    let queued = &queue[..kept.min(queue.len())];
+    if is_program(document.language) && !is_queued(queued, document.path) {
+        queue.push(document.path)?;
+    }
+    Ok(())
+}
+
+/// Queues every open program, in order of opening; one that is queued keeps its place.
+pub(crate) fn queue_programs(
+    store: &DocumentStore,
+    queue: &mut Vec<PathId>,
+) -> Result<(), OutOfMemory>
+    requires few { length store.now.store.documents ≤ 64 }
+    ensures { OnOk result (queue.new.items ≡ with_programs queue.old.items (programs store.now.store)) }
+{
+    let kept = queue.as_slice().len();
+    for index in 0..MOST_DOCUMENTS as u32 {
+        let Some(document) = store.document(index) else {
+            return Ok(());
+        };
+        queue_document(&document, kept, queue)?;
+    }
+    Ok(())
+}
+
+/// What was last published of a program.
+pub(crate) fn last_list(published: &[LastList], path: PathId) -> Option<&LastList>
+    ensures { option_map (λ (last : Bor LastList). last.now) result ≡ last_list published.now path }
+{
+    published.iter().find(|last| last.path == path)
+}
+
+/// Drops a program from the queue.
+fn drop_queued(queue: &mut Vec<PathId>, path: PathId)
+    ensures { queue.new.items ≡ without queue.old.items (Some path) }
+{
+    queue.retain(|queued| *queued != path);
+}
+
+/// Drops what was published of a program.
+fn drop_list(published: &mut Vec<LastList>, path: PathId)
+    ensures { published.new.items ≡ without_list published.old.items path }
+{
+    published.retain(|last| last.path != path);
+}
+
+/// Drops a program from the queue, and what was published of it.
+pub(crate) fn forget(queue: &mut Vec<PathId>, published: &mut Vec<LastList>, path: Option<PathId>)
+    ensures queue { queue.new.items ≡ without queue.old.items path }
+    ensures published { published.new.items ≡ published_without published.old.items path }
+{
+    if let Some(path) = path {
+        drop_queued(queue, path);
+        drop_list(published, path);
+    }
+}
+
+/// Keeps this as the last list of a program, of this version of it.
+pub(crate) fn keep_list(
+    published: &mut Vec<LastList>,
+    path: PathId,
+    document: &Document<'_>,
+    list: Diagnostics,
+) -> Result<(), OutOfMemory>
+    ensures { OnOk result (published.new.items ≡ with_list published.old.items (record { path = path; version = document.now.version; list = list })) }
+{
+    drop_list(published, path);
+    published.push(LastList {
+        path,
+        version: document.version,
+        list,
+    })?;
+    Ok(())
+}

@@ -1,0 +1,126 @@
+//! The session, as `run` drives it.
+ghost use Rattle.std.specs.Prelude.{◌≡◌, ◌≢◌, [], IfOk, MatchBool};
+ghost use Rattle.session_core.specs.Held.{beginning, phase_of, Comes};
+ghost use Rattle.session_core.specs.Message.{message};
+ghost use Rattle.session_core.specs.Turn.{turn};
+
+use crate::standing::Standing;
+use crate::state::Stage;
+use crate::{Phase, SessionFault};
+use hl_base::{Ledger, OutOfMemory, Steps};
+use io_edge::Library;
+use std::alloc::Global;
+use std::marker::Model;
+use std::mem;
+
+/// One client's session. It is told of messages and of the moments at which a Turn may be made, and keeps what it writes
+/// until that is taken. Contracts see the state, the bytes that are not taken yet, and whether memory has run out.
+#[derive(Drop)]
+pub struct Session {
+    standing: Standing,
+    output: Vec<u8>,
+    spent: bool,
+    // Given out in place of the output: a `Vec` that takes no memory needs an allocator all the same.
+    alloc: Global,
+}
+
+impl Model for Session {
+    ghost use Rattle.session_core.specs.Codes.{held_code};
+    ghost use Rattle.session_core.specs.Held.{Held};
+
+    ghost Value = { Held };
+
+    ghost coded = { held_code };
+
+    ghost view = { λ s. record { state = s.standing; output = s.output.items; spent = s.spent } };
+}
+
+/// How a session stands to its client.
+fn phase_of(standing: &Standing) -> Phase
+    ensures { result ≡ phase_of standing.now }
+{
+    match standing.stage() {
+        Stage::Ended { closed } => Phase::Exit(closed),
+        _ => Phase::Running,
+    }
+}
+
+impl Session {
+    /// Before the first message. A program may be given so many statements in a Turn, once statements are processed.
+    pub fn new(alloc: Global, budget: u32) -> Result<Session, OutOfMemory>
+        ensures { IfOk result (λ session. session ≡ beginning) }
+    {
+        let _ = budget;
+        Ok(Session {
+            standing: Standing::new(alloc),
+            output: Vec::new(alloc),
+            spent: false,
+            alloc,
+        })
+    }
+
+    /// Takes the body of one message (LSP 3.17, "Base Protocol"). Nothing is asked of the library yet.
+    pub fn message<B: Library, L: Ledger>(
+        &mut self,
+        alloc: Global,
+        body: &[u8],
+        library: &mut B,
+        steps: &mut Steps<L>,
+    ) -> Result<Phase, SessionFault>
+        ensures comes { Comes result (message self.old.state body.now []) self.old self.new }
+        ensures phase { IfOk result (λ phase. phase ≡ phase_of self.new.state) }
+        ensures library { (B.calls library.new ≡ B.calls library.old) × (B.faults library.new ≡ B.faults library.old) }
+        ensures steps { steps.new ≡ steps.old }
+    {
+        let _ = library;
+        let _ = steps;
+        if self.spent {
+            return Err(SessionFault::Spent);
+        }
+        match self.standing.message(alloc, body, &mut self.output) {
+            Ok(()) => Ok(phase_of(&self.standing)),
+            Err(_) => {
+                self.spent = true;
+                Err(SessionFault::OutOfMemory)
+            }
+        }
+    }
+
+    /// Whether a program is queued, so that a Turn may be made.
+    pub fn has_work(&self) -> bool
+        ensures { MatchBool result (self.now.state.queue ≢ []) (self.now.state.queue ≡ []) }
+    {
+        self.standing.has_work()
+    }
+
+    /// Makes one Turn: the list of the first queued program is published, unless it was already.
+    pub fn turn<L: Ledger>(
+        &mut self,
+        alloc: Global,
+        steps: &mut Steps<L>,
+    ) -> Result<(), SessionFault>
+        requires work { self.old.state.queue ≢ [] }
+        ensures comes { Comes result (turn self.old.state) self.old self.new }
+        ensures steps { steps.new ≡ steps.old }
+    {
+        let _ = steps;
+        if self.spent {
+            return Err(SessionFault::Spent);
+        }
+        match self.standing.turn(alloc, &mut self.output) {
+            Ok(()) => Ok(()),
+            Err(_) => {
+                self.spent = true;
+                Err(SessionFault::OutOfMemory)
+            }
+        }
+    }
+
+    /// The bytes that were written since they were last taken, each body in a frame.
+    pub fn take_output(&mut self) -> Vec<u8>
+        ensures output { result.items ≡ self.old.output }
+        ensures rest { self.new ≡ record self.old { output = [] } }
+    {
+        mem::replace(&mut self.output, Vec::new(self.alloc))
+    }
+}

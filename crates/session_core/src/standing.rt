@@ -1,0 +1,175 @@
+//! What a session is between two events, and its Turns.
+ghost use Rattle.std.specs.Prelude.{◌≡◌, ◌≢◌, [], Some, MatchBool, IfOk, OnOk, OnErr};
+ghost use Rattle.std.specs.Str.{chars};
+ghost use Rattle.session_core.specs.Bodies.{list_body};
+ghost use Rattle.session_core.specs.Message.{farewell_at};
+ghost use Rattle.session_core.specs.State.{start, document_at, last_list};
+ghost use Rattle.session_core.specs.Step.{IsStep, written};
+ghost use Rattle.session_core.specs.Turn.{turn, turn_at, all_turns, is_published};
+
+use crate::bodies;
+use crate::diagnostics::diagnostics_of;
+use crate::programs::{document_at, keep_list, last_list, text_at};
+use crate::same::is_same_list;
+use crate::state::{LastList, Stage};
+use document_store::{Document, DocumentStore};
+use hl_base::{OutOfMemory, PathId};
+use lsp_messages::{Diagnostic, Diagnostics};
+use std::alloc::Global;
+use std::marker::Model;
+
+/// How far the session has come, the documents, the queue and what was published. Contracts see the state.
+#[derive(Drop)]
+pub(crate) struct Standing {
+    pub(crate) stage: Stage,
+    pub(crate) store: DocumentStore,
+    pub(crate) queue: Vec<PathId>,
+    pub(crate) published: Vec<LastList>,
+}
+
+impl Model for Standing {
+    ghost use Rattle.std.specs.Prelude.{◌≤◌, length};
+    ghost use Rattle.session_core.specs.Codes.{state_code};
+    ghost use Rattle.session_core.specs.State.{State};
+
+    ghost Value = { State };
+
+    ghost coded = { state_code };
+
+    ghost view = { λ s. record { phase = s.stage; store = s.store.store; queue = s.queue.items; published = s.published.items } };
+
+    ghost invariant = { λ s. length s.store.store.documents ≤ 64 };
+}
+
+/// Whether this version and this list of a program were the last to be published.
+fn is_published(
+    published: &[LastList],
+    path: PathId,
+    document: &Document<'_>,
+    list: &[Diagnostic],
+) -> bool
+    ensures { result ≡ is_published (last_list published.now path) document.now.version list.now }
+{
+    match last_list(published, path) {
+        Some(last) => {
+            last.version == document.version && is_same_list(last.list.as_slice(), list)
+        }
+        None => false,
+    }
+}
+
+/// The list of a document of the version that it has now, as it is published, and the list itself.
+fn listed_body(
+    alloc: Global,
+    document: &Document<'_>,
+    list: Diagnostics,
+) -> Result<(Vec<u8>, Diagnostics), OutOfMemory>
+    ensures body { IfOk result (λ told. told.0.items ≡ list_body (chars document.now.uri.now) (Some document.now.version) list) }
+    ensures list { IfOk result (λ told. told.1 ≡ list) }
+{
+    bodies::list_body(alloc, document.uri, Some(document.version), list)
+}
+
+impl Standing {
+    /// Before the first message.
+    pub(crate) fn new(alloc: Global) -> Standing
+        ensures { result ≡ start }
+    {
+        Standing {
+            stage: Stage::Fresh,
+            store: DocumentStore::new(alloc),
+            queue: Vec::new(alloc),
+            published: Vec::new(alloc),
+        }
+    }
+
+    /// How far the session has come.
+    pub(crate) fn stage(&self) -> Stage
+        ensures { result ≡ self.now.phase }
+    {
+        self.stage
+    }
+
+    /// Whether a program is queued.
+    pub(crate) fn has_work(&self) -> bool
+        ensures { MatchBool result (self.now.queue ≢ []) (self.now.queue ≡ []) }
+    {
+        !self.queue.is_empty()
+    }
+
+    /// Makes one Turn, and adds what it publishes to the output. After an `Err` the state is not to be used.
+    pub(crate) fn turn(&mut self, alloc: Global, output: &mut Vec<u8>) -> Result<(), OutOfMemory>
+        ensures ok { OnOk result (IsStep (turn self.old) self.new output.old.items output.new.items) }
+        ensures err { OnErr result (output.new.items ≡ output.old.items) }
+    {
+        let Some(path) = self.queue.first().copied() else {
+            return Ok(());
+        };
+        self.publish(alloc, path, output)?;
+        let _ = self.queue.remove(0);
+        Ok(())
+    }
+
+    /// Publishes the list of a program, unless it was already.
+    fn publish(
+        &mut self,
+        alloc: Global,
+        path: PathId,
+        output: &mut Vec<u8>,
+    ) -> Result<(), OutOfMemory>
+        ensures ok { OnOk result (IsStep (turn_at self.old path (document_at self.old.store path)) self.new output.old.items output.new.items) }
+        ensures err { OnErr result (output.new.items ≡ output.old.items) }
+    {
+        let Some(document) = document_at(&self.store, path) else {
+            return Ok(());
+        };
+        let list = diagnostics_of(alloc, text_at(&self.store, path))?;
+        if is_published(&self.published, path, &document, list.as_slice()) {
+            return Ok(());
+        }
+        let (body, list) = listed_body(alloc, &document, list)?;
+        self.published.reserve(1)?;
+        keep_list(&mut self.published, path, &document, list)?;
+        bodies::write(alloc, &body, output)
+    }
+
+    /// What is written where the document of a number leaves, each body in a frame.
+    pub(crate) fn farewell_at(
+        &self,
+        alloc: Global,
+        path: Option<PathId>,
+    ) -> Result<Vec<u8>, OutOfMemory>
+        ensures { IfOk result (λ bytes. bytes.items ≡ written (farewell_at self.now path)) }
+    {
+        let Some(path) = path else {
+            return Ok(Vec::new(alloc));
+        };
+        let Some(document) = document_at(&self.store, path) else {
+            return Ok(Vec::new(alloc));
+        };
+        let Some(last) = last_list(&self.published, path) else {
+            return Ok(Vec::new(alloc));
+        };
+        if last.list.as_slice().is_empty() {
+            return Ok(Vec::new(alloc));
+        }
+        let (body, _) = bodies::list_body(alloc, document.uri, None, Diagnostics::new(alloc))?;
+        let mut bytes = Vec::new(alloc);
+        bodies::write(alloc, &body, &mut bytes)?;
+        Ok(bytes)
+    }
+
+    /// Makes Turns until no program is queued.
+    pub(crate) fn all_turns(
+        &mut self,
+        alloc: Global,
+        output: &mut Vec<u8>,
+    ) -> Result<(), OutOfMemory>
+        ensures { OnOk result (IsStep (all_turns self.old) self.new output.old.items output.new.items) }
+    {
+        'queue: while self.has_work() {
+            self.turn(alloc, output)?;
+        }
+        Ok(())
+    }
+}
