@@ -3,8 +3,11 @@ use Rattle.std.proofs.Common.{◌≡◌, ℕ, ◌+◌, ◌-◌, ◌<◌, ◌≤�
 use Rattle.std.proofs.lemmas.List.{length-take-le}
 use Rattle.io_edge.specs.Told.{Gives, IsAtEnd}
 use Rattle.io_edge.proofs.ToldLaws.{Gives-nil, Gives-append, same_of_Gives-nil}
-use Rattle.rpc_framing.specs.Frames.{IsFrame, IsPartial, IsBadStart, Breaks}
+use Rattle.rpc_framing.specs.Faults.{Breaks}
+use Rattle.rpc_framing.specs.Frames.{IsFrame, IsPartial, IsBadStart}
 use Rattle.rpc_framing.specs.Reading.{Reading, GoesOn, Stops, Waits}
+use Rattle.rpc_framing.specs.declared.fault.FrameFault.{FrameFault}
+use Rattle.rpc_framing.specs.declared.place.Departure.{Departure}
 use Rattle.hlasm_server.specs.Feeding.{IsBetweenFrames, Taking, Brings}
 use Rattle.rpc_framing.proofs.FrameLaws.{IsPartial-nil, length-IsPartial}
 use Rattle.rpc_framing.proofs.ReaderLaws.{GoesOn-Waits, Breaks-Waits}
@@ -32,20 +35,20 @@ Brings-GoesOn old new piece n waits few some goes = record {
 }
 
 -- where nothing is whole before a fault, it is one of all the bytes
-bad_alone : (fresh : List (List ℕ)) (stream : List ℕ) (at : ℕ) → Breaks stream fresh at → fresh ≡ [] → IsBadStart stream at
-bad_alone [] stream at breaks none =
+bad_alone : (fresh : List (List ℕ)) (stream : List ℕ) (departs : Departure) (at : ℕ) → Breaks stream fresh departs at → fresh ≡ [] → IsBadStart stream at
+bad_alone [] stream departs at breaks none =
     let same : breaks.tail ≡ stream = ap (λ z. z ++ breaks.tail) (sym breaks.frames) ∙ sym breaks.is in
     let size : length breaks.front ≡ 0 = ap length breaks.frames in
     let place : breaks.within ≡ at = let is = breaks.place in omega arith in
     subst (λ z. IsBadStart z at) same (subst (IsBadStart breaks.tail) place breaks.bad)
-bad_alone (body ∷ bodies) stream at breaks none = cc
+bad_alone (body ∷ bodies) stream departs at breaks none = cc
 
 -- what was taken when a reader stopped: no frame begins so, and the last byte is the first fault
-pub IsBadStart-Stops : (old new : Reading) (piece : List ℕ) (n : ℕ) → Waits old.rest n → length piece ≤ n → Stops old new piece → IsBadStart (old.rest ++ piece) (length (old.rest ++ piece))
-IsBadStart-Stops old new piece n waits few stops =
-    let last = Breaks-Waits old.rest piece n stops.fresh stops.at waits few stops.breaks in
+pub IsBadStart-Stops : (old new : Reading) (piece : List ℕ) (fault : FrameFault) (n : ℕ) → Waits old.rest n → length piece ≤ n → Stops old new piece fault → IsBadStart (old.rest ++ piece) (length (old.rest ++ piece))
+IsBadStart-Stops old new piece fault n waits few stops =
+    let last = Breaks-Waits old.rest piece n stops.fresh stops.departs stops.at waits few stops.breaks in
     let size : stops.at ≡ length (old.rest ++ piece) = last.1 ∙ sym (length-append old.rest piece) in
-    subst (IsBadStart (old.rest ++ piece)) size (bad_alone stops.fresh (old.rest ++ piece) stops.at stops.breaks last.0)
+    subst (IsBadStart (old.rest ++ piece)) size (bad_alone stops.fresh (old.rest ++ piece) stops.departs stops.at stops.breaks last.0)
 
 -- an end that stood before nothing was given stands behind it
 pub IsAtEnd-Gives : (before now : Option (List ℕ)) → Gives before [] now → IsAtEnd before → IsAtEnd now
@@ -79,9 +82,9 @@ reading_begins left waits faults reader between =
     }
 
 -- a frame that is being read is short
-pub reading_fed : (l0 l1 : Option (List ℕ)) (w0 w1 : Option (List Bool)) (f0 f1 : ℕ) (old new : Reading) → IsReading l0 l1 w0 w1 f0 f1 old new → (length new.rest < 16777244) × (new.fed < old.fed + 16777244)
+pub reading_fed : (l0 l1 : Option (List ℕ)) (w0 w1 : Option (List Bool)) (f0 f1 : ℕ) (old new : Reading) → IsReading l0 l1 w0 w1 f0 f1 old new → (length new.rest < 16781312) × (new.fed < old.fed + 16781312)
 reading_fed l0 l1 w0 w1 f0 f1 old new reading =
-    let short : length new.rest < 16777244 = length-IsPartial new.rest reading.partial in
+    let short : length new.rest < 16781312 = length-IsPartial new.rest reading.partial in
     (short, omega (arith, reading.fed))
 
 -- a body that waits behind a piece is that of the frame that the piece completed
@@ -119,10 +122,10 @@ frame_grown l0 l1 w0 w1 f0 f1 old mid next piece reading brings none = elim brin
 
 -- so less of it may be missing
 pub frame_longer : (l0 l1 : Option (List ℕ)) (w0 w1 : Option (List Bool)) (f0 f1 : ℕ) (old mid next : Reading) (piece : List ℕ)
-    → IsReading l0 l1 w0 w1 f0 f1 old mid → Brings mid next piece → next.ready ≡ [] → 16777244 - length next.rest < 16777244 - length mid.rest
+    → IsReading l0 l1 w0 w1 f0 f1 old mid → Brings mid next piece → next.ready ≡ [] → 16781312 - length next.rest < 16781312 - length mid.rest
 frame_longer l0 l1 w0 w1 f0 f1 old mid next piece reading brings none =
     let grown = frame_grown l0 l1 w0 w1 f0 f1 old mid next piece reading brings none in
     let sizes : length next.rest ≡ length mid.rest + length piece = ap length grown.0 ∙ length-append mid.rest piece in
-    let short : length mid.rest < 16777244 = length-IsPartial mid.rest reading.partial in
+    let short : length mid.rest < 16781312 = length-IsPartial mid.rest reading.partial in
     let some = brings.some in
     omega arith

@@ -1,13 +1,13 @@
 -- Laws of what a run writes and answers: there is one answer for each input, and only one.
-use Rattle.std.proofs.Common.{◌≡◌, ℕ, ◌+◌, Bool, List, [], ◌∷◌, ◌++◌, length, ◌⊎◌, inl, inr, refl, sym, ap, ◌∙◌, subst, arith, length-append, append_assoc, append-nil}
+use Rattle.std.proofs.Common.{◌≡◌, ℕ, ◌+◌, Bool, List, [], ◌∷◌, ◌++◌, length, take, ◌⊎◌, inl, inr, refl, sym, ap, ◌∙◌, subst, arith, length-append, append_assoc, append-nil}
 use Rattle.io_edge.specs.LibraryCall.{LibraryCall}
 use Rattle.rpc_framing.specs.Frames.{IsFrame, IsFrames, IsPartial, IsBadStart}
 use Rattle.hlasm_server.specs.declared.status.Status.{Status}
 use Rattle.hlasm_server.specs.declared.status.Status.TheVariants.{Done, InputEnded, OutOfMemory, ReadFault, WriteFault, BadWords, NotBuilt}
 use Rattle.hlasm_server.specs.Session.{State, Step, Goes, Ends, Refuses, hear}
 use Rattle.hlasm_server.specs.Output.{Leads, Meets, EndsAt, Out}
-use Rattle.rpc_framing.proofs.FrameLaws.{IsFrame-unique, IsPartial-no_frame, IsBadStart-unique, HasNoFrame-IsBadStart}
-use Rattle.rpc_framing.proofs.Splitting.{Splits-Breaks, IsFrames-append}
+use Rattle.rpc_framing.proofs.FrameLaws.{IsFrame-unique, IsPartial-no_frame, IsPartial-take, BeginsFrames-IsPartial, IsBadStart-unique, HasNoFrame-IsBadStart}
+use Rattle.rpc_framing.proofs.Splitting.{IsFrames-append}
 use Rattle.rpc_framing.proofs.EachStream.{each_stream}
 
 -- ---- frames
@@ -19,9 +19,7 @@ bad_has_no_frame : (f b r : List ℕ) (at : ℕ) → IsFrame f b → IsBadStart 
 bad_has_no_frame f b r at frame bad = (HasNoFrame-IsBadStart (f ++ r) at bad).none f b r frame refl
 
 bad_is_not_partial : (tail : List ℕ) (at : ℕ) → IsBadStart tail at → IsPartial tail → ⊥
-bad_is_not_partial tail at bad partial = Splits-Breaks tail [] [] tail at
-    (record { front = []; frames = refl; partial = partial; is = refl })
-    (record { front = []; tail = tail; within = at; frames = refl; bad = bad; is = refl; place = omega arith })
+bad_is_not_partial tail at bad partial = bad.bad (BeginsFrames-IsPartial (take at tail) (IsPartial-take at tail partial))
 
 -- a stream is frames, and then a partial tail or one with a bad start
 record Parts (bytes : List ℕ) : Type 0 where
@@ -35,7 +33,7 @@ record Parts (bytes : List ℕ) : Type 0 where
 parts : (bytes : List ℕ) → Parts bytes
 parts bytes = elim (each_stream bytes) [
   | inl (bodies, rest, split) ↦ record { front = split.front; bodies = bodies; tail = rest; whole = split.is; frames = split.frames; tail_is = inl split.partial }
-  | inr (bodies, at, break) ↦ record { front = break.front; bodies = bodies; tail = break.tail; whole = break.is; frames = break.frames; tail_is = inr (break.within, break.bad) }
+  | inr (bodies, departs, at, break) ↦ record { front = break.front; bodies = bodies; tail = break.tail; whole = break.is; frames = break.frames; tail_is = inr (break.within, break.bad) }
 ]
 
 -- ---- one answer

@@ -62,8 +62,8 @@ fn take_piece<S: Source>(
     };
     match reader.feed(alloc, &room[..taken]) {
         Ok(()) => Piece::Came,
-        Err(FrameFault::NotBuilt) => Piece::Broken,
         Err(FrameFault::OutOfMemory) => Piece::OutOfMemory,
+        Err(_) => Piece::Broken,
     }
 }
 

@@ -10,6 +10,7 @@
 mod fault;
 mod header;
 pub mod laws;
+mod place;
 mod reader;
 mod unfinished;
 mod writer;

@@ -9,4 +9,4 @@ invariant-loop-reader g l =
     IsReading (s.left l.initial.source) (s.left l.source) (s.waits l.initial.source) (s.waits l.source) (s.faults l.initial.source) (s.faults l.source) l.initial.reader l.reader
 
 abbrev pub decreases-loop-reader : goal.decreases-loop-reader
-decreases-loop-reader g l = 16777244 - length l.reader.rest
+decreases-loop-reader g l = 16781312 - length l.reader.rest
