@@ -16,6 +16,7 @@ mod unfinished;
 mod writer;
 
 pub use fault::FrameFault;
+pub use place::Departure;
 pub use reader::FrameReader;
 pub use writer::write_frame;
 

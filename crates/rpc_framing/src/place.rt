@@ -49,7 +49,7 @@ pub(crate) enum Place {
 
 /// What is wrong with the first byte that no frame goes on with.
 #[derive(Clone, Copy, Debug, PartialEq, Eq)]
-pub(crate) enum Departure {
+pub enum Departure {
     /// No header goes on so.
     BadHeader,
 
