@@ -3,9 +3,9 @@ use Rattle.std.proofs.Common.{◌≡◌, ℕ, List, [], ◌++◌, length, drop, 
 use Rattle.std.proofs.Math.Seq.{drop-append_seam}
 use Rattle.io_edge.specs.Told.{Gives, Gains, HasRisen}
 use Rattle.hlasm_server.specs.declared.status.Status.{Status}
-use Rattle.hlasm_server.specs.declared.status.Status.TheVariants.{Done, InputEnded, OutOfMemory, ReadFault, WriteFault, BadFrame, BadWords, InputTooLong, NotBuilt}
-use Rattle.hlasm_server.specs.Session.{start, written}
-use Rattle.hlasm_server.specs.Output.{Out}
+use Rattle.hlasm_server.specs.declared.status.Status.TheVariants.{Done, NoShutdown, InputEnded, OutOfMemory, ReadFault, WriteFault, BadFrame, BadWords, InputTooLong}
+use Rattle.session_core.specs.State.{start}
+use Rattle.session_core.specs.Step.{written}
 use Rattle.hlasm_server.specs.Headline.{Whole, IsPlainRun, HasStatusCause, Completes}
 use Rattle.hlasm_server.proofs.OutputLaws.{one_out}
 
@@ -17,27 +17,26 @@ left_now before (Some rest) taken bytes gives told =
     let is : bytes ≡ taken ++ rest = cc in
     ap Some (sym (drop-append_seam taken rest) ∙ ap (drop (length taken)) (sym is))
 
--- a run that ended otherwise is not that of an input that ends with its exit
-other_end : (status : Status) (bytes taken output : List ℕ) (replies : List (List ℕ)) (count : ℕ) → Whole [] [] bytes status (length taken) output → Out start 0 0 [] [] bytes replies Done count
-    → (status ≡ Done) × (length taken ≡ count) × (output ≡ written replies)
-other_end status bytes taken output replies count whole out =
-    let same = one_out start 0 0 [] [] bytes whole.replies replies status Done (length taken) count whole.out out in
-    (same.1, same.2, whole.all ∙ ap written same.0)
+-- a run whose answer is whole is the plain one of that input
+whole_completes : (status : Status) (l0 l1 h0 h1 : Option (List ℕ)) (plain : IsPlainRun [] [] l0 l1 h0 h1 status)
+    → ((bytes : List ℕ) → l0 ≡ Some bytes → Whole [] [] bytes status (length plain.taken) plain.output) → Completes [] [] l0 l1 h0 h1 status
+whole_completes status l0 l1 h0 h1 plain answer bytes replies wanted count told out =
+    let whole = answer bytes told in
+    let same = one_out start 0 [] [] bytes whole.replies replies status wanted (length plain.taken) count whole.out out in
+    inr (
+      same.1,
+      subst (λ n. l1 ≡ Some (drop n bytes)) same.2 (left_now l0 l1 plain.taken bytes plain.read told),
+      subst (λ z. Gains h0 z h1) (whole.all ∙ ap written same.0) plain.wrote,
+    )
 
 pub completes : (status : Status) (l0 l1 h0 h1 : Option (List ℕ)) (f0 f1 k0 k1 : ℕ) → IsPlainRun [] [] l0 l1 h0 h1 status → HasStatusCause status f0 f1 k0 k1
     → (HasRisen f0 f1 → ⊥) → (HasRisen k0 k1 → ⊥) → Completes [] [] l0 l1 h0 h1 status
-completes Done l0 l1 h0 h1 f0 f1 k0 k1 plain cause no_read no_write bytes replies count told out =
-    let same = other_end Done bytes plain.taken plain.output replies count (plain.answer bytes told) out in
-    inr (refl, subst (λ n. l1 ≡ Some (drop n bytes)) same.1 (left_now l0 l1 plain.taken bytes plain.read told), subst (λ z. Gains h0 z h1) same.2 plain.wrote)
-completes InputEnded l0 l1 h0 h1 f0 f1 k0 k1 plain cause no_read no_write bytes replies count told out =
-    let same = (other_end InputEnded bytes plain.taken plain.output replies count (plain.answer bytes told) out).0 in cc
-completes OutOfMemory l0 l1 h0 h1 f0 f1 k0 k1 plain cause no_read no_write bytes replies count told out = inl refl
-completes ReadFault l0 l1 h0 h1 f0 f1 k0 k1 plain cause no_read no_write bytes replies count told out = absurd (no_read cause)
-completes WriteFault l0 l1 h0 h1 f0 f1 k0 k1 plain cause no_read no_write bytes replies count told out = absurd (no_write cause)
-completes BadWords l0 l1 h0 h1 f0 f1 k0 k1 plain cause no_read no_write bytes replies count told out = absurd (plain.answer bytes told)
-completes (BadFrame at) l0 l1 h0 h1 f0 f1 k0 k1 plain cause no_read no_write bytes replies count told out =
-    let same = (other_end (BadFrame at) bytes plain.taken plain.output replies count (plain.answer bytes told) out).0 in cc
-completes InputTooLong l0 l1 h0 h1 f0 f1 k0 k1 plain cause no_read no_write bytes replies count told out =
-    let same = (other_end InputTooLong bytes plain.taken plain.output replies count (plain.answer bytes told) out).0 in cc
-completes (NotBuilt n) l0 l1 h0 h1 f0 f1 k0 k1 plain cause no_read no_write bytes replies count told out =
-    let same = (other_end (NotBuilt n) bytes plain.taken plain.output replies count (plain.answer bytes told) out).0 in cc
+completes Done l0 l1 h0 h1 f0 f1 k0 k1 plain cause no_read no_write = whole_completes Done l0 l1 h0 h1 plain plain.answer
+completes NoShutdown l0 l1 h0 h1 f0 f1 k0 k1 plain cause no_read no_write = whole_completes NoShutdown l0 l1 h0 h1 plain plain.answer
+completes InputEnded l0 l1 h0 h1 f0 f1 k0 k1 plain cause no_read no_write = whole_completes InputEnded l0 l1 h0 h1 plain plain.answer
+completes (BadFrame at) l0 l1 h0 h1 f0 f1 k0 k1 plain cause no_read no_write = whole_completes (BadFrame at) l0 l1 h0 h1 plain plain.answer
+completes InputTooLong l0 l1 h0 h1 f0 f1 k0 k1 plain cause no_read no_write = whole_completes InputTooLong l0 l1 h0 h1 plain plain.answer
+completes OutOfMemory l0 l1 h0 h1 f0 f1 k0 k1 plain cause no_read no_write = λ bytes replies wanted count told out. inl refl
+completes ReadFault l0 l1 h0 h1 f0 f1 k0 k1 plain cause no_read no_write = absurd (no_read cause)
+completes WriteFault l0 l1 h0 h1 f0 f1 k0 k1 plain cause no_read no_write = absurd (no_write cause)
+completes BadWords l0 l1 h0 h1 f0 f1 k0 k1 plain cause no_read no_write = λ bytes replies wanted count told out. absurd (plain.answer bytes told)

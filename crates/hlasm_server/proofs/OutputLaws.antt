@@ -1,12 +1,13 @@
 -- Laws of what a run writes and answers: there is one answer for each input, and only one.
-use Rattle.std.proofs.Common.{◌≡◌, ℕ, ◌+◌, ◌-◌, ◌^◌, ◌<◌, ◌≤◌, Bool, List, [], ◌∷◌, ◌++◌, length, take, drop, ◌⊎◌, inl, inr, refl, sym, ap, ◌∙◌, subst, arith, length-append, append_assoc, append-nil}
+use Rattle.std.proofs.Common.{◌≡◌, ℕ, ◌+◌, ◌-◌, ◌<◌, ◌≤◌, Bool, true, false, List, [], ◌∷◌, ◌++◌, length, take, drop, ◌⊎◌, inl, inr, refl, sym, ap, ◌∙◌, subst, arith, length-append, append_assoc, append-nil}
 use Rattle.std.proofs.lemmas.Bool.{cases_lt}
 use Rattle.std.proofs.lemmas.List.{take-append-drop, take-append-le, take-take, length-drop}
 use Rattle.io_edge.specs.LibraryCall.{LibraryCall}
-use Rattle.rpc_framing.specs.Frames.{IsFrame, IsFrames, BeginsFrames, IsPartial, IsBadStart}
+use Rattle.rpc_framing.specs.Frames.{IsFrame, IsFrames, IsPartial, IsBadStart}
 use Rattle.hlasm_server.specs.declared.status.Status.{Status}
-use Rattle.hlasm_server.specs.declared.status.Status.TheVariants.{Done, InputEnded, OutOfMemory, ReadFault, WriteFault, BadFrame, BadWords, InputTooLong, NotBuilt}
-use Rattle.hlasm_server.specs.Session.{State, Step, Goes, Ends, Refuses, hear}
+use Rattle.hlasm_server.specs.declared.status.Status.TheVariants.{Done, NoShutdown, InputEnded, OutOfMemory, ReadFault, WriteFault, BadFrame, BadWords, InputTooLong}
+use Rattle.session_core.specs.State.{State}
+use Rattle.hlasm_server.specs.Hearing.{Heard, Goes, Ends, hear}
 use Rattle.hlasm_server.specs.Output.{Leads, Meets, most_input, EndsAt, Out}
 use Rattle.rpc_framing.proofs.Lists.{take-past}
 use Rattle.rpc_framing.proofs.FrameLaws.{IsFrame-unique, IsPartial-no_frame, IsPartial-take, BeginsFrames-IsPartial, IsBadStart-unique, HasNoFrame-IsBadStart}
@@ -65,112 +66,117 @@ parts bytes = elim (each_stream bytes) [
 -- ---- one answer
 
 -- two meetings of one frame are one
-one_meeting : (s : State) (tail : List ℕ) (a b : Step) (m n : ℕ) → Meets s tail a m → Meets s tail b n → (a ≡ b) × (m ≡ n)
+one_meeting : (s : State) (tail : List ℕ) (a b : Heard) (m n : ℕ) → Meets s tail a m → Meets s tail b n → (a ≡ b) × (m ≡ n)
 one_meeting s tail a b m n p q =
     let same = IsFrame-unique p.bytes q.bytes p.body q.body p.rest q.rest p.is_frame q.is_frame (sym p.whole ∙ q.whole) in
     (sym p.effect ∙ ap (hear s) same.1 ∙ q.effect, p.place ∙ ap length same.0 ∙ sym q.place)
 
-partial_meets_nothing : (s : State) (tail : List ℕ) (a : Step) (m : ℕ) → Meets s tail a m → IsPartial tail → ⊥
+partial_meets_nothing : (s : State) (tail : List ℕ) (a : Heard) (m : ℕ) → Meets s tail a m → IsPartial tail → ⊥
 partial_meets_nothing s tail a m p q = partial_has_no_frame p.bytes p.body p.rest p.is_frame (subst IsPartial p.whole q)
 
-bad_meets_nothing : (s : State) (tail : List ℕ) (a : Step) (m at : ℕ) → Meets s tail a m → IsBadStart tail at → ⊥
+bad_meets_nothing : (s : State) (tail : List ℕ) (a : Heard) (m at : ℕ) → Meets s tail a m → IsBadStart tail at → ⊥
 bad_meets_nothing s tail a m at p q = bad_has_no_frame p.bytes p.body p.rest at p.is_frame (subst (λ t. IsBadStart t at) p.whole q)
 
-taken_meets_nothing : (s : State) (tail : List ℕ) (a : Step) (m k : ℕ) → Meets s tail a m → m ≤ k → IsPartial (take k tail) → ⊥
+taken_meets_nothing : (s : State) (tail : List ℕ) (a : Heard) (m k : ℕ) → Meets s tail a m → m ≤ k → IsPartial (take k tail) → ⊥
 taken_meets_nothing s tail a m k p le partial =
     let place = p.place in
     taken_has_no_frame p.bytes p.body p.rest k p.is_frame (omega arith) (subst (λ t. IsPartial (take k t)) p.whole partial)
 
--- the status that a frame's body brings
-abbrev brings : Step → ℕ → Status
-brings (Goes next first) heard = BadWords
-brings Ends heard = Done
-brings Refuses heard = NotBuilt heard
+-- the status that a frame's body brings, where the session ends with it
+abbrev pub brings : Heard → Status
+brings (Goes next first) = BadWords
+brings (Ends true) = Done
+brings (Ends false) = NoShutdown
 
 -- Why a session ends where it stands open: by the next frame, by the input's end, by a bad start, or by the most that
 -- is taken.
-data Cause (s : State) (heard before : ℕ) (tail : List ℕ) (status : Status) (taken : ℕ) : Type 0 where
-  by_frame : (step : Step) → Meets s tail step taken → status ≡ brings step heard → ((next : State) (first : List (List ℕ)) → step ≡ Goes next first → ⊥) → Cause s heard before tail status taken
-  by_end : IsPartial tail → taken ≡ length tail → before + taken < most_input → status ≡ InputEnded → Cause s heard before tail status taken
-  by_bad : IsBadStart tail taken → status ≡ BadFrame (before + taken) → Cause s heard before tail status taken
-  by_limit : IsPartial (take taken tail) → taken ≤ length tail → before + taken ≡ most_input → status ≡ InputTooLong → Cause s heard before tail status taken
+data Cause (s : State) (before : ℕ) (tail : List ℕ) (status : Status) (taken : ℕ) : Type 0 where
+  by_frame : (closed : Bool) → Meets s tail (Ends closed) taken → status ≡ brings (Ends closed) → Cause s before tail status taken
+  by_end : IsPartial tail → taken ≡ length tail → before + taken < most_input → status ≡ InputEnded → Cause s before tail status taken
+  by_bad : IsBadStart tail taken → status ≡ BadFrame (before + taken) → Cause s before tail status taken
+  by_limit : IsPartial (take taken tail) → taken ≤ length tail → before + taken ≡ most_input → status ≡ InputTooLong → Cause s before tail status taken
 
-cause_of : (s : State) (heard before : ℕ) (tail : List ℕ) (status : Status) (taken : ℕ) → EndsAt s heard before tail status taken → Cause s heard before tail status taken
-cause_of s heard before tail Done taken e = by_frame Ends e refl (λ next first is. cc)
-cause_of s heard before tail InputEnded taken e = by_end e.0 e.1 e.2 refl
-cause_of s heard before tail (BadFrame at) taken e = by_bad e.0 (ap BadFrame e.1)
-cause_of s heard before tail InputTooLong taken e = by_limit e.0 e.1 e.2 refl
-cause_of s heard before tail (NotBuilt frames) taken e = by_frame Refuses e.1 (ap NotBuilt e.0) (λ next first is. cc)
-cause_of s heard before tail OutOfMemory taken e = absurd e
-cause_of s heard before tail ReadFault taken e = absurd e
-cause_of s heard before tail WriteFault taken e = absurd e
-cause_of s heard before tail BadWords taken e = absurd e
+pub ends_by_frame : (closed : Bool) (s : State) (before : ℕ) (tail : List ℕ) (taken : ℕ) → Meets s tail (Ends closed) taken → EndsAt s before tail (brings (Ends closed)) taken
+ends_by_frame true s before tail taken met = met
+ends_by_frame false s before tail taken met = met
+
+cause_of : (s : State) (before : ℕ) (tail : List ℕ) (status : Status) (taken : ℕ) → EndsAt s before tail status taken → Cause s before tail status taken
+cause_of s before tail Done taken e = by_frame true e refl
+cause_of s before tail NoShutdown taken e = by_frame false e refl
+cause_of s before tail InputEnded taken e = by_end e.0 e.1 e.2 refl
+cause_of s before tail (BadFrame at) taken e = by_bad e.0 (ap BadFrame e.1)
+cause_of s before tail InputTooLong taken e = by_limit e.0 e.1 e.2 refl
+cause_of s before tail OutOfMemory taken e = absurd e
+cause_of s before tail ReadFault taken e = absurd e
+cause_of s before tail WriteFault taken e = absurd e
+cause_of s before tail BadWords taken e = absurd e
 
 -- where the session stands open, the next thing that happens is one
-one_cause : (s : State) (n before : ℕ) (tail : List ℕ) (u v : Status) (a b : ℕ) → before + a ≤ most_input → before + b ≤ most_input → Cause s n before tail u a → Cause s n before tail v b → (u ≡ v) × (a ≡ b)
-one_cause s n before tail u v a b la lb (by_frame step met is _) (by_frame other met' is' _) =
-    let same = one_meeting s tail step other a b met met' in
-    (is ∙ ap (λ t. brings t n) same.0 ∙ sym is', same.1)
-one_cause s n before tail u v a b la lb (by_frame step met is _) (by_end partial all few is') = absurd (partial_meets_nothing s tail step a met partial)
-one_cause s n before tail u v a b la lb (by_frame step met is _) (by_bad bad is') = absurd (bad_meets_nothing s tail step a b met bad)
-one_cause s n before tail u v a b la lb (by_frame step met is _) (by_limit partial le most is') = absurd (taken_meets_nothing s tail step a b met (omega arith) partial)
-one_cause s n before tail u v a b la lb (by_end partial all few is) (by_frame step met is' _) = absurd (partial_meets_nothing s tail step b met partial)
-one_cause s n before tail u v a b la lb (by_end partial all few is) (by_end partial' all' few' is') = (is ∙ sym is', all ∙ sym all')
-one_cause s n before tail u v a b la lb (by_end partial all few is) (by_bad bad is') = absurd (bad_is_not_partial tail b bad partial)
-one_cause s n before tail u v a b la lb (by_end partial all few is) (by_limit partial' le most is') = absurd (omega arith)
-one_cause s n before tail u v a b la lb (by_bad bad is) (by_frame step met is' _) = absurd (bad_meets_nothing s tail step b a met bad)
-one_cause s n before tail u v a b la lb (by_bad bad is) (by_end partial all few is') = absurd (bad_is_not_partial tail a bad partial)
-one_cause s n before tail u v a b la lb (by_bad bad is) (by_bad bad' is') =
+one_cause : (s : State) (before : ℕ) (tail : List ℕ) (u v : Status) (a b : ℕ) → before + a ≤ most_input → before + b ≤ most_input → Cause s before tail u a → Cause s before tail v b → (u ≡ v) × (a ≡ b)
+one_cause s before tail u v a b la lb (by_frame closed met is) (by_frame other met' is') =
+    let same = one_meeting s tail (Ends closed) (Ends other) a b met met' in
+    (is ∙ ap brings same.0 ∙ sym is', same.1)
+one_cause s before tail u v a b la lb (by_frame closed met is) (by_end partial all few is') = absurd (partial_meets_nothing s tail (Ends closed) a met partial)
+one_cause s before tail u v a b la lb (by_frame closed met is) (by_bad bad is') = absurd (bad_meets_nothing s tail (Ends closed) a b met bad)
+one_cause s before tail u v a b la lb (by_frame closed met is) (by_limit partial le most is') = absurd (taken_meets_nothing s tail (Ends closed) a b met (omega arith) partial)
+one_cause s before tail u v a b la lb (by_end partial all few is) (by_frame closed met is') = absurd (partial_meets_nothing s tail (Ends closed) b met partial)
+one_cause s before tail u v a b la lb (by_end partial all few is) (by_end partial' all' few' is') = (is ∙ sym is', all ∙ sym all')
+one_cause s before tail u v a b la lb (by_end partial all few is) (by_bad bad is') = absurd (bad_is_not_partial tail b bad partial)
+one_cause s before tail u v a b la lb (by_end partial all few is) (by_limit partial' le most is') = absurd (omega arith)
+one_cause s before tail u v a b la lb (by_bad bad is) (by_frame closed met is') = absurd (bad_meets_nothing s tail (Ends closed) b a met bad)
+one_cause s before tail u v a b la lb (by_bad bad is) (by_end partial all few is') = absurd (bad_is_not_partial tail a bad partial)
+one_cause s before tail u v a b la lb (by_bad bad is) (by_bad bad' is') =
     let same = IsBadStart-unique tail a b bad bad' in
     (is ∙ ap (λ k. BadFrame (before + k)) same ∙ sym is', same)
-one_cause s n before tail u v a b la lb (by_bad bad is) (by_limit partial le most is') = absurd (bad_is_not_taken tail a b bad (omega arith) partial)
-one_cause s n before tail u v a b la lb (by_limit partial le most is) (by_frame step met is' _) = absurd (taken_meets_nothing s tail step b a met (omega arith) partial)
-one_cause s n before tail u v a b la lb (by_limit partial le most is) (by_end partial' all few is') = absurd (omega arith)
-one_cause s n before tail u v a b la lb (by_limit partial le most is) (by_bad bad is') = absurd (bad_is_not_taken tail b a bad (omega arith) partial)
-one_cause s n before tail u v a b la lb (by_limit partial le most is) (by_limit partial' le' most' is') = (is ∙ sym is', (omega arith))
+one_cause s before tail u v a b la lb (by_bad bad is) (by_limit partial le most is') = absurd (bad_is_not_taken tail a b bad (omega arith) partial)
+one_cause s before tail u v a b la lb (by_limit partial le most is) (by_frame closed met is') = absurd (taken_meets_nothing s tail (Ends closed) b a met (omega arith) partial)
+one_cause s before tail u v a b la lb (by_limit partial le most is) (by_end partial' all few is') = absurd (omega arith)
+one_cause s before tail u v a b la lb (by_limit partial le most is) (by_bad bad is') = absurd (bad_is_not_taken tail b a bad (omega arith) partial)
+one_cause s before tail u v a b la lb (by_limit partial le most is) (by_limit partial' le' most' is') = (is ∙ sym is', (omega arith))
 
-one_end : (s : State) (n before : ℕ) (tail : List ℕ) (u v : Status) (a b : ℕ) → before + a ≤ most_input → before + b ≤ most_input → EndsAt s n before tail u a → EndsAt s n before tail v b → (u ≡ v) × (a ≡ b)
-one_end s n before tail u v a b la lb p q = one_cause s n before tail u v a b la lb (cause_of s n before tail u a p) (cause_of s n before tail v b q)
+one_end : (s : State) (before : ℕ) (tail : List ℕ) (u v : Status) (a b : ℕ) → before + a ≤ most_input → before + b ≤ most_input → EndsAt s before tail u a → EndsAt s before tail v b → (u ≡ v) × (a ≡ b)
+one_end s before tail u v a b la lb p q = one_cause s before tail u v a b la lb (cause_of s before tail u a p) (cause_of s before tail v b q)
 
 -- a session that hears the next frame within what is taken and goes on has not ended there
-end_is_no_frame : (s next : State) (n before : ℕ) (f b r : List ℕ) (first : List (List ℕ)) (u : Status) (a : ℕ) → IsFrame f b → hear s b ≡ Goes next first → before + length f ≤ most_input → EndsAt s n before (f ++ r) u a → ⊥
-end_is_no_frame s next n before f b r first u a p e room q = elim (cause_of s n before (f ++ r) u a q) [
-  | by_frame step met is stops ↦
+end_is_no_frame : (s next : State) (before : ℕ) (f b r : List ℕ) (first : List (List ℕ)) (u : Status) (a : ℕ) → IsFrame f b → hear s b ≡ Goes next first → before + length f ≤ most_input → EndsAt s before (f ++ r) u a → ⊥
+end_is_no_frame s next before f b r first u a p e room q = elim (cause_of s before (f ++ r) u a q) [
+  | by_frame closed met is ↦
       let same = IsFrame-unique f met.bytes b met.body r met.rest p met.is_frame met.whole in
-      stops next first (sym (sym e ∙ ap (hear s) same.1 ∙ met.effect))
+      let both : Goes next first ≡ Ends closed = sym e ∙ ap (hear s) same.1 ∙ met.effect in
+      cc
   | by_end partial all few is ↦ partial_has_no_frame f b r p partial
   | by_bad bad is ↦ bad_has_no_frame f b r a p bad
   | by_limit partial le most is ↦ taken_has_no_frame f b r a p (omega arith) partial
 ]
 
 -- what was heard and what ended it, of an input in two readings
-pub one_reading : (bs cs : List (List ℕ)) (s t v : State) (n before : ℕ) (f g x y : List ℕ) (ra rb : List (List ℕ)) (u w : Status) (a b : ℕ)
+pub one_reading : (bs cs : List (List ℕ)) (s t v : State) (before : ℕ) (f g x y : List ℕ) (ra rb : List (List ℕ)) (u w : Status) (a b : ℕ)
     → IsFrames f bs → IsFrames g cs → f ++ x ≡ g ++ y → Leads s bs t ra → Leads s cs v rb
     → before + (length f + a) ≤ most_input → before + (length g + b) ≤ most_input
-    → EndsAt t (n + length bs) (before + length f) x u a → EndsAt v (n + length cs) (before + length g) y w b → (ra ≡ rb) × (u ≡ w) × (length f + a ≡ length g + b)
-one_reading [] [] s t v n before f g x y ra rb u w a b p q e l m la lb end end' =
+    → EndsAt t (before + length f) x u a → EndsAt v (before + length g) y w b → (ra ≡ rb) × (u ≡ w) × (length f + a ≡ length g + b)
+one_reading [] [] s t v before f g x y ra rb u w a b p q e l m la lb end end' =
     let same_tail : x ≡ y = sym (ap (λ z. z ++ x) p) ∙ e ∙ ap (λ z. z ++ y) q in
     let lengths : length f ≡ length g = ap length p ∙ sym (ap length q) in
     let none : length f ≡ 0 = ap length p in
     let at : before + length g ≡ before + length f = omega arith in
-    let there : EndsAt s (n + 0) (before + length f) x w b =
-    subst (λ k. EndsAt s (n + 0) k x w b) at (subst (λ (z : State). EndsAt z (n + 0) (before + length g) x w b) m.0 (subst (λ z. EndsAt v (n + 0) (before + length g) z w b) (sym same_tail) end')) in
-    let here : EndsAt s (n + 0) (before + length f) x u a = subst (λ (z : State). EndsAt z (n + 0) (before + length f) x u a) l.0 end in
-    let same = one_end s (n + 0) (before + length f) x u w a b (omega arith) (omega arith) here there in
+    let there : EndsAt s (before + length f) x w b =
+    subst (λ k. EndsAt s k x w b) at (subst (λ (z : State). EndsAt z (before + length g) x w b) m.0 (subst (λ z. EndsAt v (before + length g) z w b) (sym same_tail) end')) in
+    let here : EndsAt s (before + length f) x u a = subst (λ (z : State). EndsAt z (before + length f) x u a) l.0 end in
+    let same = one_end s (before + length f) x u w a b (omega arith) (omega arith) here there in
     (l.1 ∙ sym m.1, same.0, omega (arith, same.1))
-one_reading [] (c ∷ cs) s t v n before f g x y ra rb u w a b p (first, others, is, rest, cut) e l (next, said, more, goes, on, _) la lb end end' =
+one_reading [] (c ∷ cs) s t v before f g x y ra rb u w a b p (first, others, is, rest, cut) e l (next, said, more, goes, on, _) la lb end end' =
     let reads : x ≡ first ++ (others ++ y) = sym (ap (λ z. z ++ x) p) ∙ e ∙ ap (λ z. z ++ y) cut ∙ append_assoc first others y in
-    let here : EndsAt s (n + 0) (before + length f) (first ++ (others ++ y)) u a = subst (λ z. EndsAt s (n + 0) (before + length f) z u a) reads (subst (λ (z : State). EndsAt z (n + 0) (before + length f) x u a) l.0 end) in
+    let here : EndsAt s (before + length f) (first ++ (others ++ y)) u a = subst (λ z. EndsAt s (before + length f) z u a) reads (subst (λ (z : State). EndsAt z (before + length f) x u a) l.0 end) in
     let none : length f ≡ 0 = ap length p in
     let size : length g ≡ length first + length others = ap length cut ∙ length-append first others in
-    absurd (end_is_no_frame s next (n + 0) (before + length f) first c (others ++ y) said u a is goes (omega arith) here)
-one_reading (b' ∷ bs) [] s t v n before f g x y ra rb u w a b (first, others, is, rest, cut) q e (next, said, more, goes, on, _) m la lb end end' =
+    absurd (end_is_no_frame s next (before + length f) first c (others ++ y) said u a is goes (omega arith) here)
+one_reading (b' ∷ bs) [] s t v before f g x y ra rb u w a b (first, others, is, rest, cut) q e (next, said, more, goes, on, _) m la lb end end' =
     let reads : y ≡ first ++ (others ++ x) = sym (ap (λ z. z ++ y) q) ∙ sym e ∙ ap (λ z. z ++ x) cut ∙ append_assoc first others x in
-    let here : EndsAt s (n + 0) (before + length g) (first ++ (others ++ x)) w b = subst (λ z. EndsAt s (n + 0) (before + length g) z w b) reads (subst (λ (z : State). EndsAt z (n + 0) (before + length g) y w b) m.0 end') in
+    let here : EndsAt s (before + length g) (first ++ (others ++ x)) w b = subst (λ z. EndsAt s (before + length g) z w b) reads (subst (λ (z : State). EndsAt z (before + length g) y w b) m.0 end') in
     let none : length g ≡ 0 = ap length q in
     let size : length f ≡ length first + length others = ap length cut ∙ length-append first others in
-    absurd (end_is_no_frame s next (n + 0) (before + length g) first b' (others ++ x) said w b is goes (omega arith) here)
-one_reading (b' ∷ bs) (c ∷ cs) s t v n before f g x y ra rb u w a b (first, others, is, rest, cut) (first', others', is', rest', cut') e (next, said, more, goes, on, all) (next', said', more', goes', on', all') la lb end end' =
+    absurd (end_is_no_frame s next (before + length g) first b' (others ++ x) said w b is goes (omega arith) here)
+one_reading (b' ∷ bs) (c ∷ cs) s t v before f g x y ra rb u w a b (first, others, is, rest, cut) (first', others', is', rest', cut') e (next, said, more, goes, on, all) (next', said', more', goes', on', all') la lb end end' =
     let cuts : first ++ (others ++ x) ≡ first' ++ (others' ++ y) =
     sym (append_assoc first others x) ∙ sym (ap (λ z. z ++ x) cut) ∙ e ∙ ap (λ z. z ++ y) cut' ∙ append_assoc first' others' y in
     let same = IsFrame-unique first first' b' c (others ++ x) (others' ++ y) is is' cuts in
@@ -183,45 +189,41 @@ one_reading (b' ∷ bs) (c ∷ cs) s t v n before f g x y ra rb u w a b (first, 
     let firsts : length first ≡ length first' = ap length same.0 in
     let before_is : before + length f ≡ (before + length first) + length others = omega arith in
     let before_is' : before + length g ≡ (before + length first) + length others' = omega arith in
-    let counts : EndsAt t ((n + 1) + length bs) ((before + length first) + length others) x u a =
-    subst (λ k. EndsAt t ((n + 1) + length bs) k x u a) before_is (subst (λ k. EndsAt t k (before + length f) x u a) (omega arith) end) in
-    let counts' : EndsAt v ((n + 1) + length cs) ((before + length first) + length others') y w b =
-    subst (λ k. EndsAt v ((n + 1) + length cs) k y w b) before_is' (subst (λ k. EndsAt v k (before + length g) y w b) (omega arith) end') in
-    let behind = one_reading bs cs next t v (n + 1) (before + length first) others others' x y more more' u w a b rest rest' same.2 on on_too (omega arith) (omega arith) counts counts' in
+    let end_here : EndsAt t ((before + length first) + length others) x u a = subst (λ k. EndsAt t k x u a) before_is end in
+    let end_there : EndsAt v ((before + length first) + length others') y w b = subst (λ k. EndsAt v k y w b) before_is' end' in
+    let behind = one_reading bs cs next t v (before + length first) others others' x y more more' u w a b rest rest' same.2 on on_too (omega arith) (omega arith) end_here end_there in
     (all ∙ ap (λ z. z ++ more) same_said ∙ ap (λ z. said' ++ z) behind.0 ∙ sym all', behind.1, omega (arith, behind.2))
 
 -- one output, one status and one count for an input
-pub one_out : (from : State) (earlier before : ℕ) (waits : List Bool) (calls : List LibraryCall) (bytes : List ℕ) (replies others : List (List ℕ)) (status other : Status) (taken count : ℕ)
-    → Out from earlier before waits calls bytes replies status taken → Out from earlier before waits calls bytes others other count
+pub one_out : (from : State) (before : ℕ) (waits : List Bool) (calls : List LibraryCall) (bytes : List ℕ) (replies others : List (List ℕ)) (status other : Status) (taken count : ℕ)
+    → Out from before waits calls bytes replies status taken → Out from before waits calls bytes others other count
     → (replies ≡ others) × (status ≡ other) × (taken ≡ count)
-one_out from earlier before waits calls bytes replies others status other taken count p q =
+one_out from before waits calls bytes replies others status other taken count p q =
     let one = p.count in
     let two = q.count in
     let room = p.within in
     let space = q.within in
-    let same = one_reading p.bodies q.bodies from p.state q.state earlier before p.front q.front p.tail q.tail replies others status other p.place q.place
+    let same = one_reading p.bodies q.bodies from p.state q.state before p.front q.front p.tail q.tail replies others status other p.place q.place
     p.frames q.frames (sym p.whole ∙ q.whole) p.heard q.heard (omega arith) (omega arith) p.ends q.ends in
     (same.0, same.1, p.count ∙ same.2 ∙ sym q.count)
 
 -- ---- some answer
 
--- the session goes on, has ended, or refuses
-pub data Effect (step : Step) : Type 0 where
-  going : (next : State) (first : List (List ℕ)) → step ≡ Goes next first → Effect step
-  ending : step ≡ Ends → Effect step
-  refusing : step ≡ Refuses → Effect step
+-- the session goes on, or is at its end
+pub data Effect (heard : Heard) : Type 0 where
+  going : (next : State) (first : List (List ℕ)) → heard ≡ Goes next first → Effect heard
+  ending : (closed : Bool) → heard ≡ Ends closed → Effect heard
 
-pub effect_of : (step : Step) → Effect step
+pub effect_of : (heard : Heard) → Effect heard
 effect_of (Goes next first) = going next first refl
-effect_of Ends = ending refl
-effect_of Refuses = refusing refl
+effect_of (Ends closed) = ending closed refl
 
 -- there is an output of this input
-pub record SomeOut (from : State) (earlier before : ℕ) (waits : List Bool) (bytes : List ℕ) : Type 0 where
+pub record SomeOut (from : State) (before : ℕ) (waits : List Bool) (bytes : List ℕ) : Type 0 where
   pub replies : List (List ℕ)
   pub status : Status
   pub taken : ℕ
-  pub out : Out from earlier before waits [] bytes replies status taken
+  pub out : Out from before waits [] bytes replies status taken
 
 pub Leads-append : (bs cs : List (List ℕ)) (s t v : State) (first rest : List (List ℕ)) → Leads s bs t first → Leads t cs v rest → Leads s (bs ++ cs) v (first ++ rest)
 Leads-append [] cs s t v first rest p q =
@@ -231,9 +233,9 @@ Leads-append (b ∷ bs) cs s t v first rest (next, said, more, goes, on, all) q 
     (next, said, more ++ rest, goes, Leads-append bs cs next t v more rest on q, ap (λ z. z ++ rest) all ∙ append_assoc said more rest)
 
 -- what was heard before goes before
-pub Out-behind : (bs : List (List ℕ)) (s t : State) (n before : ℕ) (waits : List Bool) (calls : List LibraryCall) (front bytes : List ℕ) (first rest : List (List ℕ)) (status : Status) (taken : ℕ)
-    → IsFrames front bs → Leads s bs t first → Out t (n + length bs) (before + length front) waits calls bytes rest status taken → Out s n before waits calls (front ++ bytes) (first ++ rest) status (length front + taken)
-Out-behind bs s t n before waits calls front bytes first rest status taken p l o = record {
+pub Out-behind : (bs : List (List ℕ)) (s t : State) (before : ℕ) (waits : List Bool) (calls : List LibraryCall) (front bytes : List ℕ) (first rest : List (List ℕ)) (status : Status) (taken : ℕ)
+    → IsFrames front bs → Leads s bs t first → Out t (before + length front) waits calls bytes rest status taken → Out s before waits calls (front ++ bytes) (first ++ rest) status (length front + taken)
+Out-behind bs s t before waits calls front bytes first rest status taken p l o = record {
   front = front ++ o.front;
   bodies = bs ++ o.bodies;
   tail = o.tail;
@@ -242,18 +244,16 @@ Out-behind bs s t n before waits calls front bytes first rest status taken p l o
   whole = ap (λ z. front ++ z) o.whole ∙ sym (append_assoc front o.front o.tail);
   frames = IsFrames-append bs o.bodies front o.front p o.frames;
   heard = Leads-append bs o.bodies s t o.state first rest l o.heard;
-  ends = let counts : n + length bs + length o.bodies ≡ n + length (bs ++ o.bodies) = omega (arith, length-append bs o.bodies) in
-      let bytes_counted : before + length front + length o.front ≡ before + length (front ++ o.front) = omega (arith, length-append front o.front) in
-      subst (λ k. EndsAt o.state (n + length (bs ++ o.bodies)) k o.tail status o.place) bytes_counted
-      (subst (λ k. EndsAt o.state k (before + length front + length o.front) o.tail status o.place) counts o.ends);
+  ends = let counted : before + length front + length o.front ≡ before + length (front ++ o.front) = omega (arith, length-append front o.front) in
+      subst (λ k. EndsAt o.state k o.tail status o.place) counted o.ends;
   count = omega (arith, o.count, length-append front o.front);
   within = let room = o.within in omega arith;
   none_left = o.none_left;
 }
 
 -- the session ends with the next thing that happens
-pub Out-here : (s : State) (n before : ℕ) (waits : List Bool) (bytes : List ℕ) (status : Status) (taken : ℕ) → before + taken ≤ most_input → EndsAt s n before bytes status taken → Out s n before waits [] bytes [] status taken
-Out-here s n before waits bytes status taken room end = record {
+pub Out-here : (s : State) (before : ℕ) (waits : List Bool) (bytes : List ℕ) (status : Status) (taken : ℕ) → before + taken ≤ most_input → EndsAt s before bytes status taken → Out s before waits [] bytes [] status taken
+Out-here s before waits bytes status taken room end = record {
   front = [];
   bodies = [];
   tail = bytes;
@@ -262,71 +262,68 @@ Out-here s n before waits bytes status taken room end = record {
   whole = refl;
   frames = refl;
   heard = (refl, refl);
-  ends = let none : n ≡ n + 0 = omega arith in
-      let at : before ≡ before + 0 = omega arith in
-      subst (λ k. EndsAt s (n + 0) k bytes status taken) at (subst (λ k. EndsAt s k before bytes status taken) none end);
+  ends = let at : before ≡ before + 0 = omega arith in subst (λ k. EndsAt s k bytes status taken) at end;
   count = omega arith;
   within = room;
   none_left = refl;
 }
 
 -- all was taken that may be
-pub out_at_limit : (s : State) (n before : ℕ) (waits : List Bool) (bytes : List ℕ) (taken : ℕ) → IsPartial (take taken bytes) → taken ≤ length bytes → before + taken ≡ most_input → SomeOut s n before waits bytes
-out_at_limit s n before waits bytes taken partial le most = record { replies = []; status = InputTooLong; taken = taken; out = Out-here s n before waits bytes InputTooLong taken (omega arith) (partial, le, most) }
+pub out_at_limit : (s : State) (before : ℕ) (waits : List Bool) (bytes : List ℕ) (taken : ℕ) → IsPartial (take taken bytes) → taken ≤ length bytes → before + taken ≡ most_input → SomeOut s before waits bytes
+out_at_limit s before waits bytes taken partial le most = record { replies = []; status = InputTooLong; taken = taken; out = Out-here s before waits bytes InputTooLong taken (omega arith) (partial, le, most) }
 
 -- one frame and what comes behind it
-pub one_more : (b : List ℕ) (s t : State) (n before : ℕ) (waits : List Bool) (f bytes : List ℕ) (first : List (List ℕ)) → IsFrame f b → hear s b ≡ Goes t first → SomeOut t (n + 1) (before + length f) waits bytes → SomeOut s n before waits (f ++ bytes)
-one_more b s t n before waits f bytes first p goes o = record {
+pub one_more : (b : List ℕ) (s t : State) (before : ℕ) (waits : List Bool) (f bytes : List ℕ) (first : List (List ℕ)) → IsFrame f b → hear s b ≡ Goes t first → SomeOut t (before + length f) waits bytes → SomeOut s before waits (f ++ bytes)
+one_more b s t before waits f bytes first p goes o = record {
   replies = first ++ o.replies;
   status = o.status;
   taken = length f + o.taken;
   out = let frames : IsFrames f (b ∷ []) = (f, [], p, refl, sym (append-nil f)) in
       let leads : Leads s (b ∷ []) t first = (t, first, [], goes, (refl, refl), sym (append-nil first)) in
-      Out-behind (b ∷ []) s t n before waits [] f bytes first o.replies o.status o.taken frames leads o.out;
+      Out-behind (b ∷ []) s t before waits [] f bytes first o.replies o.status o.taken frames leads o.out;
 }
 
--- a frame whose body ends the session, or may not stand there
-pub met_frame : (b : List ℕ) (s : State) (f bytes : List ℕ) (step : Step) → IsFrame f b → hear s b ≡ step → Meets s (f ++ bytes) step (length f)
-met_frame b s f bytes step p e = record { bytes = f; body = b; rest = bytes; whole = refl; is_frame = p; effect = e; place = refl }
+-- a frame whose body comes to this
+pub met_frame : (b : List ℕ) (s : State) (f bytes : List ℕ) (heard : Heard) → IsFrame f b → hear s b ≡ heard → Meets s (f ++ bytes) heard (length f)
+met_frame b s f bytes heard p e = record { bytes = f; body = b; rest = bytes; whole = refl; is_frame = p; effect = e; place = refl }
 
 -- a frame that passes what may be taken
-out_past : (b : List ℕ) (s : State) (n before : ℕ) (waits : List Bool) (f bytes : List ℕ) → IsFrame f b → before ≤ most_input → most_input < before + length f → SomeOut s n before waits (f ++ bytes)
-out_past b s n before waits f bytes is room past =
+out_past : (b : List ℕ) (s : State) (before : ℕ) (waits : List Bool) (f bytes : List ℕ) → IsFrame f b → before ≤ most_input → most_input < before + length f → SomeOut s before waits (f ++ bytes)
+out_past b s before waits f bytes is room past =
     let k : ℕ = most_input - before in
     let less : k < length f = omega arith in
     let same : take k (f ++ bytes) ≡ take k f = take-append-le k f bytes (omega arith) in
-    out_at_limit s n before waits (f ++ bytes) k (subst IsPartial (sym same) (front_is_partial f b k is less)) (omega (arith, length-append f bytes)) (omega arith)
+    out_at_limit s before waits (f ++ bytes) k (subst IsPartial (sym same) (front_is_partial f b k is less)) (omega (arith, length-append f bytes)) (omega arith)
 
 -- less than a whole frame
-out_of_partial : (s : State) (n before : ℕ) (waits : List Bool) (tail : List ℕ) → before ≤ most_input → IsPartial tail → SomeOut s n before waits tail
-out_of_partial s n before waits tail room partial = elim (cases_lt (before + length tail) most_input) [
-  | inl few ↦ record { replies = []; status = InputEnded; taken = length tail; out = Out-here s n before waits tail InputEnded (length tail) (omega arith) (partial, refl, few) }
-  | inr many ↦ out_at_limit s n before waits tail (most_input - before) (IsPartial-take (most_input - before) tail partial) (omega arith) (omega arith)
+out_of_partial : (s : State) (before : ℕ) (waits : List Bool) (tail : List ℕ) → before ≤ most_input → IsPartial tail → SomeOut s before waits tail
+out_of_partial s before waits tail room partial = elim (cases_lt (before + length tail) most_input) [
+  | inl few ↦ record { replies = []; status = InputEnded; taken = length tail; out = Out-here s before waits tail InputEnded (length tail) (omega arith) (partial, refl, few) }
+  | inr many ↦ out_at_limit s before waits tail (most_input - before) (IsPartial-take (most_input - before) tail partial) (omega arith) (omega arith)
 ]
 
 -- a bad start
-out_of_bad : (s : State) (n before : ℕ) (waits : List Bool) (tail : List ℕ) (at : ℕ) → before ≤ most_input → IsBadStart tail at → SomeOut s n before waits tail
-out_of_bad s n before waits tail at room bad = elim (cases_lt most_input (before + at)) [
-  | inr within ↦ record { replies = []; status = BadFrame (before + at); taken = at; out = Out-here s n before waits tail (BadFrame (before + at)) at within (bad, refl) }
-  | inl past ↦ let long = bad.within in out_at_limit s n before waits tail (most_input - before) (short_of_bad tail at (most_input - before) bad (omega arith)) (omega arith) (omega arith)
+out_of_bad : (s : State) (before : ℕ) (waits : List Bool) (tail : List ℕ) (at : ℕ) → before ≤ most_input → IsBadStart tail at → SomeOut s before waits tail
+out_of_bad s before waits tail at room bad = elim (cases_lt most_input (before + at)) [
+  | inr within ↦ record { replies = []; status = BadFrame (before + at); taken = at; out = Out-here s before waits tail (BadFrame (before + at)) at within (bad, refl) }
+  | inl past ↦ let long = bad.within in out_at_limit s before waits tail (most_input - before) (short_of_bad tail at (most_input - before) bad (omega arith)) (omega arith) (omega arith)
 ]
 
-walk : (bs : List (List ℕ)) (s : State) (n before : ℕ) (waits : List Bool) (front tail : List ℕ) → before ≤ most_input → IsFrames front bs → IsPartial tail ⊎ ((at : ℕ) × IsBadStart tail at) → SomeOut s n before waits (front ++ tail)
-walk [] s n before waits front tail room p (inl partial) = subst (λ z. SomeOut s n before waits (z ++ tail)) (sym p) (out_of_partial s n before waits tail room partial)
-walk [] s n before waits front tail room p (inr (at, bad)) = subst (λ z. SomeOut s n before waits (z ++ tail)) (sym p) (out_of_bad s n before waits tail at room bad)
-walk (b ∷ bs) s n before waits front tail room (f, rest, is, frames, cut) t =
+walk : (bs : List (List ℕ)) (s : State) (before : ℕ) (waits : List Bool) (front tail : List ℕ) → before ≤ most_input → IsFrames front bs → IsPartial tail ⊎ ((at : ℕ) × IsBadStart tail at) → SomeOut s before waits (front ++ tail)
+walk [] s before waits front tail room p (inl partial) = subst (λ z. SomeOut s before waits (z ++ tail)) (sym p) (out_of_partial s before waits tail room partial)
+walk [] s before waits front tail room p (inr (at, bad)) = subst (λ z. SomeOut s before waits (z ++ tail)) (sym p) (out_of_bad s before waits tail at room bad)
+walk (b ∷ bs) s before waits front tail room (f, rest, is, frames, cut) t =
     let reads : f ++ (rest ++ tail) ≡ front ++ tail = sym (append_assoc f rest tail) ∙ sym (ap (λ z. z ++ tail) cut) in
-    subst (SomeOut s n before waits) reads (elim (cases_lt most_input (before + length f)) [
-      | inl past ↦ out_past b s n before waits f (rest ++ tail) is room past
+    subst (SomeOut s before waits) reads (elim (cases_lt most_input (before + length f)) [
+      | inl past ↦ out_past b s before waits f (rest ++ tail) is room past
       | inr within ↦ elim (effect_of (hear s b)) [
-        | going next first goes ↦ one_more b s next n before waits f (rest ++ tail) first is goes (walk bs next (n + 1) (before + length f) waits rest tail within frames t)
-        | ending ends ↦ record { replies = []; status = Done; taken = length f; out = Out-here s n before waits (f ++ (rest ++ tail)) Done (length f) within (met_frame b s f (rest ++ tail) Ends is ends) }
-        | refusing refuses ↦ record { replies = []; status = NotBuilt n; taken = length f; out = Out-here s n before waits (f ++ (rest ++ tail)) (NotBuilt n) (length f) within (refl, met_frame b s f (rest ++ tail) Refuses is refuses) }
+        | going next first goes ↦ one_more b s next before waits f (rest ++ tail) first is goes (walk bs next (before + length f) waits rest tail within frames t)
+        | ending closed ends ↦ record { replies = []; status = brings (Ends closed); taken = length f; out = Out-here s before waits (f ++ (rest ++ tail)) (brings (Ends closed)) (length f) within (ends_by_frame closed s before (f ++ (rest ++ tail)) (length f) (met_frame b s f (rest ++ tail) (Ends closed) is ends)) }
       ]
     ])
 
 -- each input has an output, wherever the session stands
-pub some_out : (s : State) (n before : ℕ) (waits : List Bool) (bytes : List ℕ) → before ≤ most_input → SomeOut s n before waits bytes
-some_out s n before waits bytes room =
+pub some_out : (s : State) (before : ℕ) (waits : List Bool) (bytes : List ℕ) → before ≤ most_input → SomeOut s before waits bytes
+some_out s before waits bytes room =
     let p = parts bytes in
-    subst (SomeOut s n before waits) (sym p.whole) (walk p.bodies s n before waits p.front p.tail room p.frames p.tail_is)
+    subst (SomeOut s before waits) (sym p.whole) (walk p.bodies s before waits p.front p.tail room p.frames p.tail_is)

@@ -1,11 +1,7 @@
-pub mod Diagnostics
 pub mod Feeding
 pub mod Headline
-pub mod Messages
-pub mod Notes
+pub mod Hearing
 pub mod Output
-pub mod Replies
 pub mod Sending
-pub mod Session
 pub mod Status
 pub mod Words

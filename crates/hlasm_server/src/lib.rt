@@ -6,18 +6,14 @@
 //! after a prefix. Messages follow LSP 3.17 over JSON-RPC 2.0.
 //!
 //! It knows nothing of files, terminals or processes: the program `hlasm_ls` hands in the real ones. Within the crate,
-//! `feeding` takes the next body from the source, `messages` reads and writes bodies, `session` says what one message
-//! does, `diagnostics` what is reported of a text, `sending` puts what is written into the sink, and `serving` joins them.
+//! `feeding` takes the next body from the source, `sending` has the session hear it and puts what is written into the
+//! sink, and `serving` joins them. What a message does is `session_core`'s.
 #![tactic(auto)]
 
-mod diagnostics;
 mod feeding;
 pub mod laws;
-mod messages;
-mod notes;
 mod sending;
 mod serving;
-mod session;
 mod status;
 mod words;
 

@@ -1,12 +1,13 @@
 //! What is written for a message, and where it goes.
-ghost use Rattle.std.specs.Prelude.{◌≡◌, ◌≤◌, [], map, OnOk, OnErr, IsErr};
+ghost use Rattle.std.specs.Prelude.{◌≡◌, ◌≤◌, [], IfOk, OnOk, OnErr, IsErr};
 ghost use Rattle.io_edge.specs.Told.{Gains, HasRisen};
-ghost use Rattle.hlasm_server.specs.Session.{hear, written, list_of};
-ghost use Rattle.hlasm_server.specs.Sending.{Hears, Sends, PutsFront, HasStopCause};
+ghost use Rattle.session_core.specs.Turn.{all_turns};
+ghost use Rattle.hlasm_server.specs.Hearing.{hear};
+ghost use Rattle.hlasm_server.specs.Sending.{Hears, Sends, PutsFront, HasStopCause, IsReady};
 
-use crate::session::{Event, Session};
-use hl_base::OutOfMemory;
-use io_edge::{Failed, Sink};
+use hl_base::{Ledger, Steps};
+use io_edge::{Failed, Library, Sink};
+use session_core::{Phase, Session, SessionFault};
 use std::alloc::Global;
 
 /// Why output stops.
@@ -18,12 +19,12 @@ pub enum Stop {
     WriteFault,
 }
 
-impl From<OutOfMemory> for Stop {
+impl From<SessionFault> for Stop {
     ghost use Rattle.hlasm_server.specs.declared.sending.Stop.TheVariants as stop;
 
     ghost from_gives = { λ _ s. s ≡ stop.OutOfMemory };
 
-    fn from(_refused: OutOfMemory) -> Stop {
+    fn from(_refused: SessionFault) -> Stop {
         Stop::OutOfMemory
     }
 }
@@ -53,47 +54,63 @@ fn put_all<K: Sink>(sink: &mut K, bytes: &[u8]) -> Result<(), Failed>
     Ok(())
 }
 
-/// Makes Turns until no program is queued, and puts the list of each into the sink.
-fn make_turns<K: Sink>(
+/// Puts the session's output into the sink, and leaves it with none.
+fn put_output<K: Sink>(session: &mut Session, sink: &mut K) -> Result<(), Failed>
+    ensures ok { OnOk result (Gains (K.held sink.old) session.old.output (K.held sink.new)) }
+    ensures err { OnErr result (PutsFront (K.held sink.old) session.old.output (K.held sink.new)) }
+    ensures rest { session.new ≡ record session.old { output = [] } }
+    ensures later { K.faults sink.old ≤ K.faults sink.new }
+    ensures failed { IsErr result → HasRisen (K.faults sink.old) (K.faults sink.new) }
+{
+    let output = session.take_output();
+    put_all(sink, &output)
+}
+
+/// Makes Turns until no program is queued, and puts what each publishes into the sink.
+fn make_turns<K: Sink, L: Ledger>(
     alloc: Global,
     session: &mut Session,
     sink: &mut K,
-    output: &mut Vec<u8>,
+    steps: &mut Steps<L>,
 ) -> Result<(), Stop>
-    ensures state { OnOk result (session.new ≡ record session.old { queued = [] }) }
-    ensures sends { Sends result (map list_of session.old.queued) (K.held sink.old) (K.held sink.new) }
+    requires ready { IsReady session.old }
+    ensures ready { OnOk result (IsReady session.new) }
+    ensures state { OnOk result (session.new.state ≡ (all_turns session.old.state).state) }
+    ensures sends { Sends result (all_turns session.old.state).bodies (K.held sink.old) (K.held sink.new) }
     ensures later { K.faults sink.old ≤ K.faults sink.new }
     ensures cause { HasStopCause result (K.faults sink.old) (K.faults sink.new) }
+    ensures steps { steps.new ≡ steps.old }
 {
     'queue: while session.has_work() {
-        output.clear();
-        session.turn(alloc, output)?;
-        put_all(sink, output)?;
+        session.turn(alloc, steps)?;
+        put_output(session, sink)?;
     }
     Ok(())
 }
 
 /// Takes one message and makes the Turns that follow it, and puts what is written into the sink as it comes.
-#[tactic(auto, unfolding(crate::specs::Session::hear))]
-pub fn hear<K: Sink>(
+pub fn hear<K: Sink, B: Library, L: Ledger>(
     alloc: Global,
     session: &mut Session,
     body: &[u8],
     sink: &mut K,
-    output: &mut Vec<u8>,
-) -> Result<Event, Stop>
-    ensures hears { Hears result (hear session.old body.now) session.new (K.held sink.old) (K.held sink.new) }
+    library: &mut B,
+    steps: &mut Steps<L>,
+) -> Result<Phase, Stop>
+    requires ready { IsReady session.old }
+    ensures ready { IfOk result (λ phase. phase ≡ Phase.Running → IsReady session.new) }
+    ensures hears { Hears result (hear session.old.state body.now) session.new.state (K.held sink.old) (K.held sink.new) }
     ensures later { K.faults sink.old ≤ K.faults sink.new }
     ensures cause { HasStopCause result (K.faults sink.old) (K.faults sink.new) }
+    ensures library { (B.calls library.new ≡ B.calls library.old) × (B.faults library.new ≡ B.faults library.old) }
+    ensures steps { steps.new ≡ steps.old }
 {
-    output.clear();
-    match session.message(alloc, body, output)? {
-        Event::Running => {
-            put_all(sink, output)?;
-            make_turns(alloc, session, sink, output)?;
-            Ok(Event::Running)
+    match session.message(alloc, body, library, steps)? {
+        Phase::Running => {
+            put_output(session, sink)?;
+            make_turns(alloc, session, sink, steps)?;
+            Ok(Phase::Running)
         }
-        Event::Ended => Ok(Event::Ended),
-        Event::Refused => Ok(Event::Refused),
+        Phase::Exit(closed) => Ok(Phase::Exit(closed)),
     }
 }

@@ -9,12 +9,15 @@ ghost use Rattle.hlasm_server.specs.Words.{command_of};
 use crate::Status;
 use crate::feeding::{LARGEST_PIECE, Next, next_body};
 use crate::sending::{Stop, hear};
-use crate::session::{Event, Session};
 use crate::words::{Command, read_words};
-use hl_base::{Ledger, Steps};
+use hl_base::{Ledger, OutOfMemory, Steps};
 use io_edge::{Library, Sink, Source};
 use rpc_framing::FrameReader;
+use session_core::{Phase, Session};
 use std::alloc::Global;
+
+/// How many statements a program may be given in a Turn.
+const BUDGET: u32 = 100_000;
 
 /// The most bytes that are taken of an input.
 const MOST_INPUT: u64 = 1 << 40;
@@ -30,19 +33,28 @@ fn stopped(stop: Stop) -> Status
 }
 
 /// The session, until it ends.
-fn serve<S: Source, K: Sink>(alloc: Global, source: &mut S, sink: &mut K) -> Status
+fn serve<S: Source, K: Sink, B: Library, L: Ledger>(
+    alloc: Global,
+    source: &mut S,
+    sink: &mut K,
+    library: &mut B,
+    steps: &mut Steps<L>,
+) -> Status
     ensures plain { IsPlainRun [] [] (S.left source.old) (S.left source.new) (K.held sink.old) (K.held sink.new) result }
     ensures cause { HasStatusCause result (S.faults source.old) (S.faults source.new) (K.faults sink.old) (K.faults sink.new) }
     ensures words { result ≢ Status.BadWords }
+    ensures library { (B.calls library.new ≡ B.calls library.old) × (B.faults library.new ≡ B.faults library.old) }
     ensures waits { S.waits source.new ≡ S.waits source.old }
+    ensures steps { steps.new ≡ steps.old }
     ensures later_source { S.faults source.old ≤ S.faults source.new }
     ensures later_sink { K.faults sink.old ≤ K.faults sink.new }
 {
     let mut buffer = [0; LARGEST_PIECE];
-    let mut session = Session::new(alloc);
+    let mut session = match Session::new(alloc, BUDGET) {
+        Ok(session) => session,
+        Err(OutOfMemory) => return Status::OutOfMemory,
+    };
     let mut reader = FrameReader::new(alloc);
-    let mut output = Vec::new(alloc);
-    let mut frames = 0;
     loop {
         let body = match next_body(alloc, source, &mut reader, &mut buffer, MOST_INPUT) {
             Next::Body(body) => body,
@@ -52,10 +64,10 @@ fn serve<S: Source, K: Sink>(alloc: Global, source: &mut S, sink: &mut K) -> Sta
             Next::ReadFault => return Status::ReadFault,
             Next::OutOfMemory => return Status::OutOfMemory,
         };
-        match hear(alloc, &mut session, &body, sink, &mut output) {
-            Ok(Event::Running) => frames += 1,
-            Ok(Event::Ended) => return Status::Done,
-            Ok(Event::Refused) => return Status::NotBuilt { frames },
+        match hear(alloc, &mut session, &body, sink, library, steps) {
+            Ok(Phase::Running) => {}
+            Ok(Phase::Exit(true)) => return Status::Done,
+            Ok(Phase::Exit(false)) => return Status::NoShutdown,
             Err(stop) => return stopped(stop),
         }
     }
@@ -65,7 +77,7 @@ fn serve<S: Source, K: Sink>(alloc: Global, source: &mut S, sink: &mut K) -> Sta
 /// answers to the sink, one byte at a time in a header and then at most the missing bytes of the body, so that nothing
 /// of the next message is held. Any other words are `BadWords`, and nothing is read or written.
 ///
-/// The library and the steps are kept for what is still to be built; no call of them is made.
+/// The library and the steps are handed to the session, which asks nothing of them yet.
 pub fn run<S: Source, K: Sink, B: Library, L: Ledger>(
     alloc: Global,
     words: &[String],
@@ -99,10 +111,8 @@ pub fn run<S: Source, K: Sink, B: Library, L: Ledger>(
     ensures later_source { S.faults source.old ≤ S.faults source.new }
     ensures later_sink { K.faults sink.old ≤ K.faults sink.new }
 {
-    let _ = library;
-    let _ = steps;
     match read_words(words) {
-        Some(Command::Serve) => serve(alloc, source, sink),
+        Some(Command::Serve) => serve(alloc, source, sink, library, steps),
         None => Status::BadWords,
     }
 }

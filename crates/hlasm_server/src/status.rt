@@ -9,6 +9,8 @@ use std::fmt;
 pub enum Status {
     /// `exit` came after `shutdown` was answered.
     Done,
+    /// `exit` came before `shutdown` was answered.
+    NoShutdown,
     /// The input ended before `exit`.
     InputEnded,
     /// There was no memory for the next step.
@@ -23,8 +25,6 @@ pub enum Status {
     BadWords,
     /// 2^40 bytes were taken, with neither an `exit` nor a byte outside the frames among them.
     InputTooLong,
-    /// Behind this many frames comes one with a body that this version does not read.
-    NotBuilt { frames: u32 },
 }
 
 impl Status {
@@ -34,6 +34,7 @@ impl Status {
     {
         match self {
             Status::Done => 0,
+            Status::NoShutdown => 1,
             Status::InputEnded => 2,
             Status::OutOfMemory => 3,
             Status::BadFrame { .. } => 4,
@@ -41,7 +42,6 @@ impl Status {
             Status::WriteFault => 6,
             Status::BadWords => 7,
             Status::InputTooLong => 8,
-            Status::NotBuilt { .. } => 9,
         }
     }
 }
@@ -50,6 +50,7 @@ impl fmt::Display for Status {
     fn fmt<W: fmt::Write>(&self, f: &mut fmt::Formatter<W>) -> fmt::Result {
         match self {
             Status::Done => write!(f, "Done"),
+            Status::NoShutdown => write!(f, "NoShutdown"),
             Status::InputEnded => write!(f, "InputEnded"),
             Status::OutOfMemory => write!(f, "OutOfMemory"),
             Status::ReadFault => write!(f, "ReadFault"),
@@ -57,7 +58,6 @@ impl fmt::Display for Status {
             Status::BadFrame { at } => write!(f, "BadFrame at {at}"),
             Status::BadWords => write!(f, "BadWords"),
             Status::InputTooLong => write!(f, "InputTooLong"),
-            Status::NotBuilt { frames } => write!(f, "NotBuilt after {frames} frames"),
         }
     }
 }

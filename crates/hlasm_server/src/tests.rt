@@ -1,4 +1,4 @@
-//! Whole runs: a session with an empty text, whose bytes were worked out by hand from LSP 3.17.
+//! Whole runs, whose bytes were worked out by hand from LSP 3.17.
 ghost use Rattle.std.specs.Prelude.{◌≡◌, ◌<◌, ◌^◌, None, All, IfOk};
 
 use crate::feeding::{LARGEST_PIECE, Next, next_body};
@@ -13,26 +13,40 @@ use std::rc::Rc;
 use std::sync::ledger::Blank;
 use std::test::Fail;
 
+const INITIALIZE: &str = r#"{"id":1,"jsonrpc":"2.0","method":"initialize","params":{}}"#;
+
+const SHUTDOWN: &str = r#"{"id":2,"jsonrpc":"2.0","method":"shutdown"}"#;
+
+const EXIT: &str = r#"{"jsonrpc":"2.0","method":"exit"}"#;
+
+const INITIALIZED: &str =
+    r#"{"id":1,"jsonrpc":"2.0","result":{"capabilities":{"definitionProvider":true,"documentSymbolProvider":true,"hoverProvider":true,"positionEncoding":"utf-16","referencesProvider":true,"textDocumentSync":{"change":2,"openClose":true}},"serverInfo":{"name":"hlasm_ls","version":"1"}}}"#;
+
+const SHUT: &str = r#"{"id":2,"jsonrpc":"2.0","result":null}"#;
+
+const PARSE_ERROR: &str =
+    r#"{"error":{"code":-32700,"message":"parse error"},"id":null,"jsonrpc":"2.0"}"#;
+
 /// What comes in: 370 bytes, whose frames begin at 0, 80, 249 and 315.
 const INPUT: [&str; 8] = [
     "Content-Length: 58\r\n\r\n",
-    r#"{"id":1,"jsonrpc":"2.0","method":"initialize","params":{}}"#,
+    INITIALIZE,
     "Content-Length: 146\r\n\r\n",
     r#"{"jsonrpc":"2.0","method":"textDocument/didOpen","params":{"textDocument":{"languageId":"hlasm","text":"","uri":"file:///w/a.hlasm","version":1}}}"#,
     "Content-Length: 44\r\n\r\n",
-    r#"{"id":2,"jsonrpc":"2.0","method":"shutdown"}"#,
+    SHUTDOWN,
     "Content-Length: 33\r\n\r\n",
-    r#"{"jsonrpc":"2.0","method":"exit"}"#,
+    EXIT,
 ];
 
 /// What goes out: 670 bytes, whose frames begin at 0, 302 and 610.
 const OUTPUT: [&str; 6] = [
     "Content-Length: 279\r\n\r\n",
-    r#"{"id":1,"jsonrpc":"2.0","result":{"capabilities":{"definitionProvider":true,"documentSymbolProvider":true,"hoverProvider":true,"positionEncoding":"utf-16","referencesProvider":true,"textDocumentSync":{"change":2,"openClose":true}},"serverInfo":{"name":"hlasm_ls","version":"1"}}}"#,
+    INITIALIZED,
     "Content-Length: 285\r\n\r\n",
     r#"{"jsonrpc":"2.0","method":"textDocument/publishDiagnostics","params":{"diagnostics":[{"code":"H003","message":"END statement is missing","range":{"end":{"character":0,"line":0},"start":{"character":0,"line":0}},"severity":2,"source":"hlasm_ls"}],"uri":"file:///w/a.hlasm","version":1}}"#,
     "Content-Length: 38\r\n\r\n",
-    r#"{"id":2,"jsonrpc":"2.0","result":null}"#,
+    SHUT,
 ];
 
 /// The first so many of the frames, each given as a header and a body.
@@ -229,40 +243,142 @@ fn an_input_that_ends_is_answered_so_far(rt: HostRuntime) -> Result<(), Fail> {
     Ok(())
 }
 
-/// Bodies that may not stand behind the first so many frames of the session. Each of those was answered by one frame.
+/// Sessions: the bodies that come in, those that go out, and the status.
+const SESSIONS: [(&[&str], &[&str], Status); 9] = [
+    // exit in a session that is not shut down
+    (&[EXIT], &[], Status::NoShutdown),
+    (&[INITIALIZE, EXIT], &[INITIALIZED], Status::NoShutdown),
+    // before initialize
+    (
+        &[r#"{"id":9,"jsonrpc":"2.0","method":"shutdown"}"#, "[", EXIT],
+        &[
+            r#"{"error":{"code":-32002,"message":"not initialized"},"id":9,"jsonrpc":"2.0"}"#,
+            PARSE_ERROR,
+        ],
+        Status::NoShutdown,
+    ),
+    // a body of no bytes
+    (
+        &[INITIALIZE, "", SHUTDOWN, EXIT],
+        &[INITIALIZED, PARSE_ERROR, SHUT],
+        Status::Done,
+    ),
+    // a request that is unknown, and a second initialize
+    (
+        &[
+            INITIALIZE,
+            r#"{"id":"x","jsonrpc":"2.0","method":"textDocument/none"}"#,
+            INITIALIZE,
+            SHUTDOWN,
+            EXIT,
+        ],
+        &[
+            INITIALIZED,
+            r#"{"error":{"code":-32601,"message":"unknown method"},"id":"x","jsonrpc":"2.0"}"#,
+            r#"{"error":{"code":-32600,"message":"invalid request"},"id":1,"jsonrpc":"2.0"}"#,
+            SHUT,
+        ],
+        Status::Done,
+    ),
+    // a request behind shutdown
+    (
+        &[
+            INITIALIZE,
+            SHUTDOWN,
+            r#"{"id":3,"jsonrpc":"2.0","method":"shutdown"}"#,
+            EXIT,
+        ],
+        &[
+            INITIALIZED,
+            SHUT,
+            r#"{"error":{"code":-32600,"message":"invalid request"},"id":3,"jsonrpc":"2.0"}"#,
+        ],
+        Status::Done,
+    ),
+    // an edit whose second range ends before it begins
+    (
+        &[
+            INITIALIZE,
+            r#"{"jsonrpc":"2.0","method":"textDocument/didOpen","params":{"textDocument":{"languageId":"hlasm","text":"A        EQU   5\n         END","uri":"file:///w/a.hlasm","version":1}}}"#,
+            r#"{"jsonrpc":"2.0","method":"textDocument/didChange","params":{"contentChanges":[{"range":{"end":{"character":16,"line":0},"start":{"character":15,"line":0}},"text":"7"},{"range":{"end":{"character":1,"line":1},"start":{"character":2,"line":1}},"text":""}],"textDocument":{"uri":"file:///w/a.hlasm","version":2}}}"#,
+            SHUTDOWN,
+            EXIT,
+        ],
+        &[
+            INITIALIZED,
+            r#"{"jsonrpc":"2.0","method":"textDocument/publishDiagnostics","params":{"diagnostics":[],"uri":"file:///w/a.hlasm","version":1}}"#,
+            r#"{"jsonrpc":"2.0","method":"window/logMessage","params":{"message":"textDocument/didChange: BadRange(1)","type":2}}"#,
+            SHUT,
+        ],
+        Status::Done,
+    ),
+    // a document that is opened twice
+    (
+        &[
+            INITIALIZE,
+            r#"{"jsonrpc":"2.0","method":"textDocument/didOpen","params":{"textDocument":{"languageId":"hlasm","text":" END","uri":"file:///w/a.hlasm","version":1}}}"#,
+            r#"{"jsonrpc":"2.0","method":"textDocument/didOpen","params":{"textDocument":{"languageId":"hlasm","text":"","uri":"file:///w/a.hlasm","version":2}}}"#,
+            SHUTDOWN,
+            EXIT,
+        ],
+        &[
+            INITIALIZED,
+            r#"{"jsonrpc":"2.0","method":"textDocument/publishDiagnostics","params":{"diagnostics":[],"uri":"file:///w/a.hlasm","version":1}}"#,
+            r#"{"jsonrpc":"2.0","method":"window/logMessage","params":{"message":"textDocument/didOpen: AlreadyOpen","type":2}}"#,
+            SHUT,
+        ],
+        Status::Done,
+    ),
+    // two documents with edits, of which one is closed
+    (
+        &[
+            INITIALIZE,
+            r#"{"jsonrpc":"2.0","method":"textDocument/didOpen","params":{"textDocument":{"languageId":"hlasm","text":" END","uri":"file:///w/a.hlasm","version":1}}}"#,
+            r#"{"jsonrpc":"2.0","method":"textDocument/didOpen","params":{"textDocument":{"languageId":"hlasm","text":" END","uri":"file:///w/b.hlasm","version":4}}}"#,
+            r#"{"jsonrpc":"2.0","method":"textDocument/didChange","params":{"contentChanges":[{"range":{"end":{"character":2,"line":0},"start":{"character":1,"line":0}},"text":"A"}],"textDocument":{"uri":"file:///w/b.hlasm","version":5}}}"#,
+            r#"{"jsonrpc":"2.0","method":"textDocument/didChange","params":{"contentChanges":[{"text":"* a comment\n END"}],"textDocument":{"uri":"file:///w/a.hlasm","version":2}}}"#,
+            r#"{"jsonrpc":"2.0","method":"textDocument/didClose","params":{"textDocument":{"uri":"file:///w/b.hlasm"}}}"#,
+            SHUTDOWN,
+            EXIT,
+        ],
+        &[
+            INITIALIZED,
+            r#"{"jsonrpc":"2.0","method":"textDocument/publishDiagnostics","params":{"diagnostics":[],"uri":"file:///w/a.hlasm","version":1}}"#,
+            r#"{"jsonrpc":"2.0","method":"textDocument/publishDiagnostics","params":{"diagnostics":[],"uri":"file:///w/b.hlasm","version":4}}"#,
+            r#"{"jsonrpc":"2.0","method":"textDocument/publishDiagnostics","params":{"diagnostics":[{"code":"H003","message":"END statement is missing","range":{"end":{"character":0,"line":0},"start":{"character":0,"line":0}},"severity":2,"source":"hlasm_ls"}],"uri":"file:///w/b.hlasm","version":5}}"#,
+            r#"{"jsonrpc":"2.0","method":"textDocument/publishDiagnostics","params":{"diagnostics":[],"uri":"file:///w/a.hlasm","version":2}}"#,
+            r#"{"jsonrpc":"2.0","method":"textDocument/publishDiagnostics","params":{"diagnostics":[],"uri":"file:///w/b.hlasm"}}"#,
+            SHUT,
+        ],
+        Status::Done,
+    ),
+];
+
+/// Bodies, each in a frame.
+fn framed(alloc: Global, bodies: &[&str]) -> Result<Vec<u8>, Fail> {
+    let mut bytes = Vec::new(alloc);
+    for body in bodies {
+        let header = format!(in alloc; "Content-Length: {}\r\n\r\n", body.len())?;
+        bytes.extend_from_slice(header.as_str().as_bytes())?;
+        bytes.extend_from_slice(body.as_bytes())?;
+    }
+    Ok(bytes)
+}
+
 #[test]
-fn what_is_not_built_ends_the_run(rt: HostRuntime) -> Result<(), Fail> {
+fn sessions_are_answered_message_by_message(rt: HostRuntime) -> Result<(), Fail> {
     let alloc = rt.alloc();
-    for (heard, behind) in [
-        (0, "Content-Length: 1\r\n\r\n["),
-        (0, "Content-Type: x\r\ncontent-length:\t0001\r\n\r\n["),
-        (
-            0,
-            "Content-Length: 44\r\n\r\n{\"id\":9,\"jsonrpc\":\"2.0\",\"method\":\"shutdown\"}",
-        ),
-        (
-            1,
-            "Content-Length: 33\r\n\r\n{\"jsonrpc\":\"2.0\",\"method\":\"exit\"}",
-        ),
-        (
-            1,
-            "Content-Length: 146\r\n\r\n{\"jsonrpc\":\"2.0\",\"method\":\"textDocument/didOpen\",\"params\":{\"textDocument\":{\"languageId\":\"cobol\",\"text\":\"\",\"uri\":\"file:///w/a.hlasm\",\"version\":1}}}",
-        ),
-        (2, "Content-Length: 0\r\n\r\n"),
-        (
-            3,
-            "Content-Length: 44\r\n\r\n{\"id\":3,\"jsonrpc\":\"2.0\",\"method\":\"shutdown\"}",
-        ),
-    ] {
-        let mut input = frames(alloc, &INPUT, heard as usize)?;
-        input.extend_from_slice(behind.as_bytes())?;
-        let mut source = source_of(alloc, input, &[], &[])?;
-        let mut sink = sink_of(alloc, 1_000, 1_000, &[])?;
-        let status = serve(alloc, &mut source, &mut sink)?;
-        let wanted = Status::NotBuilt { frames: heard };
-        assert_eq!(rt; status, wanted, "{behind}");
-        let output = frames(alloc, &OUTPUT, heard as usize)?;
-        assert!(rt; sink.contents() == output.as_slice(), "{behind}");
+    let cuttings: [(&[usize], usize); 3] = [(&[], 8_192), (&[1], 1), (&[23, 1, 40], 17)];
+    for (bodies, replies, wanted) in SESSIONS {
+        let output = framed(alloc, replies)?;
+        for (sizes, most) in cuttings {
+            let mut source = source_of(alloc, framed(alloc, bodies)?, sizes, &[])?;
+            let mut sink = sink_of(alloc, 4_000, most, &[])?;
+            let status = serve(alloc, &mut source, &mut sink)?;
+            assert_eq!(rt; status, wanted, "{bodies:?}");
+            assert!(rt; sink.contents() == output.as_slice(), "{bodies:?}");
+            assert!(rt; source.rest().is_empty(), "{bodies:?}");
+        }
     }
     Ok(())
 }
@@ -526,6 +642,7 @@ fn column_faults_are_published(rt: HostRuntime) -> Result<(), Fail> {
 fn a_status_has_its_name(rt: HostRuntime) -> Result<(), Fail> {
     for (status, name) in [
         (Status::Done, "Done"),
+        (Status::NoShutdown, "NoShutdown"),
         (Status::InputEnded, "InputEnded"),
         (Status::OutOfMemory, "OutOfMemory"),
         (Status::ReadFault, "ReadFault"),
@@ -533,7 +650,6 @@ fn a_status_has_its_name(rt: HostRuntime) -> Result<(), Fail> {
         (Status::BadFrame { at: 104 }, "BadFrame at 104"),
         (Status::BadWords, "BadWords"),
         (Status::InputTooLong, "InputTooLong"),
-        (Status::NotBuilt { frames: 2 }, "NotBuilt after 2 frames"),
     ] {
         let printed = format!(in rt.alloc(); "{status}")?;
         assert!(rt; printed.as_str() == name, "{name}");

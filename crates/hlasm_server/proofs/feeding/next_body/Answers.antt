@@ -1,4 +1,3 @@
-use Rattle.std.proofs.Common.{arith}
 use Rattle.hlasm_server.proofs.FeedingLaws.{reading_begins, reading_goes_on, body_found, frame_longer}
 use Rattle.io_edge.proofs.ToldLaws.{Gives-append}
 use Rattle.hlasm_server.proofs.feeding.next_body.Goals as goal

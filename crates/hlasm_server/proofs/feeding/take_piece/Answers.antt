@@ -1,4 +1,4 @@
-use Rattle.std.proofs.Common.{◌≡◌, ◌+◌, ◌<◌, ◌≤◌, List, ℕ, Ok, length, take, refl, ap, ◌∙◌, arith}
+use Rattle.std.proofs.Common.{◌+◌, ◌<◌, ◌≤◌, List, ℕ, Ok, length, take, refl, ap, ◌∙◌, arith}
 use Rattle.io_edge.proofs.ToldLaws.{Gives-nil}
 use Rattle.rpc_framing.proofs.ReaderLaws.{IsPartial-Waits}
 use Rattle.hlasm_server.proofs.FeedingLaws.{Brings-GoesOn, IsBadStart-Stops, at-Stops, at-BadHeader, at-TooLong, IsAtEnd-Gives, length-piece, some_room}

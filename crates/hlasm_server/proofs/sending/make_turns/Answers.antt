@@ -1,30 +1,22 @@
-use Rattle.std.proofs.Common.{◌≡◌, ◌++◌, ap, ◌∙◌, subst}
+use Rattle.std.proofs.Common.{◌∙◌}
 use Rattle.std.proofs.lemmas.Result.{err_from_is_err_and}
-use Rattle.io_edge.specs.Told.{Gains}
-use Rattle.hlasm_server.specs.Session.{first_list, written}
-use Rattle.hlasm_server.specs.Sending.{PutsFront}
-use Rattle.hlasm_server.proofs.SendingLaws.{turning_goes_on, turning_ends, turning_breaks}
+use Rattle.session_core.specs.Turn.{turn}
+use Rattle.hlasm_server.proofs.SendingLaws.{came, fewer_queued, turning_goes_on, turning_breaks}
 use Rattle.hlasm_server.proofs.sending.make_turns.Goals as goal
 
+pub queue-smaller : goal.queue-smaller
+queue-smaller g c =
+    fewer_queued c.queue.session c.turn.new.self c.put_output.new.session c.queue-test.ensures (came (turn c.queue.session.state) c.queue.session c.turn.new.self c.queue.invariant.turning.ready c.in_ok-turn.ensures.comes) c.put_output.ensures.rest
+
 pub queue-preserved : goal.queue-preserved
-queue-preserved g c =
-    let held = g.K.Sink.held in
-    let output : c.deref.result.now ≡ written (first_list c.queue.session.queued) =
-    c.deref.ensures.value ∙ c.in_ok-turn.ensures.output ∙ ap (λ z. z ++ written (first_list c.queue.session.queued)) c.clear.ensures.items in
-    let sent = subst (λ z. Gains (held c.queue.sink) z (held c.put_all.new.sink)) output c.in_ok-put_all.ensures.ok in
-    turning_goes_on _ _ _ _ _ _ _ _ _ c.queue.invariant c.in_ok-turn.ensures.state sent c.put_all.ensures.later
+queue-preserved g c = record {
+  turning = turning_goes_on _ _ _ _ _ _ _ _ _ _ c.queue.invariant.turning c.queue-test.ensures (came (turn c.queue.session.state) c.queue.session c.turn.new.self c.queue.invariant.turning.ready c.in_ok-turn.ensures.comes)
+      c.put_output.ensures.rest c.in_ok-put_output.ensures.ok c.put_output.ensures.later;
+  steps = c.turn.ensures.steps ∙ c.queue.invariant.steps;
+}
 
-pub returns-in_err-put_all-clause-sends : goal.returns-in_err-put_all-clause-sends
-returns-in_err-put_all-clause-sends g c =
-    let held = g.K.Sink.held in
-    let output : c.deref.result.now ≡ written (first_list c.queue.session.queued) =
-    c.deref.ensures.value ∙ c.in_ok-turn.ensures.output ∙ ap (λ z. z ++ written (first_list c.queue.session.queued)) c.clear.ensures.items in
-    let front = subst (λ z. PutsFront (held c.queue.sink) z (held c.put_all.new.sink)) output c.in_err-put_all.ensures.err in
-    let p = err_from_is_err_and c.from_residual-in_err-put_all.result c.from_residual-in_err-put_all.ensures.1 in
-    rw (p.1, p.2) (turning_breaks _ _ _ _ _ _ _ c.queue.invariant front)
-
-pub returns-clause-state : goal.returns-clause-state
-returns-clause-state g c = (turning_ends _ _ _ _ _ _ c.queue.invariant c.queue-test.ensures).0
-
-pub returns-clause-sends : goal.returns-clause-sends
-returns-clause-sends g c = (turning_ends _ _ _ _ _ _ c.queue.invariant c.queue-test.ensures).1
+pub returns-in_err-put_output-clause-sends : goal.returns-in_err-put_output-clause-sends
+returns-in_err-put_output-clause-sends g c =
+    let p = err_from_is_err_and c.from_residual-in_err-put_output.result c.from_residual-in_err-put_output.ensures.1 in
+    rw (p.1, p.2) (turning_breaks _ _ _ _ _ _ _ _ c.queue.invariant.turning c.queue-test.ensures (came (turn c.queue.session.state) c.queue.session c.turn.new.self c.queue.invariant.turning.ready c.in_ok-turn.ensures.comes)
+    c.in_err-put_output.ensures.err)

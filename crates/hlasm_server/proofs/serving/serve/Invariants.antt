@@ -1,6 +1,7 @@
-use Rattle.std.proofs.Common.{◌≡◌, length}
+use Rattle.std.proofs.Common.{◌≡◌, ◌-◌, length}
 use Rattle.hlasm_server.specs.declared.feeding.TheConstants.{LARGEST_PIECE}
-use Rattle.hlasm_server.proofs.ServeLaws.{IsServing, left_behind}
+use Rattle.hlasm_server.specs.Output.{most_input}
+use Rattle.hlasm_server.proofs.ServeLaws.{IsServing}
 use Rattle.hlasm_server.proofs.serving.serve.Given as goal
 
 -- the session stands open between two frames, and what was heard so far is answered
@@ -8,11 +9,15 @@ abbrev pub invariant-loop-body : goal.invariant-loop-body
 invariant-loop-body g l =
     let s = g.S.Source in
     let k = g.K.Sink in
+    let b = g.B.Library in
     record {
       serving : IsServing (s.left l.initial.source) (s.left l.source) (k.held l.initial.sink) (k.held l.sink) (s.waits l.initial.source) (s.waits l.source)
-          (s.faults l.initial.source) (s.faults l.source) (k.faults l.initial.sink) (k.faults l.sink) l.session l.reader l.frames;
+          (s.faults l.initial.source) (s.faults l.source) (k.faults l.initial.sink) (k.faults l.sink) l.session l.reader;
       buffer : length l.buffer ≡ LARGEST_PIECE;
+      calls : b.calls l.library ≡ b.calls l.initial.library;
+      faults : b.faults l.library ≡ b.faults l.initial.library;
+      steps : l.steps ≡ l.initial.steps;
     }
 
 abbrev pub decreases-loop-body : goal.decreases-loop-body
-decreases-loop-body g l = left_behind l.session.phase
+decreases-loop-body g l = most_input - l.reader.fed
