@@ -5,6 +5,7 @@ Usage: lint.py [--server PATH]
 """
 import argparse
 import os
+import re
 import subprocess
 import sys
 import tempfile
@@ -95,6 +96,15 @@ class Lint(unittest.TestCase):
             with open(os.path.join(TOP, "tests/clients", stored), encoding="utf-8") as file:
                 wanted = file.read().splitlines()
             self.assertEqual((1, wanted, ""), lint(*words, "examples/first.hlasm", folder=TOP))
+
+    def test_the_examples_of_the_user_page(self):
+        """Each example has a ruler above it and no line end behind it, and below it what is listed."""
+        with open(os.path.join(TOP, "docs/USER.md"), encoding="utf-8") as file:
+            examples = re.findall(r"```hlasm\n.*\n([^`]*)\n```\n```text\n([^`]*)```\n", file.read())
+        self.assertEqual(5, len(examples))
+        for text, listed in examples:
+            with self.subTest(listed):
+                self.assertEqual(listed.splitlines(), lint(self.file("example.hlasm", text), folder=self.folder)[1])
 
     def test_what_is_listed(self):
         for name, text, reports in LISTED:
