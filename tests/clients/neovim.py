@@ -151,7 +151,9 @@ def faults_of_steps(lint, program, room, steps):
 
 def faults_of_files(lint, program, room, files, roots):
     wanted = fresh(lint, program, room, FIRST)
-    for entry, (name, is_hlasm) in zip(files, FILES.items(), strict=True):
+    if len(files) != len(FILES):
+        yield f"only {len(files)} files were opened"
+    for entry, (name, is_hlasm) in zip(files, FILES.items()):
         if (entry["filetype"] == "hlasm") != is_hlasm:
             yield f"{name}: the filetype is {entry['filetype']!r}"
         elif is_hlasm and entry["diagnostics"] != wanted:
