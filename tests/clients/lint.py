@@ -97,6 +97,13 @@ class Lint(unittest.TestCase):
                 wanted = file.read().splitlines()
             self.assertEqual((1, wanted, ""), lint(*words, "examples/first.hlasm", folder=TOP))
 
+    def test_the_pages_show_the_example_as_it_is(self):
+        with open(os.path.join(TOP, "tests/clients/first.txt"), encoding="utf-8") as file:
+            listed = "".join(f"    {line}" for line in file)
+        for page in ("README.md", "docs/PIPELINE.md"):
+            with open(os.path.join(TOP, page), encoding="utf-8") as file:
+                self.assertIn(listed, file.read(), page)
+
     def test_the_examples_of_the_user_page(self):
         """Each example has a ruler above it and no line end behind it, and below it what is listed."""
         with open(os.path.join(TOP, "docs/USER.md"), encoding="utf-8") as file:

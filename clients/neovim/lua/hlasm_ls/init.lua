@@ -22,8 +22,10 @@ local function without_answers(client)
   end
 end
 
+-- The words that start the server.
 local function command()
-  return vim.g.hlasm_ls_command or { 'hlasm_ls', 'serve' }
+  local words = vim.g.hlasm_ls_command or 'hlasm_ls'
+  return type(words) == 'string' and { words, 'serve' } or words
 end
 
 -- Whether a buffer shows a file, which alone the server takes.
