@@ -57,6 +57,8 @@ FAILING = [
     ("'{server}' serve < /dev/null", "ended with status 2"),
     ("dd bs=1 count=400 2> /dev/null | '{server}' serve", "ended with status 2"),
     ("read line; echo Hello", "no message"),
+    ("read line; printf 'Content-Type: x\\r\\n\\r\\n{{}}'", "no length"),
+    ("read line; printf 'Content-Length: 99999999999999999999\\r\\n\\r\\n{{}}'", "hopeless"),
     ("read line; printf 'Content-Length: 2\\r\\n\\r\\n[]'", "no object"),
     ("read line; printf 'Content-Length: 1\\r\\n\\r\\n{{'", "no JSON"),
     ("read line; printf 'Content-Length: 38\\r\\n\\r\\n{{\"id\":1,\"jsonrpc\":\"2.0\",\"error\":null }}'", "unknown form"),
