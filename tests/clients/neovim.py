@@ -1,6 +1,6 @@
 #!/usr/bin/env python3
 """Neovim with the plugin and the built program: after each edit of a file, the diagnostics that Neovim has are those of a
-server that was started afresh with the same text. Skipped where there is no Neovim.
+server that was started afresh with the same text. Where there is no Neovim it says so and ends with 77: skipped.
 
 Usage: neovim.py [--server PATH] [--nvim PATH]
 """
@@ -17,6 +17,7 @@ import tempfile
 TOP = os.path.normpath(os.path.join(os.path.dirname(os.path.realpath(__file__)), "../.."))
 BUILT = os.path.join(TOP, "crates/hlasm_ls/out/hlasm_ls")
 SECONDS = 600
+SKIPPED = 77
 
 MARK = "X\n"
 
@@ -194,7 +195,7 @@ def main():
     nvim = shutil.which(words.nvim)
     if not nvim:
         print("neovim.py: skipped, there is no Neovim (apt-get install neovim)")
-        return 0
+        return SKIPPED
     if not os.access(words.server, os.X_OK):
         sys.exit(f"neovim.py: there is no program {words.server}: make run builds it")
     with tempfile.TemporaryDirectory(prefix="hlasm-neovim-") as room:
