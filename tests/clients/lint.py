@@ -39,6 +39,8 @@ LISTED = [
     ("at_column_16.hlasm", marked("A        LR    1,2") + " " * 15 + "B\n" + END, []),
     ("nine.hlasm", marked("*") + marked("") * 8 + "\n" + END, []),
     ("ten.hlasm", marked("*") + marked("") * 9 + "\n" + END, [f"1:1: {SURPLUS}"]),
+    ("ten_of_a_constant.hlasm", marked("A        DC    X'") + marked("") * 9 + " " * 15 + "00'\n" + END, [f"1:1: {SURPLUS}"]),
+    ("ten_of_a_macro_call.hlasm", marked("         CALL  1,") + marked(" " * 15 + "2,") * 9 + " " * 15 + "3\n" + END, []),
     ("cut.hlasm", END + marked("*")[:-1], [f"2:1: {CUT}"]),
     ("order.hlasm", "\n" + marked("*") + "*\n" + BAD_MARGIN, [f"2:1: {MARGIN}", f"4:1: {MARGIN}", f"6:1: {NO_END}"]),
     ("crlf.hlasm", ("\n" + BAD_MARGIN + END).replace("\n", "\r\n"), [f"2:1: {MARGIN}"]),
