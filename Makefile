@@ -1,17 +1,34 @@
-# make run: proves and builds the program and runs it on a stored session; shows what goes in and what comes out.
+# make run: proves and builds the program, and lists what it reports of a first example.
+# make demo: proves and builds the program, and shows the stored session: what an editor sends and what it is answered.
+# make install: puts the program and hlasm-lint into PREFIX/bin, which is your own ~/.local/bin if you name no PREFIX.
 # make test: the gate: proves every crate and its tests from nothing, tries the edits that must fail, runs everything.
-# Both want the command rt of the kit on the PATH, and nothing else.
-.PHONY: run test
+# All want the command rt of the kit on the PATH, and Python 3.
+.PHONY: run demo install test build
+
+PREFIX = $(HOME)/.local
 
 program = crates/hlasm_ls
+lint = clients/hlasm-lint
+example = examples/first.hlasm
 
 # Frames, readably: a line for each header and each body.
 show = awk '{ gsub(/\r/, ""); gsub(/Content-Length/, "\n&"); print }' | sed -e '/^$$/d' -e 's/^/  /'
 
-run:
-	cd $(program) && rt run -- serve < stdin > /dev/null
+run: build
+	@echo; echo '$(lint) $(example)'
+	@$(lint) $(example) || test $$? -eq 1
+
+demo: build
 	@echo; echo 'The editor sends:'; cat $(program)/stdin | $(show)
 	@echo; echo 'hlasm_ls serve answers:'; $(program)/out/hlasm_ls serve < $(program)/stdin | $(show)
 
+install: build
+	install -d $(DESTDIR)$(PREFIX)/bin
+	install -m 755 $(program)/out/hlasm_ls $(lint) $(DESTDIR)$(PREFIX)/bin
+
 test:
-	rt ci
+	.ci/run
+
+# The kit proves and builds a program where it runs it; with no change since, it only runs it.
+build:
+	cd $(program) && rt run -- serve < stdin > /dev/null

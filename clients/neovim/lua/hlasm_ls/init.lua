@@ -1,0 +1,82 @@
+--- The client of hlasm_ls. Settings, before the first file is opened:
+---   vim.g.hlasm_ls_command = { '/path/to/hlasm_ls', 'serve' }   where the program is not on the PATH
+---   vim.g.hlasm_ls_extensions = { 'hlasm', 'mac' }              where other files than .hlasm .asm .mac .cpy are HLASM
+local workspace = require('hlasm_ls.workspace')
+
+local M = {}
+
+-- The server names these in its first reply and answers them with 'unknown method' so far: switched off, so that no user is
+-- shown that error. Remove `without_answers` with the stage of the server that answers them.
+local NOT_ANSWERED = {
+  server_capabilities = { 'hoverProvider', 'definitionProvider', 'referencesProvider', 'documentSymbolProvider' },
+  resolved_capabilities = { 'hover', 'goto_definition', 'find_references', 'document_symbol' }, -- of Neovim 0.7
+}
+
+local function without_answers(client)
+  for place, names in pairs(NOT_ANSWERED) do
+    for _, name in ipairs(names) do
+      if client[place] then
+        client[place][name] = false
+      end
+    end
+  end
+end
+
+-- The words that start the server.
+local function command()
+  local words = vim.g.hlasm_ls_command or 'hlasm_ls'
+  return type(words) == 'string' and { words, 'serve' } or words
+end
+
+-- Whether a buffer shows a file, which alone the server takes.
+local function shows_file(buffer)
+  local name = vim.api.nvim_buf_get_name(buffer)
+  return vim.bo[buffer].buftype == '' and name ~= '' and not name:match('^%a[%w+.-]*://')
+end
+
+-- The numbers of the running clients by workspace, for Neovim 0.7, which has no vim.lsp.start to find them.
+local running = {}
+
+local function attach_old(config, buffer)
+  local key = config.root_dir or ''
+  if not running[key] then
+    config.on_exit = function()
+      running[key] = nil
+    end
+    running[key] = vim.lsp.start_client(config)
+  end
+  if running[key] then
+    vim.lsp.buf_attach_client(buffer, running[key])
+  end
+end
+
+local function attach(config, buffer)
+  vim.api.nvim_buf_call(buffer, function()
+    vim.lsp.start(config)
+  end)
+end
+
+--- Starts the server for a buffer's workspace, where it does not run yet, and tells it of the buffer.
+function M.start(buffer)
+  if not shows_file(buffer) then
+    return
+  end
+  local words = command()
+  if vim.fn.executable(words[1]) == 0 then
+    vim.notify_once('hlasm_ls: no program ' .. words[1] .. '; set vim.g.hlasm_ls_command', vim.log.levels.WARN)
+    return
+  end
+  local config = {
+    name = 'hlasm_ls',
+    cmd = words,
+    root_dir = workspace.root_of(vim.api.nvim_buf_get_name(buffer)),
+    get_language_id = function()
+      return 'hlasm'
+    end,
+    on_init = without_answers,
+  }
+  local way = vim.lsp.start and attach or attach_old
+  way(config, buffer)
+end
+
+return M

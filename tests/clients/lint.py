@@ -1,0 +1,195 @@
+#!/usr/bin/env python3
+"""hlasm-lint with the built program: what it lists, its status, and what it says where a file or the server fails.
+
+Usage: lint.py [--server PATH]
+"""
+import argparse
+import os
+import re
+import subprocess
+import sys
+import tempfile
+import unittest
+
+TOP = os.path.normpath(os.path.join(os.path.dirname(os.path.realpath(__file__)), "../.."))
+LINT = os.path.join(TOP, "clients/hlasm-lint")
+BUILT = os.path.join(TOP, "crates/hlasm_ls/out/hlasm_ls")
+
+MARGIN = "error: columns 1 to 15 of a continuation line are not blank [H001]"
+SURPLUS = "error: more than nine continuation lines [H002]"
+NO_END = "warning: END statement is missing [H003]"
+CUT = "warning: the text ends where a continuation line is expected [H005]"
+
+END = "         END\n"
+
+
+def marked(text):
+    """A line that goes on in the next one."""
+    return text.ljust(71) + "X\n"
+
+
+BAD_MARGIN = marked("A        LR    1,2") + "  B\n"
+
+# What one file lists: its name, its text, and the reports behind FILE:
+LISTED = [
+    ("clean.hlasm", "A        LR    1,2\n" + END, []),
+    ("empty.hlasm", "", [f"1:1: {NO_END}"]),
+    ("no_end.hlasm", "A        LR    1,2\n", [f"2:1: {NO_END}"]),
+    ("margin.hlasm", BAD_MARGIN + END, [f"1:1: {MARGIN}"]),
+    ("at_column_16.hlasm", marked("A        LR    1,2") + " " * 15 + "B\n" + END, []),
+    ("nine.hlasm", marked("*") + marked("") * 8 + "\n" + END, []),
+    ("ten.hlasm", marked("*") + marked("") * 9 + "\n" + END, [f"1:1: {SURPLUS}"]),
+    ("ten_of_a_constant.hlasm", marked("A        DC    X'") + marked("") * 9 + " " * 15 + "00'\n" + END, [f"1:1: {SURPLUS}"]),
+    ("ten_of_a_macro_call.hlasm", marked("         CALL  1,") + marked(" " * 15 + "2,") * 9 + " " * 15 + "3\n" + END, []),
+    ("cut.hlasm", END + marked("*")[:-1], [f"2:1: {CUT}"]),
+    ("order.hlasm", "\n" + marked("*") + "*\n" + BAD_MARGIN, [f"2:1: {MARGIN}", f"4:1: {MARGIN}", f"6:1: {NO_END}"]),
+    ("crlf.hlasm", ("\n" + BAD_MARGIN + END).replace("\n", "\r\n"), [f"2:1: {MARGIN}"]),
+    ("cr.hlasm", ("\n" + BAD_MARGIN + END).replace("\n", "\r"), [f"2:1: {MARGIN}"]),
+    ("other_line_ends.hlasm", "* \x0b \x0c \x85 \u2028\n" + BAD_MARGIN + END, [f"2:1: {MARGIN}"]),
+    ("byte_order_mark.hlasm", "\ufeff" + BAD_MARGIN + END, [f"1:1: {MARGIN}"]),
+    ("wide.hlasm", "*" + "\U0001d538" * 70 + "X\n  B\n" + END, [f"1:1: {MARGIN}"]),
+    ("blank % # ? ü \U0001d538.hlasm", BAD_MARGIN + END, [f"1:1: {MARGIN}"]),
+    ("many.hlasm", BAD_MARGIN * 1001 + END, [f"{2 * i + 1}:1: {MARGIN}" for i in range(1000)]),
+]
+
+# Servers that fail: a script, and a word of what is said.
+FAILING = [
+    ("read line; exit 1", "ended with status 1"),
+    ("exec '{server}' serv", "ended with status 7"),
+    ("'{server}' serve < /dev/null", "ended with status 2"),
+    ("dd bs=1 count=400 2> /dev/null | '{server}' serve", "ended with status 2"),
+    ("read line; echo Hello", "no message"),
+    ("read line; printf 'Content-Type: x\\r\\n\\r\\n{{}}'", "no length"),
+    ("read line; printf 'Content-Length: 99999999999999999999\\r\\n\\r\\n{{}}'", "hopeless"),
+    ("read line; printf 'Content-Length: 2\\r\\n\\r\\n[]'", "no object"),
+    ("read line; printf 'Content-Length: 1\\r\\n\\r\\n{{'", "no JSON"),
+    ("read line; printf 'Content-Length: 38\\r\\n\\r\\n{{\"id\":1,\"jsonrpc\":\"2.0\",\"error\":null }}'", "unknown form"),
+    ("sleep 1000", "did not answer within 5 seconds"),
+    ("'{server}' serve; sleep 1000", "did not end within 5 seconds"),
+]
+
+server = BUILT
+
+
+def lint(*words, folder, program=None):
+    """Status, lines and standard error of hlasm-lint."""
+    command = [sys.executable, LINT, "--server", program or server, *words]
+    ran = subprocess.run(command, cwd=folder, stdin=subprocess.DEVNULL, capture_output=True, encoding="utf-8", timeout=300)
+    return ran.returncode, ran.stdout.splitlines(), ran.stderr
+
+
+class Lint(unittest.TestCase):
+    def setUp(self):
+        self.room = tempfile.TemporaryDirectory(prefix="hlasm-lint-")
+        self.folder = self.room.name
+        self.addCleanup(self.room.cleanup)
+
+    def file(self, name, content):
+        path = os.path.join(self.folder, name)
+        with open(path, "wb") as file:
+            file.write(content if isinstance(content, bytes) else content.encode("utf-8"))
+        return name
+
+    def script(self, name, line):
+        self.file(name, f"#!/bin/sh\n{line}\n")
+        os.chmod(os.path.join(self.folder, name), 0o755)
+        return os.path.join(self.folder, name)
+
+    def test_the_example(self):
+        for words, stored in ([], "first.txt"), (["--json"], "first.json"):
+            with open(os.path.join(TOP, "tests/clients", stored), encoding="utf-8") as file:
+                wanted = file.read().splitlines()
+            self.assertEqual((1, wanted, ""), lint(*words, "examples/first.hlasm", folder=TOP))
+
+    def test_the_pages_show_the_example_as_it_is(self):
+        with open(os.path.join(TOP, "tests/clients/first.txt"), encoding="utf-8") as file:
+            listed = "".join(f"    {line}" for line in file)
+        for page in ("README.md", "docs/PIPELINE.md"):
+            with open(os.path.join(TOP, page), encoding="utf-8") as file:
+                self.assertIn(listed, file.read(), page)
+
+    def test_the_examples_of_the_user_page(self):
+        """Each example has a ruler above it and no line end behind it, and below it what is listed."""
+        with open(os.path.join(TOP, "docs/USER.md"), encoding="utf-8") as file:
+            examples = re.findall(r"```hlasm\n.*\n([^`]*)\n```\n```text\n([^`]*)```\n", file.read())
+        self.assertEqual(5, len(examples))
+        for text, listed in examples:
+            with self.subTest(listed):
+                self.assertEqual(listed.splitlines(), lint(self.file("example.hlasm", text), folder=self.folder)[1])
+
+    def test_what_is_listed(self):
+        for name, text, reports in LISTED:
+            with self.subTest(name):
+                status, lines, said = lint(self.file(name, text), folder=self.folder)
+                self.assertEqual([f"{name}:{report}" for report in reports], lines)
+                self.assertEqual(1 if any(": error: " in line for line in lines) else 0, status)
+                self.assertEqual(f"hlasm-lint: {name}: no more than 1000 reports of a file are listed\n" if len(lines) == 1000 else "", said)
+
+    def test_columns_are_characters(self):
+        name = self.file("wide.hlasm", "*" + "\U0001d538" * 70 + "X\n  B\n" + END)
+        status, lines, said = lint("--json", name, folder=self.folder)
+        self.assertEqual((1, ""), (status, said))
+        self.assertIn('"line": 1, "column": 1, "endLine": 1, "endColumn": 72,', lines[0])
+
+    def test_many_files_go_through_one_server(self):
+        program = self.script("counted", f"echo started >> '{self.folder}/starts'; exec '{server}' serve")
+        names = [self.file(f"{number}.hlasm", BAD_MARGIN if number % 2 else END) for number in range(70)]
+        names.append(names[1])
+        wanted = [line for name in names[1::2] + names[-1:] for line in (f"{name}:1:1: {MARGIN}", f"{name}:3:1: {NO_END}")]
+        self.assertEqual((1, wanted, ""), lint(*names, folder=self.folder, program=program))
+        with open(os.path.join(self.folder, "starts"), encoding="utf-8") as file:
+            self.assertEqual("started\n", file.read())
+
+    def test_files_that_cannot_be_checked(self):
+        good = self.file("good.hlasm", END)
+        largest = self.file("largest.hlasm", (END + ("*" * 70 + "\n") * 59_100)[: 4 * 1024 * 1024])
+        cases = [
+            ("absent.hlasm", "absent.hlasm: cannot be read: No such file or directory"),
+            (".", ".: cannot be read: Is a directory"),
+            (self.file("ebcdic.hlasm", "* AÜ".encode("cp500")), "ebcdic.hlasm: is not UTF-8 (byte 3); convert it first, as by iconv -f IBM-1047 -t UTF-8"),
+            (self.file("large.hlasm", " " * (4 * 1024 * 1024 + 1)), "large.hlasm: is above 4 MiB"),
+            (self.file("escapes.hlasm", "\x01" * 3_000_000), "escapes.hlasm: too many characters that JSON escapes: the message would be above 16 MiB"),
+        ]
+        for name, why in cases:
+            with self.subTest(name):
+                self.assertEqual((2, [], f"hlasm-lint: {why}\n"), lint(name, good, folder=self.folder))
+        after = self.file("after.hlasm", BAD_MARGIN + END)
+        self.assertEqual((2, [f"{after}:1:1: {MARGIN}"]), lint("absent.hlasm", after, folder=self.folder)[:2])
+        self.assertEqual((0, [], ""), lint(largest, folder=self.folder))
+
+    def test_a_server_that_fails(self):
+        name = self.file("good.hlasm", END)
+        for line, why in FAILING:
+            with self.subTest(line):
+                program = self.script("failing", line.format(server=server))
+                seconds = "5" if "sleep" in line else "60"
+                status, lines, said = lint("--timeout", seconds, name, folder=self.folder, program=program)
+                self.assertEqual((2, []), (status, lines))
+                self.assertIn(why, said)
+                self.assertEqual(1, said.count("\n"))
+        self.assertEqual(2, lint(name, folder=self.folder, program="./absent")[0])
+
+    def test_the_words(self):
+        name = self.file("good.hlasm", END)
+        for words in ([], ["--root", "absent", name], ["--root", name, name], ["--unknown", name], ["--timeout", "0", name]):
+            with self.subTest(words):
+                status, lines, said = lint(*words, folder=self.folder)
+                self.assertEqual((2, []), (status, lines))
+                self.assertIn("usage: hlasm-lint", said)
+        program = self.script("heard", f"tee '{self.folder}/heard.txt' | '{server}' serve")
+        for words, root in ([], self.folder), (["--root", "/"], "/"):
+            self.assertEqual((0, [], ""), lint(*words, name, folder=self.folder, program=program))
+            with open(os.path.join(self.folder, "heard.txt"), encoding="utf-8") as file:
+                self.assertIn(f'"rootUri":"file://{os.path.realpath(root)}"', file.read())
+        said = lint("--verbose", name, folder=self.folder)[2]
+        self.assertEqual(f"hlasm-lint: 1 of 1 files checked by {server}: errors 0, others 0\n", said)
+
+
+if __name__ == "__main__":
+    parser = argparse.ArgumentParser(description=__doc__.partition("\n")[0])
+    parser.add_argument("--server", default=BUILT, type=os.path.abspath, help="the program hlasm_ls (default: the built one)")
+    words, rest = parser.parse_known_args()
+    server = words.server
+    if not os.access(server, os.X_OK):
+        sys.exit(f"lint.py: there is no program {server}: make run builds it")
+    unittest.main(argv=[sys.argv[0], *rest])
