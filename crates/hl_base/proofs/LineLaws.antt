@@ -43,10 +43,10 @@ lines-append [] ys line rest h e = e
 lines-append (x ∷ xs) ys line rest h e = lines-cons x (xs ++ ys) h.0 ∙ ap (onto_first x) (lines-append xs ys line rest h.1 e)
 
 -- an ASCII byte at the front is a character
-chars-ascii : (b : ℕ) (bs : List ℕ) → b < 128 → IsUtf8 (b ∷ bs) → chars (b ∷ bs) ≡ b ∷ chars bs
+pub chars-ascii : (b : ℕ) (bs : List ℕ) → b < 128 → IsUtf8 (b ∷ bs) → chars (b ∷ bs) ≡ b ∷ chars bs
 chars-ascii b bs small u = chars_past_char (b ∷ bs) bs b u (ap (λ front. front ++ bs) (sym (encode_ascii b small)))
 
-utf8_tail : (b : ℕ) (bs : List ℕ) → b < 128 → IsUtf8 (b ∷ bs) → IsUtf8 bs
+pub utf8_tail : (b : ℕ) (bs : List ℕ) → b < 128 → IsUtf8 (b ∷ bs) → IsUtf8 bs
 utf8_tail b bs small u = IsUtf8-past_char (b ∷ bs) bs b u (ap (λ front. front ++ bs) (sym (encode_ascii b small)))
 
 first_of : (cs : List ℕ) → (slice_index (encode_utf8_all cs) 0 == 10) ≡ false → (slice_index cs 0 == 10) ≡ false
@@ -56,7 +56,7 @@ first_of (c ∷ cs) h = false_from_ne_true (c == 10) (λ yes.
     both_ways _ h (subst P (sym (eqb-true c 10 yes)) (rw (encode_ascii 10 (lit< tt)) refl)))
 
 -- the first character is a LF only where the first byte is
-first_char : (bs : List ℕ) → IsUtf8 bs → (slice_index bs 0 == 10) ≡ false → (slice_index (chars bs) 0 == 10) ≡ false
+pub first_char : (bs : List ℕ) → IsUtf8 bs → (slice_index bs 0 == 10) ≡ false → (slice_index (chars bs) 0 == 10) ≡ false
 first_char bs u h = first_of (chars bs) (ap (λ xs. slice_index xs 0 == 10) (encodes-chars bs u) ∙ h)
 
 pub lines-behind_crlf : (bs : List ℕ) → IsUtf8 bs → begins_crlf (slice_index bs 0) (drop 1 bs) ≡ true → lines (chars bs) ≡ [] ∷ lines (chars (drop 2 bs))
@@ -140,7 +140,7 @@ within_chars (c ∷ cs) h =
     both_ways _ (subst Q (encode_ascii c (ends_small c yes)) parts.0).0 yes) in
     (inside, within_chars cs parts.1)
 
-within_text : (bs : List ℕ) → IsUtf8 bs → AllByRecursion IsWithin bs → AllByRecursion IsWithin (chars bs)
+pub within_text : (bs : List ℕ) → IsUtf8 bs → AllByRecursion IsWithin bs → AllByRecursion IsWithin (chars bs)
 within_text bs u h =
     let Q : List ℕ → Type 0 = λ bytes. AllByRecursion IsWithin bytes in
     within_chars (chars bs) (subst Q (sym (encodes-chars bs u)) h)

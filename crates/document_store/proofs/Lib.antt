@@ -1,0 +1,4 @@
+pub mod LineLemmas
+pub mod FromLemmas
+pub mod PlaceLemmas
+pub mod EditLemmas

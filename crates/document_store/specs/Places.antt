@@ -1,0 +1,29 @@
+-- What the search for a place has left of a text, and how places are counted in bytes. No public clause cites this file.
+-- This project.
+use Rattle.std.specs.Prelude.{◌≡◌, ◌⊎◌, ℕ, List, [], Option, None, Some, Result, Ok, Err, length, take, encode_utf8_all, chars}
+use Rattle.std.specs.declared.string.String.{String}
+use Rattle.std.specs.String.{string_bytes}
+use Rattle.std.specs.Borrow.{Bor}
+use Rattle.document_store.specs.Positions.{whole_lines}
+use Rattle.document_store.specs.declared.fault.StoreFault.{StoreFault}
+use Rattle.document_store.specs.declared.fault.StoreFault.TheVariants.{BadRange, OutOfMemory}
+use Rattle.std.specs.declared.alloc.Global.{Global}
+
+-- the lines, each with its end, of what stands behind a line end; none where there was no end
+abbrev pub lines_behind : Option (Bor (List ℕ)) → List (List ℕ)
+lines_behind None = []
+lines_behind (Some text) = whole_lines (chars text.now)
+
+-- how many bytes the first characters of a text take in UTF-8
+abbrev pub bytes_before : List ℕ → ℕ → ℕ
+bytes_before text characters = length (encode_utf8_all (take characters text))
+
+-- a call gives the text that is asked, or the refusal that is; want of memory may come in place of either
+abbrev pub GivesText : Result (List ℕ) StoreFault → Result (String Global) StoreFault → Type 0
+GivesText asked (Ok text) = asked ≡ Ok (chars (string_bytes text))
+GivesText asked (Err OutOfMemory) = Unit {0}
+GivesText asked (Err fault) = asked ≡ Err fault
+
+-- the refusal of the change of this number, or want of memory
+abbrev pub IsBadRange : ℕ → StoreFault → Type 0
+IsBadRange number fault = (fault ≡ BadRange number) ⊎ (fault ≡ OutOfMemory)

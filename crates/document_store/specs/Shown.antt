@@ -1,0 +1,45 @@
+-- What the store shows of what it holds (this project).
+use Rattle.std.specs.Prelude.{◌≡◌, ◌↔◌, ℕ, ◌==◌, List, Option, None, Some, IsSome, Contains, count_by, slice_get, chars}
+use Rattle.std.specs.Str.{bytes_eq}
+use Rattle.text_pool.specs.Pool.{Pool, IsLive, text_of, owners_of}
+use Rattle.document_store.specs.Store.{Store, OpenDocument, File, Readable, Unreadable, number_of}
+use Rattle.document_store.specs.Holdings.{Holdings}
+use Rattle.document_store.specs.declared.document.Document.{Document}
+use Rattle.document_store.specs.declared.document.MemberText.{MemberText}
+use Rattle.document_store.specs.declared.document.MemberText.TheVariants as member
+
+-- a document is shown: the number of its path, its URI, its language and its version
+pub record Shows (paths : List (List ℕ)) (document : OpenDocument) (shown : Document) : Type 0 where
+  pub path : slice_get paths shown.path.0 ≡ Some document.path
+  pub uri : chars shown.uri.now ≡ document.uri
+  pub language : chars shown.language.now ≡ document.language
+  pub version : shown.version ≡ document.version
+
+-- the document of a place is shown, and nothing where there is none
+abbrev pub IsShown : List (List ℕ) → Option OpenDocument → Option Document → Type 0
+IsShown paths None None = Unit {0}
+IsShown paths (Some document) (Some shown) = Shows paths document shown
+IsShown paths None (Some shown) = ⊥
+IsShown paths (Some document) None = ⊥
+
+-- the pool has this text under this number
+pub record HasText (pool : Pool) (text : List ℕ) (id : ℕ) : Type 0 where
+  pub live : IsLive pool id
+  pub is : text_of pool id ≡ text
+
+-- what is present is given: a text by its number in the pool
+abbrev pub IsPresent : Pool → Option File → Option MemberText → Type 0
+IsPresent pool None None = Unit {0}
+IsPresent pool (Some (Readable text)) (Some (member.File id)) = HasText pool text id.0
+IsPresent pool (Some Unreadable) (Some member.Unreadable) = Unit {0}
+IsPresent pool asked shown = ⊥
+
+-- each open document's text is in the pool
+abbrev pub HasTexts : Holdings → Type 0
+HasTexts holdings = (document : OpenDocument) → Contains holdings.store.documents document →
+    (id : ℕ) × HasText holdings.pool document.text id
+
+-- each text of the pool has an owner for each open document of it
+abbrev pub IsOwnedByDocuments : Holdings → Type 0
+IsOwnedByDocuments holdings = (id : ℕ) → IsLive holdings.pool id →
+    owners_of holdings.pool id ≡ count_by (λ (d : OpenDocument). bytes_eq d.text (text_of holdings.pool id)) holdings.store.documents

@@ -1,0 +1,58 @@
+-- The open documents, the files of members and the numbers of paths (this project). A document is named by the path of
+-- its URI (Language Server Protocol 3.17, "TextDocumentItem").
+use Rattle.std.specs.Prelude.{◌≡◌, ℕ, ℤ, Bool, List, [], Option, None, Some, refl, position, find, slice_get}
+use Rattle.std.specs.Option.{option_map, option_and_then}
+use Rattle.std.specs.Ordering.{nat_cmp}
+use Rattle.std.specs.Cmp.Lexicographic.{slice_cmp}
+use Rattle.std.specs.Str.{bytes_eq}
+use Rattle.std.specs.FinMap as map
+use Rattle.std.specs.Coded.{Coded, code_by, coded×, coded_ℕ, coded_ℤ, coded_list, coded_option}
+use Rattle.text_pool.specs.Pool.{Pool, pool_code}
+
+-- an open document: the path of its URI, the URI as it was opened, its language, version and text
+pub record OpenDocument : Type 0 where
+  pub path : List ℕ
+  pub uri : List ℕ
+  pub language : List ℕ
+  pub version : ℤ
+  pub text : List ℕ
+
+-- what was last read of a file: a text, or that it cannot be read
+pub data File : Type 0 where
+  Readable : List ℕ → File
+  Unreadable : File
+
+-- The open documents in order of opening, the files by their paths, and the paths that have a number, in the order of
+-- their numbers from 0. No file is kept yet.
+pub record Store : Type 0 where
+  pub documents : List OpenDocument
+  pub files : map.FinMap (slice_cmp nat_cmp) File
+  pub paths : List (List ℕ)
+
+-- the store of which nothing was asked
+abbrev pub empty_store : Store
+empty_store = record { documents = []; files = map.empty; paths = [] }
+
+-- whether a document is the one of a path
+abbrev pub is_at : List ℕ → OpenDocument → Bool
+is_at path document = bytes_eq document.path path
+
+-- the open document of a path
+abbrev pub document_of : Store → List ℕ → Option OpenDocument
+document_of store path = find (is_at path) store.documents
+
+-- the number of a path
+abbrev pub number_of : List (List ℕ) → List ℕ → Option ℕ
+number_of paths path = position (bytes_eq path) paths
+
+abbrev present_in : Store → List ℕ → Option OpenDocument → Option File
+present_in store path (Some document) = Some (Readable document.text)
+present_in store path None = map.get store.files path
+
+-- what is present at a path: the text of the open document, else the file
+abbrev pub present : Store → List ℕ → Option File
+present store path = present_in store path (document_of store path)
+
+-- what is present at the path of a number
+abbrev pub present_at : Store → ℕ → Option File
+present_at store number = option_and_then (present store) (slice_get store.paths number)
