@@ -12,15 +12,18 @@
 mod changes;
 mod document;
 mod fault;
+mod kept;
 mod limits;
 mod lines;
 mod place;
+mod store;
 
 pub use changes::after_edits;
 pub use document::{Document, MemberText};
 pub use fault::StoreFault;
 pub use limits::MOST_DOCUMENTS;
 pub use place::{column, position};
+pub use store::DocumentStore;
 
 #[cfg(test)]
 mod tests;
