@@ -1,23 +1,20 @@
 //! The store of open documents.
 ghost use Rattle.std.specs.Prelude.{◌≡◌, ◌+◌, ◌<◌, ◌≤◌, ℕ, length, IfOk, IfErr, IfSome, OnOk, OnErr, IsSome, ◌==◌, ◌^◌, Some, None, position, slice_get, slice_index_or, unwrap_or, []};
-ghost use Rattle.std.specs.Option.{option_map};
+ghost use Rattle.std.specs.Option.{option_map, option_and_then};
 ghost use Rattle.std.specs.Str.{chars};
 ghost use Rattle.document_store.specs.Store as store;
-ghost use Rattle.document_store.specs.Inside.{names_of};
-ghost use Rattle.document_store.specs.Changes.{opened, changed, closed, with_path, with_document, Answers, MayOpen};
+ghost use Rattle.document_store.specs.Changes.{opened, changed, closed, with_document, with_text, Answers, MayOpen};
 ghost use Rattle.document_store.specs.Holdings as holdings;
 ghost use Rattle.document_store.specs.Shown.{IsShown, IsPresent};
 ghost use Rattle.document_store.specs.Positions as positions;
-ghost use Rattle.indexmap.specs.IndexSet.{spare};
-ghost use Rattle.std.specs.String.{string_bytes};
 
 use crate::changes::after_edits;
-use crate::kept::KeptDocument;
-use crate::place;
-use crate::{Document, MOST_DOCUMENTS, MemberText, StoreFault};
+use crate::kept::{KeptDocument, append, place_in};
+use crate::opening::prepare;
+use crate::paths::{enter, number_in};
+use crate::{Document, MOST_DOCUMENTS, MemberText, StoreFault, place};
 use file_uri::file_path;
 use hl_base::{Edit, PathId, Position, Text};
-use indexmap::IndexSet;
 use std::alloc::Global;
 use std::marker::Model;
 use text_pool::{LONGEST_TEXT, TextPool};
@@ -26,7 +23,7 @@ use text_pool::{LONGEST_TEXT, TextPool};
 #[derive(Drop)]
 pub struct DocumentStore {
     // The paths in the order of their numbers. A path keeps its number for good.
-    paths: IndexSet<String>,
+    paths: Vec<Text>,
     documents: Vec<KeptDocument>,
     pool: TextPool,
 }
@@ -40,9 +37,9 @@ impl Model for DocumentStore {
 
     ghost use Rattle.document_store.specs.Inside.{holdings_of, IsKept};
 
-    ghost view = { λ s. holdings_of s.paths.keys s.documents.items s.pool };
+    ghost view = { λ s. holdings_of s.paths.items s.documents.items s.pool };
 
-    ghost invariant = { λ s. IsKept s.paths.keys s.documents.items s.pool };
+    ghost invariant = { λ s. IsKept s.paths.items s.documents.items s.pool };
 }
 
 impl DocumentStore {
@@ -51,7 +48,7 @@ impl DocumentStore {
         ensures { result.store ≡ store.empty_store }
     {
         DocumentStore {
-            paths: IndexSet::new(alloc),
+            paths: Vec::new(alloc),
             documents: Vec::new(alloc),
             pool: TextPool::new(alloc),
         }
@@ -68,7 +65,7 @@ impl DocumentStore {
     pub fn path_id(&self, path: &str) -> Option<PathId>
         ensures { option_map (λ id. id.0) result ≡ store.number_of self.now.store.paths (chars path.now) }
     {
-        let number = self.paths.get_index_of(path)?;
+        let number = number_in(self.paths.as_slice(), path)?;
         Some(PathId(number as u32))
     }
 
@@ -77,7 +74,7 @@ impl DocumentStore {
         requires given { path.0 < length self.now.store.paths }
         ensures { Some (chars result.now) ≡ slice_get self.now.store.paths path.0 }
     {
-        self.paths.as_slice()[path.0 as usize].as_str()
+        self.paths[path.0 as usize].as_str()
     }
 
     /// The open document of a place in the order of opening, counted from 0.
@@ -85,12 +82,7 @@ impl DocumentStore {
         ensures { IsShown self.now.store.paths (slice_get self.now.store.documents index) result }
     {
         match self.documents.get(index as usize) {
-            Some(kept) => Some(Document {
-                path: kept.path,
-                uri: kept.uri.as_str(),
-                language: kept.language.as_str(),
-                version: kept.version,
-            }),
+            Some(kept) => Some(kept.shown()),
             None => None,
         }
     }
@@ -99,8 +91,10 @@ impl DocumentStore {
     pub fn present(&self, path: PathId) -> Option<MemberText>
         ensures { IsPresent self.now.pool (store.present_at self.now.store path.0) result }
     {
-        let at = place_of(self.documents.as_slice(), path)?;
-        Some(MemberText::File(self.documents[at].text))
+        match self.place(path) {
+            Some(at) => Some(MemberText::File(self.documents[at].text)),
+            None => None,
+        }
     }
 
     /// The line, counted from 0, and the column, counted from 1 in characters, of a position in the text that is present
@@ -128,7 +122,7 @@ impl DocumentStore {
         ensures text { holdings.present_text self.now.store path.0 ≡ Some (chars result.now) }
         ensures short { length result.now ≤ LONGEST_TEXT }
     {
-        match place_of(self.documents.as_slice(), path) {
+        match self.place(path) {
             Some(at) => self.pool.text(self.documents[at].text),
             None => unreachable!(),
         }
@@ -138,7 +132,15 @@ impl DocumentStore {
     fn find(&self, path: &str) -> Option<usize>
         ensures { result ≡ position (store.is_at (chars path.now)) self.now.store.documents }
     {
-        place_of(self.documents.as_slice(), self.path_id(path)?)
+        place_in(self.documents.as_slice(), path)
+    }
+
+    /// The place of the open document at the path of a number.
+    fn place(&self, path: PathId) -> Option<usize>
+        ensures { result ≡ option_and_then (λ p. position (store.is_at p) self.now.store.documents) (slice_get self.now.store.paths path.0) }
+    {
+        let path = self.paths.get(path.0 as usize)?;
+        self.find(path.as_str())
     }
 
     /// Whether a document of a path may be opened with a text.
@@ -148,7 +150,7 @@ impl DocumentStore {
         if self.find(path).is_some() {
             return Err(StoreFault::AlreadyOpen);
         }
-        if self.documents.len() >= MOST_DOCUMENTS {
+        if self.documents.as_slice().len() >= MOST_DOCUMENTS {
             return Err(StoreFault::TooMany);
         }
         if text.len() > LONGEST_TEXT {
@@ -173,23 +175,13 @@ impl DocumentStore {
         ensures memory { IfErr result (λ fault. fault ≡ StoreFault.OutOfMemory) }
         ensures kept { OnErr result (self.new ≡ self.old) }
     {
-        let key = String::from_str(alloc, path)?;
-        let uri = Text::of(alloc, uri)?;
-        let language = Text::of(alloc, language)?;
+        let opening = prepare(alloc, self.paths.as_slice(), path, uri, language, version)?;
         self.documents.reserve(1)?;
         self.paths.reserve(1)?;
-        if u32::try_from(self.paths.len()).is_err() {
-            return Err(StoreFault::OutOfMemory);
-        }
         let text = self.pool.intern(alloc, text)?;
-        let path = add_path(&mut self.paths, key);
-        self.documents.push_reserved(KeptDocument {
-            path,
-            uri,
-            language,
-            version,
-            text,
-        });
+        let (key, kept) = opening.keep(text);
+        enter(&mut self.paths, key);
+        append(&mut self.documents, kept);
         Ok(())
     }
 
@@ -210,6 +202,37 @@ impl DocumentStore {
         self.admit(alloc, path.as_str(), uri, language, version, text)
     }
 
+    /// The text of the open document of a place.
+    fn text_at(&self, at: usize) -> &str
+        requires { at < length self.now.store.documents }
+        ensures text { IfSome (slice_get self.now.store.documents at) (λ document. chars result.now ≡ document.text) }
+        ensures short { length result.now ≤ LONGEST_TEXT }
+    {
+        self.pool.text(self.documents[at].text)
+    }
+
+    /// Gives the document of a path, which is at a place, another version and text. The path is for the contract alone.
+    fn replace(
+        &mut self,
+        alloc: Global,
+        _path: &str,
+        at: usize,
+        version: i32,
+        text: &str,
+    ) -> Result<(), StoreFault>
+        requires found { position (store.is_at (chars _path.now)) self.old.store.documents ≡ Some at }
+        requires short { length text.now ≤ LONGEST_TEXT }
+        ensures replaced { OnOk result (self.new.store ≡ with_text self.old.store (chars _path.now) version (chars text.now)) }
+        ensures memory { IfErr result (λ fault. fault ≡ StoreFault.OutOfMemory) }
+        ensures kept { OnErr result (self.new ≡ self.old) }
+    {
+        let old = self.documents[at].text;
+        let new = self.pool.intern(alloc, text)?;
+        self.pool.release(old);
+        self.documents[at].rewrite(version, new);
+        Ok(())
+    }
+
     /// Changes the text of a document and gives it a version (Language Server Protocol 3.17, "DidChangeTextDocument
     /// Notification"): the changes apply in turn, each to the text that the one before left. An `Err` changes nothing.
     pub fn change(
@@ -226,14 +249,10 @@ impl DocumentStore {
         let Some(at) = self.find(path.as_str()) else {
             return Err(StoreFault::NotOpen);
         };
-        let old = self.documents[at].text;
-        let text = after_edits(alloc, self.pool.text(old), edits)?;
-        let new = self.pool.intern(alloc, text.as_str())?;
-        self.pool.release(old);
-        let document = &mut self.documents[at];
-        document.version = version;
-        document.text = new;
-        Ok(())
+        match after_edits(alloc, self.text_at(at), edits) {
+            Ok(text) => self.replace(alloc, path.as_str(), at, version, text.as_str()),
+            Err(fault) => Err(fault),
+        }
     }
 
     /// Closes a document (Language Server Protocol 3.17, "DidCloseTextDocument Notification"). An `Err` changes nothing.
@@ -242,31 +261,11 @@ impl DocumentStore {
         ensures kept { OnErr result (self.new ≡ self.old) }
     {
         let path = file_path(alloc, uri)?;
-        let Some(at) = self.find(path.as_str()) else {
+        let Some(at) = place_in(self.documents.as_slice(), path.as_str()) else {
             return Err(StoreFault::NotOpen);
         };
         let document = self.documents.remove(at);
         self.pool.release(document.text);
         Ok(())
-    }
-}
-
-/// The place of the document with the number of a path.
-fn place_of(documents: &[KeptDocument], path: PathId) -> Option<usize>
-    ensures { result ≡ position (λ (d : KeptDocument). d.path.0 == path.0) documents.now }
-{
-    documents.iter().position(|kept| kept.path == path)
-}
-
-/// The number of a path from now on: its own, or the next.
-fn add_path(paths: &mut IndexSet<String>, path: String) -> PathId
-    requires room { 0 < spare paths.old }
-    requires few { length paths.old.keys < 2 ^ 32 }
-    ensures names { names_of paths.new.keys ≡ with_path (names_of paths.old.keys) (chars (string_bytes path)) }
-    ensures number { slice_get (names_of paths.new.keys) result.0 ≡ Some (chars (string_bytes path)) }
-{
-    match paths.insert_full(path) {
-        Ok((number, _)) => PathId(number as u32),
-        Err(_) => unreachable!(),
     }
 }
