@@ -2,6 +2,7 @@ pub mod LineLemmas
 pub mod FromLemmas
 pub mod PlaceLemmas
 pub mod EditLemmas
+pub mod InverseLaws
 pub mod OwnerLemmas
 pub mod DocumentLemmas
 pub mod StoreLemmas

@@ -7,3 +7,4 @@ pub mod Shown
 pub mod Places
 pub mod Faults
 pub mod Inside
+pub mod Laws

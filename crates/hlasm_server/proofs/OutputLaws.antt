@@ -1,13 +1,16 @@
 -- Laws of what a run writes and answers: there is one answer for each input, and only one.
-use Rattle.std.proofs.Common.{◌≡◌, ℕ, ◌+◌, Bool, List, [], ◌∷◌, ◌++◌, length, ◌⊎◌, inl, inr, refl, sym, ap, ◌∙◌, subst, arith, length-append, append_assoc, append-nil}
+use Rattle.std.proofs.Common.{◌≡◌, ℕ, ◌+◌, ◌-◌, ◌^◌, ◌<◌, ◌≤◌, Bool, List, [], ◌∷◌, ◌++◌, length, take, drop, ◌⊎◌, inl, inr, refl, sym, ap, ◌∙◌, subst, arith, length-append, append_assoc, append-nil}
+use Rattle.std.proofs.lemmas.Bool.{cases_lt}
+use Rattle.std.proofs.lemmas.List.{take-append-drop, take-append-le, take-take, length-drop}
 use Rattle.io_edge.specs.LibraryCall.{LibraryCall}
-use Rattle.rpc_framing.specs.Frames.{IsFrame, IsFrames, IsPartial, IsBadStart}
+use Rattle.rpc_framing.specs.Frames.{IsFrame, IsFrames, BeginsFrames, IsPartial, IsBadStart}
 use Rattle.hlasm_server.specs.declared.status.Status.{Status}
-use Rattle.hlasm_server.specs.declared.status.Status.TheVariants.{Done, InputEnded, OutOfMemory, ReadFault, WriteFault, BadWords, NotBuilt}
+use Rattle.hlasm_server.specs.declared.status.Status.TheVariants.{Done, InputEnded, OutOfMemory, ReadFault, WriteFault, BadFrame, BadWords, InputTooLong, NotBuilt}
 use Rattle.hlasm_server.specs.Session.{State, Step, Goes, Ends, Refuses, hear}
-use Rattle.hlasm_server.specs.Output.{Leads, Meets, EndsAt, Out}
-use Rattle.rpc_framing.proofs.FrameLaws.{IsFrame-unique, IsPartial-no_frame, IsBadStart-unique, HasNoFrame-IsBadStart}
-use Rattle.rpc_framing.proofs.Splitting.{Splits-Breaks, IsFrames-append}
+use Rattle.hlasm_server.specs.Output.{Leads, Meets, most_input, EndsAt, Out}
+use Rattle.rpc_framing.proofs.Lists.{take-past}
+use Rattle.rpc_framing.proofs.FrameLaws.{IsFrame-unique, IsPartial-no_frame, IsPartial-take, BeginsFrames-IsPartial, IsBadStart-unique, HasNoFrame-IsBadStart}
+use Rattle.rpc_framing.proofs.Splitting.{IsFrames-append}
 use Rattle.rpc_framing.proofs.EachStream.{each_stream}
 
 -- ---- frames
@@ -19,9 +22,30 @@ bad_has_no_frame : (f b r : List ℕ) (at : ℕ) → IsFrame f b → IsBadStart 
 bad_has_no_frame f b r at frame bad = (HasNoFrame-IsBadStart (f ++ r) at bad).none f b r frame refl
 
 bad_is_not_partial : (tail : List ℕ) (at : ℕ) → IsBadStart tail at → IsPartial tail → ⊥
-bad_is_not_partial tail at bad partial = Splits-Breaks tail [] [] tail at
-    (record { front = []; frames = refl; partial = partial; is = refl })
-    (record { front = []; tail = tail; within = at; frames = refl; bad = bad; is = refl; place = omega arith })
+bad_is_not_partial tail at bad partial = bad.bad (BeginsFrames-IsPartial (take at tail) (IsPartial-take at tail partial))
+
+-- a frame of which less was taken is less than a whole one
+front_is_partial : (f b : List ℕ) (k : ℕ) → IsFrame f b → k < length f → IsPartial (take k f)
+front_is_partial f b k frame less = record {
+  more = drop k f;
+  body = b;
+  some = omega (arith, length-drop k f);
+  frame = subst (λ t. IsFrame t b) (sym (take-append-drop k f)) frame;
+}
+
+-- a frame that was taken whole is not less than one
+taken_has_no_frame : (f b r : List ℕ) (k : ℕ) → IsFrame f b → length f ≤ k → IsPartial (take k (f ++ r)) → ⊥
+taken_has_no_frame f b r k frame whole partial =
+    IsPartial-no_frame (take k (f ++ r)) f b (take (k - length f) r) partial frame (take-past f r k whole)
+
+-- nor is what was taken up to a bad start
+bad_is_not_taken : (tail : List ℕ) (at k : ℕ) → IsBadStart tail at → at ≤ k → IsPartial (take k tail) → ⊥
+bad_is_not_taken tail at k bad le partial =
+    bad.bad (BeginsFrames-IsPartial (take at tail) (subst IsPartial (take-take at k tail le) (IsPartial-take at (take k tail) partial)))
+
+-- but what was taken short of it is
+short_of_bad : (tail : List ℕ) (at k : ℕ) → IsBadStart tail at → k < at → IsPartial (take k tail)
+short_of_bad tail at k bad less = subst IsPartial (take-take k (at - 1) tail (omega arith)) (IsPartial-take k (take (at - 1) tail) bad.partial)
 
 -- a stream is frames, and then a partial tail or one with a bad start
 record Parts (bytes : List ℕ) : Type 0 where
@@ -35,7 +59,7 @@ record Parts (bytes : List ℕ) : Type 0 where
 parts : (bytes : List ℕ) → Parts bytes
 parts bytes = elim (each_stream bytes) [
   | inl (bodies, rest, split) ↦ record { front = split.front; bodies = bodies; tail = rest; whole = split.is; frames = split.frames; tail_is = inl split.partial }
-  | inr (bodies, at, break) ↦ record { front = break.front; bodies = bodies; tail = break.tail; whole = break.is; frames = break.frames; tail_is = inr (break.within, break.bad) }
+  | inr (bodies, departs, at, break) ↦ record { front = break.front; bodies = bodies; tail = break.tail; whole = break.is; frames = break.frames; tail_is = inr (break.within, break.bad) }
 ]
 
 -- ---- one answer
@@ -52,70 +76,101 @@ partial_meets_nothing s tail a m p q = partial_has_no_frame p.bytes p.body p.res
 bad_meets_nothing : (s : State) (tail : List ℕ) (a : Step) (m at : ℕ) → Meets s tail a m → IsBadStart tail at → ⊥
 bad_meets_nothing s tail a m at p q = bad_has_no_frame p.bytes p.body p.rest at p.is_frame (subst (λ t. IsBadStart t at) p.whole q)
 
--- where the session stands open, the next thing that happens is one
-one_end : (s : State) (n : ℕ) (tail : List ℕ) (u v : Status) (a b : ℕ) → EndsAt s n tail u a → EndsAt s n tail v b → (u ≡ v) × (a ≡ b)
-one_end s n tail Done Done a b p q = (refl, (one_meeting s tail Ends Ends a b p q).1)
-one_end s n tail Done InputEnded a b p q = absurd (partial_meets_nothing s tail Ends a p q.0)
-one_end s n tail Done (NotBuilt k) a b p (e, inl bad) = absurd (bad_meets_nothing s tail Ends a b p bad)
-one_end s n tail Done (NotBuilt k) a b p (e, inr met) = let same = (one_meeting s tail Ends Refuses a b p met).0 in cc
-one_end s n tail InputEnded Done a b p q = absurd (partial_meets_nothing s tail Ends b q p.0)
-one_end s n tail InputEnded InputEnded a b p q = (refl, p.1 ∙ sym q.1)
-one_end s n tail InputEnded (NotBuilt k) a b p (e, inl bad) = absurd (bad_is_not_partial tail b bad p.0)
-one_end s n tail InputEnded (NotBuilt k) a b p (e, inr met) = absurd (partial_meets_nothing s tail Refuses b met p.0)
-one_end s n tail (NotBuilt k) Done a b (e, inl bad) q = absurd (bad_meets_nothing s tail Ends b a q bad)
-one_end s n tail (NotBuilt k) Done a b (e, inr met) q = let same = (one_meeting s tail Ends Refuses b a q met).0 in cc
-one_end s n tail (NotBuilt k) InputEnded a b (e, inl bad) q = absurd (bad_is_not_partial tail a bad q.0)
-one_end s n tail (NotBuilt k) InputEnded a b (e, inr met) q = absurd (partial_meets_nothing s tail Refuses a met q.0)
-one_end s n tail (NotBuilt k) (NotBuilt l) a b (e, inl bad) (f, inl worse) = (ap NotBuilt (e ∙ sym f), IsBadStart-unique tail a b bad worse)
-one_end s n tail (NotBuilt k) (NotBuilt l) a b (e, inl bad) (f, inr met) = absurd (bad_meets_nothing s tail Refuses b a met bad)
-one_end s n tail (NotBuilt k) (NotBuilt l) a b (e, inr met) (f, inl bad) = absurd (bad_meets_nothing s tail Refuses a b met bad)
-one_end s n tail (NotBuilt k) (NotBuilt l) a b (e, inr met) (f, inr again) = (ap NotBuilt (e ∙ sym f), (one_meeting s tail Refuses Refuses a b met again).1)
-one_end s n tail OutOfMemory v a b p q = absurd p
-one_end s n tail ReadFault v a b p q = absurd p
-one_end s n tail WriteFault v a b p q = absurd p
-one_end s n tail BadWords v a b p q = absurd p
-one_end s n tail u OutOfMemory a b p q = absurd q
-one_end s n tail u ReadFault a b p q = absurd q
-one_end s n tail u WriteFault a b p q = absurd q
-one_end s n tail u BadWords a b p q = absurd q
+taken_meets_nothing : (s : State) (tail : List ℕ) (a : Step) (m k : ℕ) → Meets s tail a m → m ≤ k → IsPartial (take k tail) → ⊥
+taken_meets_nothing s tail a m k p le partial =
+    let place = p.place in
+    taken_has_no_frame p.bytes p.body p.rest k p.is_frame (omega arith) (subst (λ t. IsPartial (take k t)) p.whole partial)
 
--- a session that hears the next frame and goes on has not ended there
-end_is_no_frame : (s next : State) (n : ℕ) (f b r : List ℕ) (first : List (List ℕ)) (u : Status) (a : ℕ) → IsFrame f b → hear s b ≡ Goes next first → EndsAt s n (f ++ r) u a → ⊥
-end_is_no_frame s next n f b r first Done a p e q =
-    let same = IsFrame-unique f q.bytes b q.body r q.rest p q.is_frame q.whole in
-    let other : hear s b ≡ Ends = ap (hear s) same.1 ∙ q.effect in
-    cc
-end_is_no_frame s next n f b r first InputEnded a p e q = partial_has_no_frame f b r p q.0
-end_is_no_frame s next n f b r first (NotBuilt k) a p e (_, inl bad) = bad_has_no_frame f b r a p bad
-end_is_no_frame s next n f b r first (NotBuilt k) a p e (_, inr q) =
-    let same = IsFrame-unique f q.bytes b q.body r q.rest p q.is_frame q.whole in
-    let other : hear s b ≡ Refuses = ap (hear s) same.1 ∙ q.effect in
-    cc
-end_is_no_frame s next n f b r first OutOfMemory a p e q = q
-end_is_no_frame s next n f b r first ReadFault a p e q = q
-end_is_no_frame s next n f b r first WriteFault a p e q = q
-end_is_no_frame s next n f b r first BadWords a p e q = q
+-- the status that a frame's body brings
+abbrev brings : Step → ℕ → Status
+brings (Goes next first) heard = BadWords
+brings Ends heard = Done
+brings Refuses heard = NotBuilt heard
+
+-- Why a session ends where it stands open: by the next frame, by the input's end, by a bad start, or by the most that
+-- is taken.
+data Cause (s : State) (heard before : ℕ) (tail : List ℕ) (status : Status) (taken : ℕ) : Type 0 where
+  by_frame : (step : Step) → Meets s tail step taken → status ≡ brings step heard → ((next : State) (first : List (List ℕ)) → step ≡ Goes next first → ⊥) → Cause s heard before tail status taken
+  by_end : IsPartial tail → taken ≡ length tail → before + taken < most_input → status ≡ InputEnded → Cause s heard before tail status taken
+  by_bad : IsBadStart tail taken → status ≡ BadFrame (before + taken) → Cause s heard before tail status taken
+  by_limit : IsPartial (take taken tail) → taken ≤ length tail → before + taken ≡ most_input → status ≡ InputTooLong → Cause s heard before tail status taken
+
+cause_of : (s : State) (heard before : ℕ) (tail : List ℕ) (status : Status) (taken : ℕ) → EndsAt s heard before tail status taken → Cause s heard before tail status taken
+cause_of s heard before tail Done taken e = by_frame Ends e refl (λ next first is. cc)
+cause_of s heard before tail InputEnded taken e = by_end e.0 e.1 e.2 refl
+cause_of s heard before tail (BadFrame at) taken e = by_bad e.0 (ap BadFrame e.1)
+cause_of s heard before tail InputTooLong taken e = by_limit e.0 e.1 e.2 refl
+cause_of s heard before tail (NotBuilt frames) taken e = by_frame Refuses e.1 (ap NotBuilt e.0) (λ next first is. cc)
+cause_of s heard before tail OutOfMemory taken e = absurd e
+cause_of s heard before tail ReadFault taken e = absurd e
+cause_of s heard before tail WriteFault taken e = absurd e
+cause_of s heard before tail BadWords taken e = absurd e
+
+-- where the session stands open, the next thing that happens is one
+one_cause : (s : State) (n before : ℕ) (tail : List ℕ) (u v : Status) (a b : ℕ) → before + a ≤ most_input → before + b ≤ most_input → Cause s n before tail u a → Cause s n before tail v b → (u ≡ v) × (a ≡ b)
+one_cause s n before tail u v a b la lb (by_frame step met is _) (by_frame other met' is' _) =
+    let same = one_meeting s tail step other a b met met' in
+    (is ∙ ap (λ t. brings t n) same.0 ∙ sym is', same.1)
+one_cause s n before tail u v a b la lb (by_frame step met is _) (by_end partial all few is') = absurd (partial_meets_nothing s tail step a met partial)
+one_cause s n before tail u v a b la lb (by_frame step met is _) (by_bad bad is') = absurd (bad_meets_nothing s tail step a b met bad)
+one_cause s n before tail u v a b la lb (by_frame step met is _) (by_limit partial le most is') = absurd (taken_meets_nothing s tail step a b met (omega arith) partial)
+one_cause s n before tail u v a b la lb (by_end partial all few is) (by_frame step met is' _) = absurd (partial_meets_nothing s tail step b met partial)
+one_cause s n before tail u v a b la lb (by_end partial all few is) (by_end partial' all' few' is') = (is ∙ sym is', all ∙ sym all')
+one_cause s n before tail u v a b la lb (by_end partial all few is) (by_bad bad is') = absurd (bad_is_not_partial tail b bad partial)
+one_cause s n before tail u v a b la lb (by_end partial all few is) (by_limit partial' le most is') = absurd (omega arith)
+one_cause s n before tail u v a b la lb (by_bad bad is) (by_frame step met is' _) = absurd (bad_meets_nothing s tail step b a met bad)
+one_cause s n before tail u v a b la lb (by_bad bad is) (by_end partial all few is') = absurd (bad_is_not_partial tail a bad partial)
+one_cause s n before tail u v a b la lb (by_bad bad is) (by_bad bad' is') =
+    let same = IsBadStart-unique tail a b bad bad' in
+    (is ∙ ap (λ k. BadFrame (before + k)) same ∙ sym is', same)
+one_cause s n before tail u v a b la lb (by_bad bad is) (by_limit partial le most is') = absurd (bad_is_not_taken tail a b bad (omega arith) partial)
+one_cause s n before tail u v a b la lb (by_limit partial le most is) (by_frame step met is' _) = absurd (taken_meets_nothing s tail step b a met (omega arith) partial)
+one_cause s n before tail u v a b la lb (by_limit partial le most is) (by_end partial' all few is') = absurd (omega arith)
+one_cause s n before tail u v a b la lb (by_limit partial le most is) (by_bad bad is') = absurd (bad_is_not_taken tail b a bad (omega arith) partial)
+one_cause s n before tail u v a b la lb (by_limit partial le most is) (by_limit partial' le' most' is') = (is ∙ sym is', (omega arith))
+
+one_end : (s : State) (n before : ℕ) (tail : List ℕ) (u v : Status) (a b : ℕ) → before + a ≤ most_input → before + b ≤ most_input → EndsAt s n before tail u a → EndsAt s n before tail v b → (u ≡ v) × (a ≡ b)
+one_end s n before tail u v a b la lb p q = one_cause s n before tail u v a b la lb (cause_of s n before tail u a p) (cause_of s n before tail v b q)
+
+-- a session that hears the next frame within what is taken and goes on has not ended there
+end_is_no_frame : (s next : State) (n before : ℕ) (f b r : List ℕ) (first : List (List ℕ)) (u : Status) (a : ℕ) → IsFrame f b → hear s b ≡ Goes next first → before + length f ≤ most_input → EndsAt s n before (f ++ r) u a → ⊥
+end_is_no_frame s next n before f b r first u a p e room q = elim (cause_of s n before (f ++ r) u a q) [
+  | by_frame step met is stops ↦
+      let same = IsFrame-unique f met.bytes b met.body r met.rest p met.is_frame met.whole in
+      stops next first (sym (sym e ∙ ap (hear s) same.1 ∙ met.effect))
+  | by_end partial all few is ↦ partial_has_no_frame f b r p partial
+  | by_bad bad is ↦ bad_has_no_frame f b r a p bad
+  | by_limit partial le most is ↦ taken_has_no_frame f b r a p (omega arith) partial
+]
 
 -- what was heard and what ended it, of an input in two readings
-pub one_reading : (bs cs : List (List ℕ)) (s t v : State) (n : ℕ) (f g x y : List ℕ) (ra rb : List (List ℕ)) (u w : Status) (a b : ℕ)
+pub one_reading : (bs cs : List (List ℕ)) (s t v : State) (n before : ℕ) (f g x y : List ℕ) (ra rb : List (List ℕ)) (u w : Status) (a b : ℕ)
     → IsFrames f bs → IsFrames g cs → f ++ x ≡ g ++ y → Leads s bs t ra → Leads s cs v rb
-    → EndsAt t (n + length bs) x u a → EndsAt v (n + length cs) y w b → (ra ≡ rb) × (u ≡ w) × (length f + a ≡ length g + b)
-one_reading [] [] s t v n f g x y ra rb u w a b p q e l m end end' =
+    → before + (length f + a) ≤ most_input → before + (length g + b) ≤ most_input
+    → EndsAt t (n + length bs) (before + length f) x u a → EndsAt v (n + length cs) (before + length g) y w b → (ra ≡ rb) × (u ≡ w) × (length f + a ≡ length g + b)
+one_reading [] [] s t v n before f g x y ra rb u w a b p q e l m la lb end end' =
     let same_tail : x ≡ y = sym (ap (λ z. z ++ x) p) ∙ e ∙ ap (λ z. z ++ y) q in
-    let there : EndsAt s (n + 0) x w b = subst (λ (z : State). EndsAt z (n + 0) x w b) m.0 (subst (λ z. EndsAt v (n + 0) z w b) (sym same_tail) end') in
-    let here : EndsAt s (n + 0) x u a = subst (λ (z : State). EndsAt z (n + 0) x u a) l.0 end in
-    let same = one_end s (n + 0) x u w a b here there in
     let lengths : length f ≡ length g = ap length p ∙ sym (ap length q) in
+    let none : length f ≡ 0 = ap length p in
+    let at : before + length g ≡ before + length f = omega arith in
+    let there : EndsAt s (n + 0) (before + length f) x w b =
+    subst (λ k. EndsAt s (n + 0) k x w b) at (subst (λ (z : State). EndsAt z (n + 0) (before + length g) x w b) m.0 (subst (λ z. EndsAt v (n + 0) (before + length g) z w b) (sym same_tail) end')) in
+    let here : EndsAt s (n + 0) (before + length f) x u a = subst (λ (z : State). EndsAt z (n + 0) (before + length f) x u a) l.0 end in
+    let same = one_end s (n + 0) (before + length f) x u w a b (omega arith) (omega arith) here there in
     (l.1 ∙ sym m.1, same.0, omega (arith, same.1))
-one_reading [] (c ∷ cs) s t v n f g x y ra rb u w a b p (first, others, is, rest, cut) e l (next, said, more, goes, on, _) end end' =
+one_reading [] (c ∷ cs) s t v n before f g x y ra rb u w a b p (first, others, is, rest, cut) e l (next, said, more, goes, on, _) la lb end end' =
     let reads : x ≡ first ++ (others ++ y) = sym (ap (λ z. z ++ x) p) ∙ e ∙ ap (λ z. z ++ y) cut ∙ append_assoc first others y in
-    let here : EndsAt s (n + 0) (first ++ (others ++ y)) u a = subst (λ z. EndsAt s (n + 0) z u a) reads (subst (λ (z : State). EndsAt z (n + 0) x u a) l.0 end) in
-    absurd (end_is_no_frame s next (n + 0) first c (others ++ y) said u a is goes here)
-one_reading (b' ∷ bs) [] s t v n f g x y ra rb u w a b (first, others, is, rest, cut) q e (next, said, more, goes, on, _) m end end' =
+    let here : EndsAt s (n + 0) (before + length f) (first ++ (others ++ y)) u a = subst (λ z. EndsAt s (n + 0) (before + length f) z u a) reads (subst (λ (z : State). EndsAt z (n + 0) (before + length f) x u a) l.0 end) in
+    let none : length f ≡ 0 = ap length p in
+    let size : length g ≡ length first + length others = ap length cut ∙ length-append first others in
+    absurd (end_is_no_frame s next (n + 0) (before + length f) first c (others ++ y) said u a is goes (omega arith) here)
+one_reading (b' ∷ bs) [] s t v n before f g x y ra rb u w a b (first, others, is, rest, cut) q e (next, said, more, goes, on, _) m la lb end end' =
     let reads : y ≡ first ++ (others ++ x) = sym (ap (λ z. z ++ y) q) ∙ sym e ∙ ap (λ z. z ++ x) cut ∙ append_assoc first others x in
-    let here : EndsAt s (n + 0) (first ++ (others ++ x)) w b = subst (λ z. EndsAt s (n + 0) z w b) reads (subst (λ (z : State). EndsAt z (n + 0) y w b) m.0 end') in
-    absurd (end_is_no_frame s next (n + 0) first b' (others ++ x) said w b is goes here)
-one_reading (b' ∷ bs) (c ∷ cs) s t v n f g x y ra rb u w a b (first, others, is, rest, cut) (first', others', is', rest', cut') e (next, said, more, goes, on, all) (next', said', more', goes', on', all') end end' =
+    let here : EndsAt s (n + 0) (before + length g) (first ++ (others ++ x)) w b = subst (λ z. EndsAt s (n + 0) (before + length g) z w b) reads (subst (λ (z : State). EndsAt z (n + 0) (before + length g) y w b) m.0 end') in
+    let none : length g ≡ 0 = ap length q in
+    let size : length f ≡ length first + length others = ap length cut ∙ length-append first others in
+    absurd (end_is_no_frame s next (n + 0) (before + length g) first b' (others ++ x) said w b is goes (omega arith) here)
+one_reading (b' ∷ bs) (c ∷ cs) s t v n before f g x y ra rb u w a b (first, others, is, rest, cut) (first', others', is', rest', cut') e (next, said, more, goes, on, all) (next', said', more', goes', on', all') la lb end end' =
     let cuts : first ++ (others ++ x) ≡ first' ++ (others' ++ y) =
     sym (append_assoc first others x) ∙ sym (ap (λ z. z ++ x) cut) ∙ e ∙ ap (λ z. z ++ y) cut' ∙ append_assoc first' others' y in
     let same = IsFrame-unique first first' b' c (others ++ x) (others' ++ y) is is' cuts in
@@ -123,21 +178,29 @@ one_reading (b' ∷ bs) (c ∷ cs) s t v n f g x y ra rb u w a b (first, others,
     let same_next : next ≡ next' = cc in
     let same_said : said ≡ said' = cc in
     let on_too : Leads next cs v more' = subst (λ (z : State). Leads z cs v more') (sym same_next) on' in
-    let counts : EndsAt t ((n + 1) + length bs) x u a = subst (λ k. EndsAt t k x u a) (omega arith) end in
-    let counts' : EndsAt v ((n + 1) + length cs) y w b = subst (λ k. EndsAt v k y w b) (omega arith) end' in
-    let behind = one_reading bs cs next t v (n + 1) others others' x y more more' u w a b rest rest' same.2 on on_too counts counts' in
     let lengths : length f ≡ length first + length others = ap length cut ∙ length-append first others in
     let lengths' : length g ≡ length first' + length others' = ap length cut' ∙ length-append first' others' in
     let firsts : length first ≡ length first' = ap length same.0 in
+    let before_is : before + length f ≡ (before + length first) + length others = omega arith in
+    let before_is' : before + length g ≡ (before + length first) + length others' = omega arith in
+    let counts : EndsAt t ((n + 1) + length bs) ((before + length first) + length others) x u a =
+    subst (λ k. EndsAt t ((n + 1) + length bs) k x u a) before_is (subst (λ k. EndsAt t k (before + length f) x u a) (omega arith) end) in
+    let counts' : EndsAt v ((n + 1) + length cs) ((before + length first) + length others') y w b =
+    subst (λ k. EndsAt v ((n + 1) + length cs) k y w b) before_is' (subst (λ k. EndsAt v k (before + length g) y w b) (omega arith) end') in
+    let behind = one_reading bs cs next t v (n + 1) (before + length first) others others' x y more more' u w a b rest rest' same.2 on on_too (omega arith) (omega arith) counts counts' in
     (all ∙ ap (λ z. z ++ more) same_said ∙ ap (λ z. said' ++ z) behind.0 ∙ sym all', behind.1, omega (arith, behind.2))
 
 -- one output, one status and one count for an input
-pub one_out : (from : State) (earlier : ℕ) (waits : List Bool) (calls : List LibraryCall) (bytes : List ℕ) (replies others : List (List ℕ)) (status other : Status) (taken count : ℕ)
-    → Out from earlier waits calls bytes replies status taken → Out from earlier waits calls bytes others other count
+pub one_out : (from : State) (earlier before : ℕ) (waits : List Bool) (calls : List LibraryCall) (bytes : List ℕ) (replies others : List (List ℕ)) (status other : Status) (taken count : ℕ)
+    → Out from earlier before waits calls bytes replies status taken → Out from earlier before waits calls bytes others other count
     → (replies ≡ others) × (status ≡ other) × (taken ≡ count)
-one_out from earlier waits calls bytes replies others status other taken count p q =
-    let same = one_reading p.bodies q.bodies from p.state q.state earlier p.front q.front p.tail q.tail replies others status other p.place q.place
-    p.frames q.frames (sym p.whole ∙ q.whole) p.heard q.heard p.ends q.ends in
+one_out from earlier before waits calls bytes replies others status other taken count p q =
+    let one = p.count in
+    let two = q.count in
+    let room = p.within in
+    let space = q.within in
+    let same = one_reading p.bodies q.bodies from p.state q.state earlier before p.front q.front p.tail q.tail replies others status other p.place q.place
+    p.frames q.frames (sym p.whole ∙ q.whole) p.heard q.heard (omega arith) (omega arith) p.ends q.ends in
     (same.0, same.1, p.count ∙ same.2 ∙ sym q.count)
 
 -- ---- some answer
@@ -154,11 +217,11 @@ effect_of Ends = ending refl
 effect_of Refuses = refusing refl
 
 -- there is an output of this input
-pub record SomeOut (from : State) (earlier : ℕ) (waits : List Bool) (bytes : List ℕ) : Type 0 where
+pub record SomeOut (from : State) (earlier before : ℕ) (waits : List Bool) (bytes : List ℕ) : Type 0 where
   pub replies : List (List ℕ)
   pub status : Status
   pub taken : ℕ
-  pub out : Out from earlier waits [] bytes replies status taken
+  pub out : Out from earlier before waits [] bytes replies status taken
 
 pub Leads-append : (bs cs : List (List ℕ)) (s t v : State) (first rest : List (List ℕ)) → Leads s bs t first → Leads t cs v rest → Leads s (bs ++ cs) v (first ++ rest)
 Leads-append [] cs s t v first rest p q =
@@ -168,9 +231,9 @@ Leads-append (b ∷ bs) cs s t v first rest (next, said, more, goes, on, all) q 
     (next, said, more ++ rest, goes, Leads-append bs cs next t v more rest on q, ap (λ z. z ++ rest) all ∙ append_assoc said more rest)
 
 -- what was heard before goes before
-pub Out-behind : (bs : List (List ℕ)) (s t : State) (n : ℕ) (waits : List Bool) (calls : List LibraryCall) (front bytes : List ℕ) (first rest : List (List ℕ)) (status : Status) (taken : ℕ)
-    → IsFrames front bs → Leads s bs t first → Out t (n + length bs) waits calls bytes rest status taken → Out s n waits calls (front ++ bytes) (first ++ rest) status (length front + taken)
-Out-behind bs s t n waits calls front bytes first rest status taken p l o = record {
+pub Out-behind : (bs : List (List ℕ)) (s t : State) (n before : ℕ) (waits : List Bool) (calls : List LibraryCall) (front bytes : List ℕ) (first rest : List (List ℕ)) (status : Status) (taken : ℕ)
+    → IsFrames front bs → Leads s bs t first → Out t (n + length bs) (before + length front) waits calls bytes rest status taken → Out s n before waits calls (front ++ bytes) (first ++ rest) status (length front + taken)
+Out-behind bs s t n before waits calls front bytes first rest status taken p l o = record {
   front = front ++ o.front;
   bodies = bs ++ o.bodies;
   tail = o.tail;
@@ -180,14 +243,17 @@ Out-behind bs s t n waits calls front bytes first rest status taken p l o = reco
   frames = IsFrames-append bs o.bodies front o.front p o.frames;
   heard = Leads-append bs o.bodies s t o.state first rest l o.heard;
   ends = let counts : n + length bs + length o.bodies ≡ n + length (bs ++ o.bodies) = omega (arith, length-append bs o.bodies) in
-      subst (λ k. EndsAt o.state k o.tail status o.place) counts o.ends;
+      let bytes_counted : before + length front + length o.front ≡ before + length (front ++ o.front) = omega (arith, length-append front o.front) in
+      subst (λ k. EndsAt o.state (n + length (bs ++ o.bodies)) k o.tail status o.place) bytes_counted
+      (subst (λ k. EndsAt o.state k (before + length front + length o.front) o.tail status o.place) counts o.ends);
   count = omega (arith, o.count, length-append front o.front);
+  within = let room = o.within in omega arith;
   none_left = o.none_left;
 }
 
 -- the session ends with the next thing that happens
-pub Out-here : (s : State) (n : ℕ) (waits : List Bool) (bytes : List ℕ) (status : Status) (taken : ℕ) → EndsAt s n bytes status taken → Out s n waits [] bytes [] status taken
-Out-here s n waits bytes status taken end = record {
+pub Out-here : (s : State) (n before : ℕ) (waits : List Bool) (bytes : List ℕ) (status : Status) (taken : ℕ) → before + taken ≤ most_input → EndsAt s n before bytes status taken → Out s n before waits [] bytes [] status taken
+Out-here s n before waits bytes status taken room end = record {
   front = [];
   bodies = [];
   tail = bytes;
@@ -196,41 +262,71 @@ Out-here s n waits bytes status taken end = record {
   whole = refl;
   frames = refl;
   heard = (refl, refl);
-  ends = let none : n ≡ n + 0 = omega arith in subst (λ k. EndsAt s k bytes status taken) none end;
+  ends = let none : n ≡ n + 0 = omega arith in
+      let at : before ≡ before + 0 = omega arith in
+      subst (λ k. EndsAt s (n + 0) k bytes status taken) at (subst (λ k. EndsAt s k before bytes status taken) none end);
   count = omega arith;
+  within = room;
   none_left = refl;
 }
 
+-- all was taken that may be
+pub out_at_limit : (s : State) (n before : ℕ) (waits : List Bool) (bytes : List ℕ) (taken : ℕ) → IsPartial (take taken bytes) → taken ≤ length bytes → before + taken ≡ most_input → SomeOut s n before waits bytes
+out_at_limit s n before waits bytes taken partial le most = record { replies = []; status = InputTooLong; taken = taken; out = Out-here s n before waits bytes InputTooLong taken (omega arith) (partial, le, most) }
+
 -- one frame and what comes behind it
-pub one_more : (b : List ℕ) (s t : State) (n : ℕ) (waits : List Bool) (f bytes : List ℕ) (first : List (List ℕ)) → IsFrame f b → hear s b ≡ Goes t first → SomeOut t (n + 1) waits bytes → SomeOut s n waits (f ++ bytes)
-one_more b s t n waits f bytes first p goes o = record {
+pub one_more : (b : List ℕ) (s t : State) (n before : ℕ) (waits : List Bool) (f bytes : List ℕ) (first : List (List ℕ)) → IsFrame f b → hear s b ≡ Goes t first → SomeOut t (n + 1) (before + length f) waits bytes → SomeOut s n before waits (f ++ bytes)
+one_more b s t n before waits f bytes first p goes o = record {
   replies = first ++ o.replies;
   status = o.status;
   taken = length f + o.taken;
   out = let frames : IsFrames f (b ∷ []) = (f, [], p, refl, sym (append-nil f)) in
       let leads : Leads s (b ∷ []) t first = (t, first, [], goes, (refl, refl), sym (append-nil first)) in
-      Out-behind (b ∷ []) s t n waits [] f bytes first o.replies o.status o.taken frames leads o.out;
+      Out-behind (b ∷ []) s t n before waits [] f bytes first o.replies o.status o.taken frames leads o.out;
 }
 
 -- a frame whose body ends the session, or may not stand there
 pub met_frame : (b : List ℕ) (s : State) (f bytes : List ℕ) (step : Step) → IsFrame f b → hear s b ≡ step → Meets s (f ++ bytes) step (length f)
 met_frame b s f bytes step p e = record { bytes = f; body = b; rest = bytes; whole = refl; is_frame = p; effect = e; place = refl }
 
-walk : (bs : List (List ℕ)) (s : State) (n : ℕ) (waits : List Bool) (front tail : List ℕ) → IsFrames front bs → IsPartial tail ⊎ ((at : ℕ) × IsBadStart tail at) → SomeOut s n waits (front ++ tail)
-walk [] s n waits front tail p (inl partial) =
-    subst (λ z. SomeOut s n waits (z ++ tail)) (sym p) (record { replies = []; status = InputEnded; taken = length tail; out = Out-here s n waits tail InputEnded (length tail) (partial, refl) })
-walk [] s n waits front tail p (inr (at, bad)) =
-    subst (λ z. SomeOut s n waits (z ++ tail)) (sym p) (record { replies = []; status = NotBuilt n; taken = at; out = Out-here s n waits tail (NotBuilt n) at (refl, inl bad) })
-walk (b ∷ bs) s n waits front tail (f, rest, is, frames, cut) t =
+-- a frame that passes what may be taken
+out_past : (b : List ℕ) (s : State) (n before : ℕ) (waits : List Bool) (f bytes : List ℕ) → IsFrame f b → before ≤ most_input → most_input < before + length f → SomeOut s n before waits (f ++ bytes)
+out_past b s n before waits f bytes is room past =
+    let k : ℕ = most_input - before in
+    let less : k < length f = omega arith in
+    let same : take k (f ++ bytes) ≡ take k f = take-append-le k f bytes (omega arith) in
+    out_at_limit s n before waits (f ++ bytes) k (subst IsPartial (sym same) (front_is_partial f b k is less)) (omega (arith, length-append f bytes)) (omega arith)
+
+-- less than a whole frame
+out_of_partial : (s : State) (n before : ℕ) (waits : List Bool) (tail : List ℕ) → before ≤ most_input → IsPartial tail → SomeOut s n before waits tail
+out_of_partial s n before waits tail room partial = elim (cases_lt (before + length tail) most_input) [
+  | inl few ↦ record { replies = []; status = InputEnded; taken = length tail; out = Out-here s n before waits tail InputEnded (length tail) (omega arith) (partial, refl, few) }
+  | inr many ↦ out_at_limit s n before waits tail (most_input - before) (IsPartial-take (most_input - before) tail partial) (omega arith) (omega arith)
+]
+
+-- a bad start
+out_of_bad : (s : State) (n before : ℕ) (waits : List Bool) (tail : List ℕ) (at : ℕ) → before ≤ most_input → IsBadStart tail at → SomeOut s n before waits tail
+out_of_bad s n before waits tail at room bad = elim (cases_lt most_input (before + at)) [
+  | inr within ↦ record { replies = []; status = BadFrame (before + at); taken = at; out = Out-here s n before waits tail (BadFrame (before + at)) at within (bad, refl) }
+  | inl past ↦ let long = bad.within in out_at_limit s n before waits tail (most_input - before) (short_of_bad tail at (most_input - before) bad (omega arith)) (omega arith) (omega arith)
+]
+
+walk : (bs : List (List ℕ)) (s : State) (n before : ℕ) (waits : List Bool) (front tail : List ℕ) → before ≤ most_input → IsFrames front bs → IsPartial tail ⊎ ((at : ℕ) × IsBadStart tail at) → SomeOut s n before waits (front ++ tail)
+walk [] s n before waits front tail room p (inl partial) = subst (λ z. SomeOut s n before waits (z ++ tail)) (sym p) (out_of_partial s n before waits tail room partial)
+walk [] s n before waits front tail room p (inr (at, bad)) = subst (λ z. SomeOut s n before waits (z ++ tail)) (sym p) (out_of_bad s n before waits tail at room bad)
+walk (b ∷ bs) s n before waits front tail room (f, rest, is, frames, cut) t =
     let reads : f ++ (rest ++ tail) ≡ front ++ tail = sym (append_assoc f rest tail) ∙ sym (ap (λ z. z ++ tail) cut) in
-    subst (SomeOut s n waits) reads (elim (effect_of (hear s b)) [
-      | going next first goes ↦ one_more b s next n waits f (rest ++ tail) first is goes (walk bs next (n + 1) waits rest tail frames t)
-      | ending ends ↦ record { replies = []; status = Done; taken = length f; out = Out-here s n waits (f ++ (rest ++ tail)) Done (length f) (met_frame b s f (rest ++ tail) Ends is ends) }
-      | refusing refuses ↦ record { replies = []; status = NotBuilt n; taken = length f; out = Out-here s n waits (f ++ (rest ++ tail)) (NotBuilt n) (length f) (refl, inr (met_frame b s f (rest ++ tail) Refuses is refuses)) }
+    subst (SomeOut s n before waits) reads (elim (cases_lt most_input (before + length f)) [
+      | inl past ↦ out_past b s n before waits f (rest ++ tail) is room past
+      | inr within ↦ elim (effect_of (hear s b)) [
+        | going next first goes ↦ one_more b s next n before waits f (rest ++ tail) first is goes (walk bs next (n + 1) (before + length f) waits rest tail within frames t)
+        | ending ends ↦ record { replies = []; status = Done; taken = length f; out = Out-here s n before waits (f ++ (rest ++ tail)) Done (length f) within (met_frame b s f (rest ++ tail) Ends is ends) }
+        | refusing refuses ↦ record { replies = []; status = NotBuilt n; taken = length f; out = Out-here s n before waits (f ++ (rest ++ tail)) (NotBuilt n) (length f) within (refl, met_frame b s f (rest ++ tail) Refuses is refuses) }
+      ]
     ])
 
 -- each input has an output, wherever the session stands
-pub some_out : (s : State) (n : ℕ) (waits : List Bool) (bytes : List ℕ) → SomeOut s n waits bytes
-some_out s n waits bytes =
+pub some_out : (s : State) (n before : ℕ) (waits : List Bool) (bytes : List ℕ) → before ≤ most_input → SomeOut s n before waits bytes
+some_out s n before waits bytes room =
     let p = parts bytes in
-    subst (SomeOut s n waits) (sym p.whole) (walk p.bodies s n waits p.front p.tail p.frames p.tail_is)
+    subst (SomeOut s n before waits) (sym p.whole) (walk p.bodies s n before waits p.front p.tail room p.frames p.tail_is)

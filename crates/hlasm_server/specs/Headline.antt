@@ -4,14 +4,14 @@ use Rattle.std.specs.Prelude.{◌≡◌, ℕ, Bool, List, ◌++◌, length, drop
 use Rattle.io_edge.specs.Told.{Gives, Gains, HasRisen}
 use Rattle.io_edge.specs.LibraryCall.{LibraryCall}
 use Rattle.hlasm_server.specs.declared.status.Status.{Status}
-use Rattle.hlasm_server.specs.declared.status.Status.TheVariants.{Done, InputEnded, OutOfMemory, ReadFault, WriteFault, BadWords, NotBuilt}
+use Rattle.hlasm_server.specs.declared.status.Status.TheVariants.{Done, InputEnded, OutOfMemory, ReadFault, WriteFault, BadFrame, BadWords, InputTooLong, NotBuilt}
 use Rattle.hlasm_server.specs.Session.{start, written}
 use Rattle.hlasm_server.specs.Output.{Out}
 
 -- the whole output of the input, with this status
 pub record Whole (waits : List Bool) (calls : List LibraryCall) (bytes : List ℕ) (status : Status) (taken : ℕ) (output : List ℕ) : Type 0 where
   pub replies : List (List ℕ)
-  pub out : Out start 0 waits calls bytes replies status taken
+  pub out : Out start 0 0 waits calls bytes replies status taken
   pub all : output ≡ written replies
 
 -- the first bodies of the output, each a whole frame
@@ -20,7 +20,7 @@ pub record FirstFrames (waits : List Bool) (calls : List LibraryCall) (bytes out
   pub others : List (List ℕ)
   pub status : Status
   pub taken : ℕ
-  pub out : Out start 0 waits calls bytes (first ++ others) status taken
+  pub out : Out start 0 0 waits calls bytes (first ++ others) status taken
   pub all : output ≡ written first
 
 -- the first bytes of the output
@@ -29,7 +29,7 @@ pub record FirstBytes (waits : List Bool) (calls : List LibraryCall) (bytes outp
   pub status : Status
   pub taken : ℕ
   pub rest : List ℕ
-  pub out : Out start 0 waits calls bytes replies status taken
+  pub out : Out start 0 0 waits calls bytes replies status taken
   pub all : written replies ≡ output ++ rest
 
 -- What a run with this status has written, `bytes` being the input that was there and `taken` what it took of it.
@@ -44,6 +44,8 @@ IsAnswer ReadFault waits calls bytes taken output = Whole waits calls taken Inpu
 IsAnswer BadWords waits calls bytes taken output = ⊥
 IsAnswer Done waits calls bytes taken output = Whole waits calls bytes Done (length taken) output
 IsAnswer InputEnded waits calls bytes taken output = Whole waits calls bytes InputEnded (length taken) output
+IsAnswer (BadFrame at) waits calls bytes taken output = Whole waits calls bytes (BadFrame at) (length taken) output
+IsAnswer InputTooLong waits calls bytes taken output = Whole waits calls bytes InputTooLong (length taken) output
 IsAnswer (NotBuilt frames) waits calls bytes taken output = Whole waits calls bytes (NotBuilt frames) (length taken) output
 
 -- What a run took of the source and put into the sink, as they tell it, is the plain session's.
@@ -62,11 +64,13 @@ HasStatusCause Done a b c d = Unit {0}
 HasStatusCause InputEnded a b c d = Unit {0}
 HasStatusCause OutOfMemory a b c d = Unit {0}
 HasStatusCause BadWords a b c d = Unit {0}
+HasStatusCause (BadFrame at) a b c d = Unit {0}
+HasStatusCause InputTooLong a b c d = Unit {0}
 HasStatusCause (NotBuilt frames) a b c d = Unit {0}
 
 -- Completeness: for an input that the plain session ends with its exit, where no fault was counted, the run is done, has
 -- written all, and has taken the input up to the end of the exit's frame, unless memory ran out.
 abbrev pub Completes : List Bool → List LibraryCall → (left_before left_now held_before held_now : Option (List ℕ)) → Status → Type 0
 Completes waits calls left_before left_now held_before held_now status =
-    (bytes : List ℕ) (replies : List (List ℕ)) (taken : ℕ) → left_before ≡ Some bytes → Out start 0 waits calls bytes replies Done taken
+    (bytes : List ℕ) (replies : List (List ℕ)) (taken : ℕ) → left_before ≡ Some bytes → Out start 0 0 waits calls bytes replies Done taken
     → (status ≡ OutOfMemory) ⊎ ((status ≡ Done) × (left_now ≡ Some (drop taken bytes)) × Gains held_before (written replies) held_now)

@@ -16,6 +16,9 @@ use io_edge::{Library, Sink, Source};
 use rpc_framing::FrameReader;
 use std::alloc::Global;
 
+/// The most bytes that are taken of an input.
+const MOST_INPUT: u64 = 1 << 40;
+
 /// The status of a run whose output stopped.
 fn stopped(stop: Stop) -> Status
     ensures { result ≡ status_of stop }
@@ -41,10 +44,11 @@ fn serve<S: Source, K: Sink>(alloc: Global, source: &mut S, sink: &mut K) -> Sta
     let mut output = Vec::new(alloc);
     let mut frames = 0;
     loop {
-        let body = match next_body(alloc, source, &mut reader, &mut buffer) {
+        let body = match next_body(alloc, source, &mut reader, &mut buffer, MOST_INPUT) {
             Next::Body(body) => body,
             Next::End => return Status::InputEnded,
-            Next::Broken => return Status::NotBuilt { frames },
+            Next::Broken(at) => return Status::BadFrame { at },
+            Next::TooLong => return Status::InputTooLong,
             Next::ReadFault => return Status::ReadFault,
             Next::OutOfMemory => return Status::OutOfMemory,
         };

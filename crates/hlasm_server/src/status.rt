@@ -17,9 +17,13 @@ pub enum Status {
     ReadFault,
     /// The sink refused a call.
     WriteFault,
+    /// The first so many bytes of the input begin no sequence of frames, and fewer do.
+    BadFrame { at: u64 },
     /// The words are no command.
     BadWords,
-    /// Behind this many frames comes what this version does not read.
+    /// 2^40 bytes were taken, with neither an `exit` nor a byte outside the frames among them.
+    InputTooLong,
+    /// Behind this many frames comes one with a body that this version does not read.
     NotBuilt { frames: u32 },
 }
 
@@ -32,9 +36,11 @@ impl Status {
             Status::Done => 0,
             Status::InputEnded => 2,
             Status::OutOfMemory => 3,
+            Status::BadFrame { .. } => 4,
             Status::ReadFault => 5,
             Status::WriteFault => 6,
             Status::BadWords => 7,
+            Status::InputTooLong => 8,
             Status::NotBuilt { .. } => 9,
         }
     }
@@ -48,7 +54,9 @@ impl fmt::Display for Status {
             Status::OutOfMemory => write!(f, "OutOfMemory"),
             Status::ReadFault => write!(f, "ReadFault"),
             Status::WriteFault => write!(f, "WriteFault"),
+            Status::BadFrame { at } => write!(f, "BadFrame at {at}"),
             Status::BadWords => write!(f, "BadWords"),
+            Status::InputTooLong => write!(f, "InputTooLong"),
             Status::NotBuilt { frames } => write!(f, "NotBuilt after {frames} frames"),
         }
     }

@@ -1,9 +1,11 @@
 //! Whole runs: a session with an empty text, whose bytes were worked out by hand from LSP 3.17.
-ghost use Rattle.std.specs.Prelude.{◌≡◌, ◌<◌, None, All, IfOk};
+ghost use Rattle.std.specs.Prelude.{◌≡◌, ◌<◌, ◌^◌, None, All, IfOk};
 
+use crate::feeding::{LARGEST_PIECE, Next, next_body};
 use crate::{Status, run};
 use hl_base::{Ledger, Steps};
 use io_edge::{Failed, MemoryLibrary, MemorySink, MemorySource, Sink, Source};
+use rpc_framing::FrameReader;
 use std::alloc::{AllocError, Global};
 use std::cell::Cell;
 use std::marker::Brand;
@@ -227,20 +229,17 @@ fn an_input_that_ends_is_answered_so_far(rt: HostRuntime) -> Result<(), Fail> {
     Ok(())
 }
 
-/// What comes behind the first so many frames of the session and is not read. Each of those was answered by one frame.
+/// Bodies that may not stand behind the first so many frames of the session. Each of those was answered by one frame.
 #[test]
 fn what_is_not_built_ends_the_run(rt: HostRuntime) -> Result<(), Fail> {
     let alloc = rt.alloc();
     for (heard, behind) in [
-        (0, "Content-Type: x\r\n\r\n"),
-        (0, "{"),
-        (0, "Content-Length: 16777217\r\n\r\n"),
         (0, "Content-Length: 1\r\n\r\n["),
+        (0, "Content-Type: x\r\ncontent-length:\t0001\r\n\r\n["),
         (
             0,
             "Content-Length: 44\r\n\r\n{\"id\":9,\"jsonrpc\":\"2.0\",\"method\":\"shutdown\"}",
         ),
-        (1, "Content-Length: 33\n"),
         (
             1,
             "Content-Length: 33\r\n\r\n{\"jsonrpc\":\"2.0\",\"method\":\"exit\"}",
@@ -266,6 +265,171 @@ fn what_is_not_built_ends_the_run(rt: HostRuntime) -> Result<(), Fail> {
         assert!(rt; sink.contents() == output.as_slice(), "{behind}");
     }
     Ok(())
+}
+
+/// Bytes that are no frames, or less than one, then one of them so often, and how a run over them ends; with the same
+/// bytes behind the first frame of the session, which has 80 bytes, it ends 80 bytes later.
+const NO_FRAMES: [(&str, u8, usize, Status); 16] = [
+    (
+        "Content-Length: 16777217",
+        b' ',
+        0,
+        Status::BadFrame { at: 24 },
+    ),
+    (
+        "Content-Type: x\r\n\r\n",
+        b' ',
+        0,
+        Status::BadFrame { at: 18 },
+    ),
+    (
+        "Content-Length: 2\r\nContent-Length: 2\r\n\r\n{}",
+        b' ',
+        0,
+        Status::BadFrame { at: 34 },
+    ),
+    (
+        "Content-Length: 00000000002",
+        b' ',
+        0,
+        Status::BadFrame { at: 27 },
+    ),
+    (
+        "Content-Length: 99999999",
+        b'9',
+        9,
+        Status::BadFrame { at: 24 },
+    ),
+    (
+        "Content-Length: 2\r\nX: ",
+        b'a',
+        5_000,
+        Status::BadFrame { at: 4_093 },
+    ),
+    ("X: ", b'a', 5_000, Status::BadFrame { at: 4_075 }),
+    (
+        "Content-Length:1\r\nX",
+        b'a',
+        5_000,
+        Status::BadFrame { at: 4_092 },
+    ),
+    (
+        "Content-Length:",
+        b'\t',
+        5_000,
+        Status::BadFrame { at: 4_092 },
+    ),
+    ("{", b' ', 0, Status::BadFrame { at: 1 }),
+    ("Content-Length: 33\n", b' ', 0, Status::BadFrame { at: 19 }),
+    ("Content-Length: 5\r\n\r\nab", b' ', 0, Status::InputEnded),
+    ("Content-Length: 5\r\n\r\n", b' ', 4, Status::InputEnded),
+    ("Content-Length: 2\r\nX: ", b'a', 4_070, Status::InputEnded),
+    ("X: ", b'a', 4_071, Status::InputEnded),
+    (
+        "cONTENT-lENGTH:\t 0000000005\r\n-:\r\n\r\n",
+        b' ',
+        4,
+        Status::InputEnded,
+    ),
+];
+
+/// The status of a run over the first so many frames of the session and then a row's bytes, in pieces of these sizes.
+/// None where what is written is not the output for those frames.
+fn end_behind(
+    alloc: Global,
+    heard: usize,
+    (bytes, filler, count, _): (&str, u8, usize, Status),
+    sizes: &[usize],
+) -> Result<Option<Status>, Fail> {
+    let mut input = frames(alloc, &INPUT, heard)?;
+    input.extend_from_slice(bytes.as_bytes())?;
+    for _ in 0..count {
+        input.push(filler)?;
+    }
+    let mut source = source_of(alloc, input, sizes, &[])?;
+    let mut sink = sink_of(alloc, 1_000, 1_000, &[])?;
+    let status = serve(alloc, &mut source, &mut sink)?;
+    let output = frames(alloc, &OUTPUT, heard)?;
+    if sink.contents() == output.as_slice() {
+        Ok(Some(status))
+    } else {
+        Ok(None)
+    }
+}
+
+/// A status with its place so many bytes later.
+fn later(status: Status, bytes: u64) -> Status {
+    match status {
+        Status::BadFrame { at } => Status::BadFrame {
+            at: at.saturating_add(bytes),
+        },
+        other => other,
+    }
+}
+
+#[test]
+fn bytes_outside_the_frames_end_the_run_at_their_place(rt: HostRuntime) -> Result<(), Fail> {
+    let alloc = rt.alloc();
+    let cuttings: [&[usize]; 3] = [&[1], &[], &[7, 8_192]];
+    for row in NO_FRAMES {
+        let (bytes, _, _, status) = row;
+        for sizes in cuttings {
+            let first = end_behind(alloc, 0, row, sizes)?;
+            assert!(rt; first == Some(status), "{bytes}");
+            let second = end_behind(alloc, 1, row, sizes)?;
+            assert!(rt; second == Some(later(status, 80)), "{bytes}");
+        }
+    }
+    Ok(())
+}
+
+/// A header that is cut at each of its bytes is an input that ended.
+#[test]
+fn a_header_that_is_cut_is_no_fault(rt: HostRuntime) -> Result<(), Fail> {
+    let alloc = rt.alloc();
+    let header = b"Content-Type: x\r\ncontent-LENGTH:  0002\r\nX-1:\r\n\r\n{";
+    for count in 0..=header.len() {
+        let input = Vec::from_slice(alloc, &header[..count])?;
+        let mut source = source_of(alloc, input, &[], &[])?;
+        let mut sink = sink_of(alloc, 1_000, 1_000, &[])?;
+        let status = serve(alloc, &mut source, &mut sink)?;
+        assert_eq!(rt; status, Status::InputEnded, "{count} bytes");
+    }
+    Ok(())
+}
+
+/// How many bytes may be fed, and what is found first in two frames of 23 and 22 bytes.
+#[test]
+fn no_more_bytes_are_taken_than_may_be(rt: HostRuntime) -> Result<(), Fail> {
+    let alloc = rt.alloc();
+    for (most, bodies) in [(0, 0), (1, 0), (22, 0), (23, 1), (24, 1), (44, 1), (45, 2)] {
+        let input = Vec::from_slice(
+            alloc,
+            b"Content-Length: 2\r\n\r\n{}Content-Length: 1\r\n\r\n[".as_slice(),
+        )?;
+        let mut source = source_of(alloc, input, &[], &[])?;
+        let (found, fed) = bodies_within(alloc, &mut source, most)?;
+        assert_eq!(rt; found, bodies, "{most} bytes");
+        assert_eq!(rt; fed, most, "{most} bytes");
+        assert_eq!(rt; source.rest().len() as u64, 45 - most, "{most} bytes");
+    }
+    Ok(())
+}
+
+/// How many bodies are found until no byte more may be fed, and how many bytes were.
+fn bodies_within(alloc: Global, source: &mut MemorySource, most: u64) -> Result<(u64, u64), Fail>
+    requires { most < 2 ^ 62 }
+{
+    let mut buffer = [0; LARGEST_PIECE];
+    let mut reader = FrameReader::new(alloc);
+    for bodies in 0..3 {
+        match next_body(alloc, source, &mut reader, &mut buffer, most) {
+            Next::Body(_) => {}
+            Next::TooLong => return Ok((bodies, reader.fed())),
+            _ => return Err(Fail::from("another end")),
+        }
+    }
+    Err(Fail::from("more bodies than there are"))
 }
 
 #[test]
@@ -366,7 +530,9 @@ fn a_status_has_its_name(rt: HostRuntime) -> Result<(), Fail> {
         (Status::OutOfMemory, "OutOfMemory"),
         (Status::ReadFault, "ReadFault"),
         (Status::WriteFault, "WriteFault"),
+        (Status::BadFrame { at: 104 }, "BadFrame at 104"),
         (Status::BadWords, "BadWords"),
+        (Status::InputTooLong, "InputTooLong"),
         (Status::NotBuilt { frames: 2 }, "NotBuilt after 2 frames"),
     ] {
         let printed = format!(in rt.alloc(); "{status}")?;

@@ -2,10 +2,11 @@
 use Rattle.std.proofs.Common.{◌≡◌, ◌∙◌, ℕ, ◌+◌, ◌-◌, ◌<◌, true, false, cond, List, [], ◌∷◌, ◌++◌, length, refl, sym, ap, subst, inl, inr, arith, append-nil, length-append}
 use Rattle.std.specs.List.{AllByRecursion, onto_first}
 use Rattle.std.proofs.lemmas.Bool.{cases_Bool}
+use Rattle.std.proofs.lemmas.List.{length-map}
 use Rattle.hl_base.specs.Texts.{lines}
-use Rattle.hlasm_statements.specs.Columns.{is_marked, groups}
+use Rattle.hlasm_statements.specs.Columns.{is_marked, groups, body_of}
 use Rattle.hlasm_statements.specs.Faults.{ends_marked}
-use Rattle.hlasm_statements.specs.Statements.{statement_of, statements_from, statements_of, lines_read}
+use Rattle.hlasm_statements.specs.Statements.{statement_of, statement_in, statements_from, statements_of}
 use Rattle.hlasm_statements.specs.Laws.{FollowOn, GoesOnInside, EndBetween, last_group, lines_in}
 
 pub groups-yes : (line : List ℕ) (rest : List (List ℕ)) → is_marked line ≡ true → groups (line ∷ rest) ≡ onto_first line (groups rest)
@@ -104,9 +105,9 @@ groups-only all cut same inside between = sym (groups-lines_in cut inside betwee
 
 -- ---- the numbers of statements
 
-numbered : (read number : ℕ) (group : List (List ℕ)) → let made = statement_of read number group in (made.first ≡ number) × (made.last ≡ number + length group - 1)
-unfolding statement_of
-numbered read number group = (refl, refl)
+numbered : (number : ℕ) (group : List (List ℕ)) → let made = statement_of number group in (made.first ≡ number) × (made.last ≡ number + length group - 1)
+unfolding statement_of statement_in
+numbered number group = (refl, ap (λ n. number + n - 1) (length-map group body_of))
 
 some-inside : (group : List (List ℕ)) → GoesOnInside group → 0 < length group
 some-inside [] inside = absurd inside
@@ -115,9 +116,9 @@ some-inside (line ∷ group) inside = omega arith
 FollowOn-from : (number : ℕ) (cut : List (List (List ℕ))) → AllByRecursion GoesOnInside cut → FollowOn number (statements_from number cut) (number + length (lines_in cut))
 FollowOn-from number [] inside = omega arith
 FollowOn-from number (group ∷ cut) inside =
-    let at = numbered lines_read number group in
+    let at = numbered number group in
     let some = some-inside group inside.0 in
-    let next : (statement_of lines_read number group).last + 1 ≡ number + length group = omega (arith, at.1) in
+    let next : (statement_of number group).last + 1 ≡ number + length group = omega (arith, at.1) in
     let P : ℕ → Type 0 = λ n. FollowOn n (statements_from (number + length group) cut) (number + length (lines_in (group ∷ cut))) in
     let Q : ℕ → Type 0 = λ end. FollowOn (number + length group) (statements_from (number + length group) cut) end in (
       at.0,

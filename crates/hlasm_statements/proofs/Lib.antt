@@ -1,7 +1,9 @@
 pub mod CharLaws
 pub mod ListLaws
-pub mod FieldLaws
+pub mod ResultLaws
+pub mod PlacesLaws
+pub mod ReadingLaws
 pub mod SourceLaws
-pub mod GroupLaws
+pub mod BuildLaws
 pub mod StatementLaws
 pub mod GroupsLaws

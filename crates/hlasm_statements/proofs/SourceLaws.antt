@@ -1,78 +1,30 @@
--- The source of a statement as a text, and how it grows with its lines.
-use Rattle.std.proofs.Common.{◌≡◌, ◌∙◌, ℕ, ◌+◌, ◌<◌, ◌≤◌, Bool, true, false, cond, not, List, [], ◌∷◌, ◌++◌, length, take, drop, zero, suc, refl, sym, ap, inl, inr, arith, append-nil, append_assoc, length-append, take_all}
-use Rattle.std.specs.Prelude.{take_while, flat_map, ◌==◌, ◌&&◌, ◌||◌}
-use Rattle.std.specs.List.{list_all, list_any, prefix_len}
-use Rattle.std.proofs.lemmas.List.{take-append-le}
+-- The fields of a source as texts, and how a source grows with its lines.
+use Rattle.std.proofs.Common.{◌≡◌, ◌∙◌, ℕ, ◌+◌, Bool, true, false, cond, not, List, [], ◌∷◌, ◌++◌, length, take, drop, zero, suc, refl, sym, ap, inl, inr, arith, append_assoc}
+use Rattle.std.specs.Prelude.{take_while, ◌==◌, ◌&&◌}
+use Rattle.std.specs.List.{list_all, prefix_len}
 use Rattle.std.proofs.lemmas.Bool.{cases_Bool, ne_eqb}
-use Rattle.hlasm_statements.specs.Columns.{Placed, placed, continued, source_of, text_of, text_from, is_blank, is_ink}
+use Rattle.hlasm_statements.specs.Columns.{Placed, placed, continued, text_of, is_blank, is_ink}
 use Rattle.hlasm_statements.specs.Shape.{skip_while, label_of, operation_of}
-use Rattle.hlasm_statements.specs.Faults.{has_margin_text}
-use Rattle.hlasm_statements.specs.Statements.{lines_read}
-use Rattle.hlasm_statements.specs.Reading.{operation_text, margin_of}
 use Rattle.hlasm_statements.proofs.ListLaws.{take_while-pass, take_while-stop, skip_while-pass, skip_while-stop}
 
-text_of-append : (xs ys : List Placed) → text_of (xs ++ ys) ≡ text_of xs ++ text_of ys
-text_of-append [] ys = refl
-text_of-append (x ∷ xs) ys = ap (λ cs. x.char ∷ cs) (text_of-append xs ys)
+-- the operation in a text
+abbrev pub operation_text : List ℕ → List ℕ
+operation_text text = take_while is_ink (skip_while is_blank (skip_while is_ink text))
 
-text_of-placed : (line column : ℕ) (cs : List ℕ) → text_of (placed line column cs) ≡ cs
-text_of-placed line column [] = refl
-text_of-placed line column (c ∷ cs) = ap (λ xs. c ∷ xs) (text_of-placed line (column + 1) cs)
+-- characters side by side, and one more
+pub placed-append : (line column : ℕ) (xs ys : List ℕ) → placed line column (xs ++ ys) ≡ placed line column xs ++ placed line (column + length xs) ys
+placed-append line column [] ys = ap (λ k. placed line k ys) (let e : column ≡ column + 0 = omega arith in e)
+placed-append line column (x ∷ xs) ys =
+    let e : (column + 1) + length xs ≡ column + length (x ∷ xs) = omega arith in
+    ap (λ back. record { char = x; line = line; column = column } ∷ back) (placed-append line (column + 1) xs ys ∙ ap (λ k. placed line (column + 1) xs ++ placed line k ys) e)
 
-text_of-continued : (number : ℕ) (lines : List (List ℕ)) → text_of (continued number lines) ≡ flat_map (text_from 16) lines
-text_of-continued number [] = refl
-text_of-continued number (line ∷ lines) =
-    text_of-append (placed number 16 (text_from 16 line)) (continued (number + 1) lines)
-    ∙ ap (λ front. front ++ text_of (continued (number + 1) lines)) (text_of-placed number 16 (text_from 16 line))
-    ∙ ap (λ back. text_from 16 line ++ back) (text_of-continued (number + 1) lines)
-
--- the source as a text: columns 1 to 71 of the first line, and 16 to 71 of those that are read
-pub text_of-source : (read number : ℕ) (line : List ℕ) (rest : List (List ℕ)) → text_of (source_of read number (line ∷ rest)) ≡ text_from 1 line ++ flat_map (text_from 16) (take read rest)
-text_of-source read number line rest =
-    text_of-append (placed number 1 (text_from 1 line)) (continued (number + 1) (take read rest))
-    ∙ ap (λ front. front ++ text_of (continued (number + 1) (take read rest))) (text_of-placed number 1 (text_from 1 line))
-    ∙ ap (λ back. text_from 1 line ++ back) (text_of-continued (number + 1) (take read rest))
-
-take-more : {X : Type 0} (n : ℕ) (xs : List X) (y : X) → length xs < n → take n (xs ++ y ∷ []) ≡ take n xs ++ y ∷ []
-take-more n xs y h =
-    take_all n (xs ++ y ∷ []) (omega (arith, length-append xs (y ∷ [])))
-    ∙ ap (λ front. front ++ y ∷ []) (sym (take_all n xs (omega arith)))
-
-flat_map-push : (f : List ℕ → List ℕ) (xs : List (List ℕ)) (y : List ℕ) → flat_map f (xs ++ y ∷ []) ≡ flat_map f xs ++ f y
-flat_map-push f [] y = append-nil (f y)
-flat_map-push f (x ∷ xs) y = ap (λ back. f x ++ back) (flat_map-push f xs y) ∙ sym (append_assoc (f x) (flat_map f xs) (f y))
-
-list_any-push : (p : List ℕ → Bool) (xs : List (List ℕ)) (y : List ℕ) → list_any p (xs ++ y ∷ []) ≡ (list_any p xs || p y)
-list_any-push p [] y = elim (p y) as (λ b. (b || false) ≡ b) [ true ↦ refl | false ↦ refl ]
-list_any-push p (x ∷ xs) y = elim (p x) as (λ b. (b || list_any p (xs ++ y ∷ [])) ≡ ((b || list_any p xs) || p y)) [ true ↦ refl | false ↦ list_any-push p xs y ]
-
--- a line that is read adds its columns 16 to 71
-pub source-more : (number : ℕ) (first line : List ℕ) (rest : List (List ℕ)) → length rest < lines_read → text_of (source_of lines_read number (first ∷ (rest ++ line ∷ []))) ≡ text_of (source_of lines_read number (first ∷ rest)) ++ text_from 16 line
-source-more number first line rest h =
-    text_of-source lines_read number first (rest ++ line ∷ [])
-    ∙ ap (λ lines. text_from 1 first ++ flat_map (text_from 16) lines) (take-more lines_read rest line h)
-    ∙ ap (λ back. text_from 1 first ++ back) (flat_map-push (text_from 16) (take lines_read rest) line)
-    ∙ sym (append_assoc (text_from 1 first) (flat_map (text_from 16) (take lines_read rest)) (text_from 16 line))
-    ∙ ap (λ front. front ++ text_from 16 line) (sym (text_of-source lines_read number first rest))
-
--- and any further line nothing
-pub source-full : (number : ℕ) (first line : List ℕ) (rest : List (List ℕ)) → lines_read ≤ length rest → text_of (source_of lines_read number (first ∷ (rest ++ line ∷ []))) ≡ text_of (source_of lines_read number (first ∷ rest))
-source-full number first line rest h =
-    text_of-source lines_read number first (rest ++ line ∷ [])
-    ∙ ap (λ lines. text_from 1 first ++ flat_map (text_from 16) lines) (take-append-le lines_read rest (line ∷ []) h)
-    ∙ sym (text_of-source lines_read number first rest)
-
-pub source-first : (number : ℕ) (line : List ℕ) → text_of (source_of lines_read number (line ∷ [])) ≡ take 71 line
-source-first number line = text_of-source lines_read number line [] ∙ append-nil (take 71 line)
-
-pub margin-more : (first line : List ℕ) (rest : List (List ℕ)) → length rest < lines_read → margin_of (first ∷ (rest ++ line ∷ [])) ≡ (margin_of (first ∷ rest) || has_margin_text line)
-margin-more first line rest h =
-    ap (list_any has_margin_text) (take-more lines_read rest line h) ∙ list_any-push has_margin_text (take lines_read rest) line
-
-pub margin-full : (first line : List ℕ) (rest : List (List ℕ)) → lines_read ≤ length rest → margin_of (first ∷ (rest ++ line ∷ [])) ≡ margin_of (first ∷ rest)
-margin-full first line rest h = ap (list_any has_margin_text) (take-append-le lines_read rest (line ∷ []) h)
-
--- ---- fields of a source as a text
+-- continuation lines, and further ones
+pub continued-append : (number : ℕ) (xs ys : List (List ℕ)) → continued number (xs ++ ys) ≡ continued number xs ++ continued (number + length xs) ys
+continued-append number [] ys = ap (λ n. continued n ys) (let e : number ≡ number + 0 = omega arith in e)
+continued-append number (x ∷ xs) ys =
+    let e : (number + 1) + length xs ≡ number + length (x ∷ xs) = omega arith in
+    ap (λ back. placed number 16 (drop 15 x) ++ back) (continued-append (number + 1) xs ys ∙ ap (λ n. continued (number + 1) xs ++ continued n ys) e)
+    ∙ sym (append_assoc (placed number 16 (drop 15 x)) (continued (number + 1) xs) (continued (number + length (x ∷ xs)) ys))
 
 text_of-prefix : (p : ℕ → Bool) (xs : List Placed) → prefix_len (λ x. p x.char) xs ≡ prefix_len p (text_of xs)
 text_of-prefix p [] = refl

@@ -1,7 +1,7 @@
 -- The columns of lines, the statements that lines make up, and what a statement reads of them.
 -- HLASM Language Reference SC26-4940, "Assembler language coding conventions": columns count characters from 1,
 -- text stands in columns 1 to 71, a mark in column 72 continues, and a continuation's text begins in column 16.
-use Rattle.std.specs.Prelude.{ℕ, ◌+◌, ◌-◌, Bool, not, ◌||◌, ◌==◌, List, [], ◌∷◌, ◌++◌, take, drop, map, if◌then◌else◌, slice_index_or}
+use Rattle.std.specs.Prelude.{ℕ, ◌+◌, Bool, not, ◌||◌, ◌==◌, List, [], ◌∷◌, ◌++◌, take, drop, map, if◌then◌else◌, slice_index_or}
 use Rattle.std.specs.List.{onto_first}
 
 -- a blank or a tab
@@ -21,9 +21,9 @@ abbrev pub groups : List (List ℕ) → List (List (List ℕ))
 groups [] = []
 groups (line ∷ rest) = if is_marked line then onto_first line (groups rest) else ((line ∷ []) ∷ groups rest)
 
--- the columns of a line from one on to column 71
-abbrev pub text_from : ℕ → List ℕ → List ℕ
-text_from column line = drop (column - 1) (take 71 line)
+-- columns 1 to 71 of a line
+abbrev pub body_of : List ℕ → List ℕ
+body_of line = take 71 line
 
 -- a character with the line, from 0, and the column, from 1, in which it stands
 pub record Placed : Type 0 where
@@ -39,14 +39,18 @@ placed line column (c ∷ rest) = record { char = c; line = line; column = colum
 -- what continuation lines add: columns 16 to 71 of each
 abbrev pub continued : ℕ → List (List ℕ) → List Placed
 continued number [] = []
-continued number (line ∷ rest) = placed number 16 (text_from 16 line) ++ continued (number + 1) rest
+continued number (body ∷ rest) = placed number 16 (drop 15 body) ++ continued (number + 1) rest
 
--- the source of a statement of these lines, of which the first has this number: columns 1 to 71 of the first line and
--- columns 16 to 71 of as many of the next lines as are read
+-- the source of a statement whose lines have these columns 1 to 71, the first of them with this number: all of the first,
+-- and columns 16 to 71 of as many of the next as are read
 abbrev pub source_of : (read number : ℕ) → List (List ℕ) → List Placed
 source_of read number [] = []
-source_of read number (line ∷ rest) = placed number 1 (text_from 1 line) ++ continued (number + 1) (take read rest)
+source_of read number (body ∷ rest) = placed number 1 body ++ continued (number + 1) (take read rest)
 
 -- the characters without their places
 abbrev pub text_of : List Placed → List ℕ
 text_of source = map (λ p. p.char) source
+
+-- the places without the characters: line and column
+abbrev pub places_of : List Placed → List (ℕ × ℕ)
+places_of source = map (λ p. (p.line, p.column)) source

@@ -1,6 +1,9 @@
 pub mod Columns
 pub mod Shape
+pub mod Fields
 pub mod Faults
+pub mod Places
 pub mod Statements
 pub mod Reading
 pub mod Laws
+pub mod Building

@@ -5,6 +5,7 @@ ghost use Rattle.std.specs.Str.{chars};
 ghost use Rattle.hlasm_statements.specs.Columns as columns;
 
 /// Whether a character is a blank or a tab.
+#[inline(always)]
 pub fn is_blank(c: char) -> bool
     ensures { result ≡ columns.is_blank c }
 {

@@ -1,24 +1,28 @@
 //! The statements of an assembler source text: which lines belong together, what kind of statement they are, their
-//! name entry and operation, and the faults of their columns.
+//! fields with the place of each character, and the faults of their columns.
 //!
-//! It knows nothing of operations, operands, symbols or files: it reads lines and columns alone. Its one contract:
-//! `read_statements` gives the statements of the text, or there was no memory for them. Every line of a text belongs
-//! to exactly one statement (module `laws`). It follows the HLASM Language Reference SC26-4940, "Assembler language
-//! coding conventions", with at most nine continuation lines read of each statement. Lines count from 0 and columns
-//! from 1, in characters.
+//! It knows nothing of symbols, macros or files, and of an operation only what decides the format of its statement. Its
+//! one contract: `read_statements` gives the statements of the text, or there was no memory for them. Every line of a
+//! text belongs to exactly one statement (module `laws`). It follows the HLASM Language Reference SC26-4940, "Assembler
+//! language coding conventions". Lines count from 0 and columns from 1, in characters.
 #![tactic(auto)]
 
+mod build;
 mod column;
 mod fault;
-mod field;
-mod group;
 pub mod laws;
+mod places;
+mod quotes;
+mod reader;
+mod run;
 mod shape;
 mod statement;
 
 pub use column::split_columns;
 pub use fault::{ColumnFault, Faults};
-pub use statement::{Shape, Statement, Statements, read_statements};
+pub use places::Places;
+pub use quotes::ends_quoted;
+pub use statement::{Field, Shape, Statement, Statements, read_statements};
 
 #[cfg(test)]
 mod tests;

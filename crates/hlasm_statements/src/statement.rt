@@ -3,13 +3,12 @@ ghost use Rattle.std.specs.Prelude.{◌≡◌, List, [], ◌∷◌, ◌++◌, If
 ghost use Rattle.std.specs.Str.{chars};
 ghost use Rattle.hlasm_statements.specs.Statements.{statements_of};
 
-use crate::Faults;
+use crate::build::{count_on, statement_of_lines};
 use crate::column::{begins_marked, split_columns};
-use crate::group::Group;
+use crate::{Faults, Places};
 use hl_base::{OutOfMemory, Text, lines};
 use std::alloc::Global;
 use std::marker::Model;
-use std::mem;
 
 /// How many columns of a line have text; the next one has the mark.
 const TEXT_COLUMNS: usize = 71;
@@ -26,8 +25,16 @@ pub enum Shape {
     Blank,
 }
 
-/// A statement of a text. Its lines count from 0; its name entry and its operation are empty where it has none, and
-/// in comments and blank statements.
+/// A field of a statement.
+#[derive(Clone, Copy, Debug, PartialEq, Eq)]
+pub enum Field {
+    Label,
+    Op,
+    Operands,
+}
+
+/// A statement of a text. Its lines count from 0; a field is empty where the statement has none, and in comments and
+/// blank statements.
 #[derive(Drop)]
 pub struct Statement {
     pub first: u32,
@@ -35,7 +42,28 @@ pub struct Statement {
     pub shape: Shape,
     pub label: Text,
     pub op: Text,
+    pub operands: Text,
     pub faults: Faults,
+    pub label_places: Places,
+    pub op_places: Places,
+    pub operand_places: Places,
+}
+
+impl Statement {
+    ghost use Rattle.std.specs.Prelude.{slice_index_or, length, ◌<◌};
+    ghost use Rattle.hlasm_statements.specs.Statements.{places};
+
+    /// Where a character of a field stands: its line, from 0, and its column, from 1. The index counts the characters of
+    /// the field from 0; past its last one the answer is of no use.
+    pub fn place(&self, field: Field, index: u32) -> (u32, u32)
+        ensures { index < length (places self.now field) → result ≡ slice_index_or (places self.now field) index result }
+    {
+        match field {
+            Field::Label => self.label_places.at(index),
+            Field::Op => self.op_places.at(index),
+            Field::Operands => self.operand_places.at(index),
+        }
+    }
 }
 
 /// Statements in order. Contracts see the list.
@@ -85,18 +113,20 @@ pub fn read_statements(alloc: Global, text: &str) -> Result<Statements, OutOfMem
     ensures { IfOk result (λ s. s ≡ statements_of (chars text.now)) }
 {
     let mut statements = Statements::new(alloc);
-    let mut group = Group::new(alloc, 0);
+    let mut number = 0;
+    let mut bodies = Vec::new(alloc);
     for line in lines(text) {
         let (body, behind) = split_columns(line, TEXT_COLUMNS);
-        group.push(body)?;
+        bodies.push(body)?;
         if !begins_marked(behind) {
-            let next = Group::new(alloc, group.next);
-            statements.push(mem::replace(&mut group, next).statement(alloc, false)?)?;
+            statements.push(statement_of_lines(alloc, number, bodies.as_slice(), false)?)?;
+            number = count_on(number, bodies.len())?;
+            bodies.clear();
         }
     }
-    if group.is_empty() {
+    if bodies.is_empty() {
         return Ok(statements);
     }
-    statements.push(group.statement(alloc, true)?)?;
+    statements.push(statement_of_lines(alloc, number, bodies.as_slice(), true)?)?;
     Ok(statements)
 }

@@ -1,4 +1,4 @@
-use crate::read_statements;
+use crate::{Field, ends_quoted, read_statements};
 use std::alloc::{AllocError, Global};
 use std::test::Fail;
 
@@ -133,6 +133,305 @@ fn statements_are_those_worked_out_by_hand(rt: HostRuntime) -> Result<(), Fail> 
         let text = text_of(rt.alloc(), short)?;
         let seen = read(rt.alloc(), text.as_str())?;
         assert_eq!(rt; seen.as_str(), want, "at {short:?}");
+    }
+    Ok(())
+}
+
+/// The fields of each statement, whether its operands end within quotes, and its codes.
+fn fields(alloc: Global, text: &str) -> Result<String, AllocError> {
+    let mut seen = String::new(alloc);
+    let Ok(statements) = read_statements(alloc, text) else {
+        return Err(AllocError);
+    };
+    for s in statements.as_slice() {
+        let (label, op, operands) = (s.label.as_str(), s.op.as_str(), s.operands.as_str());
+        let line = format!(in alloc; "[{label}] [{op}] [{operands}]")?;
+        seen.push_str(line.as_str())?;
+        if let Ok(true) = ends_quoted(operands) {
+            seen.push_str(" open")?;
+        }
+        for fault in s.faults.as_slice() {
+            let code = format!(in alloc; " H{:03}", fault.code())?;
+            seen.push_str(code.as_str())?;
+        }
+        seen.push_str(";")?;
+    }
+    Ok(seen)
+}
+
+/// The fields of statements, worked out by hand and by a program that knows nothing of this one.
+const FIELDS: [(&str, &str); 112] = [
+    ("A EQU D'B X", "[A] [EQU] [D'B];"),
+    ("A EQU I'B X", "[A] [EQU] [I'B];"),
+    ("A EQU K'B X", "[A] [EQU] [K'B];"),
+    ("A EQU L'B X", "[A] [EQU] [L'B];"),
+    ("A EQU N'B X", "[A] [EQU] [N'B];"),
+    ("A EQU O'B X", "[A] [EQU] [O'B];"),
+    ("A EQU S'B X", "[A] [EQU] [S'B];"),
+    ("A EQU T'B X", "[A] [EQU] [T'B];"),
+    (" equ d'$b x", "[] [equ] [d'$b];"),
+    (" equ i'$b x", "[] [equ] [i'$b];"),
+    (" equ k'$b x", "[] [equ] [k'$b];"),
+    (" equ l'$b x", "[] [equ] [l'$b];"),
+    (" EQU N'_A X", "[] [EQU] [N'_A];"),
+    (" EQU O'#A X", "[] [EQU] [O'#A];"),
+    (" EQU S'@A X", "[] [EQU] [S'@A];"),
+    (" EQU K'&A X", "[] [EQU] [K'&A];"),
+    (" L 1,L'=F X", "[] [L] [1,L'=F];"),
+    (" EQU A-L'B,L'C X", "[] [EQU] [A-L'B,L'C];"),
+    (" DC C'A B' X", "[] [DC] [C'A B'];"),
+    (" DC X'A B' X", "[] [DC] [X'A B'];"),
+    (" DC CL2'A B' X", "[] [DC] [CL2'A B'];"),
+    (" DC CL'A B' X", "[] [DC] [CL'A B'];"),
+    (" DC CL&L'A B' X", "[] [DC] [CL&L'A B'];"),
+    (" DC 1L'A B' X", "[] [DC] [1L'A B'];"),
+    (" DC L'1 2' X", "[] [DC] [L'1 2'];"),
+    (" DC L'* 2' X", "[] [DC] [L'* 2'];"),
+    (" DC L'' X", "[] [DC] [L''];"),
+    (" DC C'IT''S A' X", "[] [DC] [C'IT''S A'];"),
+    (" DC C'''' X", "[] [DC] [C''''];"),
+    (" MVC A,=C' , ' X", "[] [MVC] [A,=C' , '];"),
+    (" DC C'(' X)", "[] [DC] [C'('];"),
+    (" DC C'A' 'B' X", "[] [DC] [C'A'];"),
+    (" MNOTE 'it''s L'&A' X", "[] [MNOTE] ['it''s L'&A' X] open;"),
+    (" DC C'A B", "[] [DC] [C'A B] open;"),
+    (" DC L'", "[] [DC] [L'] open;"),
+    (" DC L'  A", "[] [DC] [L'  A] open;"),
+    (" DC C'A''  B", "[] [DC] [C'A''  B] open;"),
+    (" AIF (A EQ 1).X Y", "[] [AIF] [(A EQ 1).X];"),
+    (" aif (A EQ 1).X Y", "[] [aif] [(A EQ 1).X];"),
+    (" AGO (1 + 1).A,.B C", "[] [AGO] [(1 + 1).A,.B];"),
+    ("&A SETA (1 + 2)*3 X", "[&A] [SETA] [(1 + 2)*3];"),
+    ("&A SETA 1 + 2", "[&A] [SETA] [1];"),
+    ("&A(1) SETB (1 AND 0) X", "[&A(1)] [SETB] [(1 AND 0)];"),
+    ("&A SETC 'A B'.(C D) X", "[&A] [SETC] ['A B'.(C D)];"),
+    (" AIF ((A) B) C", "[] [AIF] [((A) B)];"),
+    (" AIF )( A) B", "[] [AIF] [)( A)];"),
+    (" AIF (A B", "[] [AIF] [(A B];"),
+    (" AIF ('(' B) C", "[] [AIF] [('(' B)];"),
+    (" LCLA (A B)", "[] [LCLA] [(A];"),
+    (" LA 1,2(3 ,4)", "[] [LA] [1,2(3];"),
+    (" ACTR (A B)", "[] [ACTR] [(A];"),
+    ("", "[] [] [];"),
+    ("A", "[A] [] [];"),
+    ("A CSECT", "[A] [CSECT] [];"),
+    ("A CSECT   ", "[A] [CSECT] [];"),
+    (".X ANOP , X", "[.X] [ANOP] [,];"),
+    ("$A#@_9 DS 0F", "[$A#@_9] [DS] [0F];"),
+    ("A-B LR 1,2", "[A-B] [LR] [1,2];"),
+    ("&A&B LR 1,2", "[&A&B] [LR] [1,2];"),
+    ("A\tLR\t1,2\tX", "[A] [LR] [1,2];"),
+    (" DC C'A\tB'\tX", "[] [DC] [C'A\tB'];"),
+    (" LR 1, 2", "[] [LR] [1,];"),
+    (" LR , 2", "[] [LR] [,];"),
+    ("𝄞 é e\u{301},ß x", "[𝄞] [é] [e\u{301},ß];"),
+    ("* A B", "[] [] [];"),
+    (".* A B", "[] [] [];"),
+    (" LR 1,|X\n               2 X", "[] [LR] [1,];"),
+    (" LR|X\n               1,2 X", "[] [LR] [1,2];"),
+    (
+        " LR 1111111111111111111111111111111111111111111111111111111111111111111X\n               2 X",
+        "[] [LR] [11111111111111111111111111111111111111111111111111111111111111111112];",
+    ),
+    (
+        " LR 111111111111111111111111111111111111111111111111111111111111111111,X\n               2 X",
+        "[] [LR] [111111111111111111111111111111111111111111111111111111111111111111,2];",
+    ),
+    (
+        " LR 111111111111111111111111111111111111111111111111111111111111111111,X\n                2 X",
+        "[] [LR] [111111111111111111111111111111111111111111111111111111111111111111,];",
+    ),
+    (
+        " DC C'AAAAAAAAAAAAAAAAAAAAAAAAAAAAAAAAAAAAAAAAAAAAAAAAAAAAAAAAAAAAAAAAAX\n               B' X",
+        "[] [DC] [C'AAAAAAAAAAAAAAAAAAAAAAAAAAAAAAAAAAAAAAAAAAAAAAAAAAAAAAAAAAAAAAAAAB'];",
+    ),
+    (
+        " DC C'A                                                                X\n                B' X",
+        "[] [DC] [C'A                                                                 B'];",
+    ),
+    (
+        " DC AAAAAAAAAAAAAAAAAAAAAAAAAAAAAAAAAAAAAAAAAAAAAAAAAAAAAAAAAAAAAAAAAALX\n               'B' X",
+        "[] [DC] [AAAAAAAAAAAAAAAAAAAAAAAAAAAAAAAAAAAAAAAAAAAAAAAAAAAAAAAAAAAAAAAAAAL'B'];",
+    ),
+    (
+        " DC ++++++++++++++++++++++++++++++++++++++++++++++++++++++++++++++++++LX\n               'B X",
+        "[] [DC] [++++++++++++++++++++++++++++++++++++++++++++++++++++++++++++++++++L'B];",
+    ),
+    (
+        " DC +++++++++++++++++++++++++++++++++++++++++++++++++++++++++++++++++L'X\n               B X",
+        "[] [DC] [+++++++++++++++++++++++++++++++++++++++++++++++++++++++++++++++++L'B];",
+    ),
+    (
+        " LRRRRRRRRRRRRRRRRRRRRRRRRRRRRRRRRRRRRRRRRRRRRRRRRRRRRRRRRRRRRRRRRRRRRRX\n               S 1 X",
+        "[] [LRRRRRRRRRRRRRRRRRRRRRRRRRRRRRRRRRRRRRRRRRRRRRRRRRRRRRRRRRRRRRRRRRRRRRS] [1];",
+    ),
+    (" COPY A, x|X\n               B x", "[] [COPY] [A,];"),
+    (" MNOTE A, x|X\n               B x", "[] [MNOTE] [A,];"),
+    (" TITLE A, x|X\n               B x", "[] [TITLE] [A,];"),
+    (" EQU A, x|X\n               B x", "[] [EQU] [A,];"),
+    (" END A, x|X\n               B x", "[] [END] [A,];"),
+    (" &OP A, x|X\n               B x", "[] [&OP] [A,];"),
+    (" A&B A, x|X\n               B x", "[] [A&B] [A,];"),
+    (" CALL A, x|X\n               B x", "[] [CALL] [A,B];"),
+    (" GBLA A, x|X\n               B x", "[] [GBLA] [A,B];"),
+    (" AIF A, x|X\n               B x", "[] [AIF] [A,B];"),
+    (" PUNCH A, x|X\n               B x", "[] [PUNCH] [A,B];"),
+    (" MACRO A, x|X\n               B x", "[] [MACRO] [A,B];"),
+    (" A-B A, x|X\n               B x", "[] [A-B] [A,B];"),
+    (" call A, x|X\n               B x", "[] [call] [A,B];"),
+    (" é A, x|X\n               B x", "[] [é] [A,B];"),
+    (
+        " CALL A,|X\n               B,|X\n               C x",
+        "[] [CALL] [A,B,C];",
+    ),
+    (" CALL A x|X\n               B x", "[] [CALL] [A];"),
+    (" CALL A,x, y|X\n               B x", "[] [CALL] [A,x,B];"),
+    (
+        " CALL A, x|X\n|X\n                y|X\n               B x",
+        "[] [CALL] [A,B];",
+    ),
+    (" CALL A, x|X\n", "[] [CALL] [A,];"),
+    (
+        " CALL|X\n                 A, x|X\n               B x",
+        "[] [CALL] [A,B];",
+    ),
+    (
+        " CALL 'A, x|X\n               B' x",
+        "[] [CALL] ['A, x                                                            B'];",
+    ),
+    (
+        " CALL 'A', x|X\n               B' x",
+        "[] [CALL] ['A',B' x] open;",
+    ),
+    (" CALL (A, x|X\n               B) x", "[] [CALL] [(A,B)];"),
+    (
+        " AIF (A, x|X\n               B) x",
+        "[] [AIF] [(A, x                                                             B)];",
+    ),
+    (
+        " AIF (A EQ 1).X, x|X\n               (B EQ 2).Y y",
+        "[] [AIF] [(A EQ 1).X,(B EQ 2).Y];",
+    ),
+    (
+        " CALL AAAAAAAAAAAAAAAAAAAAAAAAAAAAAAAAAAAAAAAAAAAAAAAAAAAAAAAAAAAAAAAA,X\n               B x",
+        "[] [CALL] [AAAAAAAAAAAAAAAAAAAAAAAAAAAAAAAAAAAAAAAAAAAAAAAAAAAAAAAAAAAAAAAA,B];",
+    ),
+    (
+        " CALL AAAAAAAAAAAAAAAAAAAAAAAAAAAAAAAAAAAAAAAAAAAAAAAAAAAAAAAAAAAAAAAA,X\n                y|X\n               B x",
+        "[] [CALL] [AAAAAAAAAAAAAAAAAAAAAAAAAAAAAAAAAAAAAAAAAAAAAAAAAAAAAAAAAAAAAAAA,B];",
+    ),
+    (
+        " CALL AAAAAAAAAAAAAAAAAAAAAAAAAAAAAAAAAAAAAAAAAAAAAAAAAAAAAAAAAAAAAAAAAX\n               B x",
+        "[] [CALL] [AAAAAAAAAAAAAAAAAAAAAAAAAAAAAAAAAAAAAAAAAAAAAAAAAAAAAAAAAAAAAAAAAB];",
+    ),
+    (
+        " CALL AAAAAAAAAAAAAAAAAAAAAAAAAAAAAAAAAAAAAAAAAAAAAAAAAAAAAAAAAAAAAAAAAX\n                B x",
+        "[] [CALL] [AAAAAAAAAAAAAAAAAAAAAAAAAAAAAAAAAAAAAAAAAAAAAAAAAAAAAAAAAAAAAAAAA];",
+    ),
+    (
+        "         MANY 1,|X\n               2,|X\n               3,|X\n               4,|X\n               5,|X\n               6,|X\n               7,|X\n               8,|X\n               9,|X\n               10,|X\n               11",
+        "[] [MANY] [1,2,3,4,5,6,7,8,9,10,11];",
+    ),
+    (
+        "         DC 1,|X\n               2,|X\n               3,|X\n               4,|X\n               5,|X\n               6,|X\n               7,|X\n               8,|X\n               9,|X\n               10,|X\n               11",
+        "[] [DC] [1,] H002;",
+    ),
+    (
+        "         &A 1,|X\n               2,|X\n               3,|X\n               4,|X\n               5,|X\n               6,|X\n               7,|X\n               8,|X\n               9,|X\n               10,|X\n               11",
+        "[] [&A] [1,] H002;",
+    ),
+    (
+        "         MANY 1,|X\n               2,|X\n               3,|X\n               4,|X\n               5,|X\n               6,|X\n               7,|X\n               8,|X\n               9,|X\n               10,|X\nx              11\n B C",
+        "[] [MANY] [1,2,3,4,5,6,7,8,9,10,11] H001;[] [B] [C];",
+    ),
+    (
+        "*|X\n|X\n|X\n|X\n|X\n|X\n|X\n|X\n|X\n|X\n|X\n",
+        "[] [] [] H002;",
+    ),
+];
+
+#[test]
+fn fields_are_those_worked_out_by_hand(rt: HostRuntime) -> Result<(), Fail> {
+    for (short, want) in FIELDS {
+        let text = text_of(rt.alloc(), short)?;
+        let seen = fields(rt.alloc(), text.as_str())?;
+        assert_eq!(rt; seen.as_str(), want, "at {short:?}");
+    }
+    Ok(())
+}
+
+/// The places of some characters: a text, the field, the number of a character in it, and its line and column.
+const PLACES: [(&str, Field, u32, (u32, u32)); 16] = [
+    ("LAB LR 1,2 X", Field::Label, 0, (0, 1)),
+    ("LAB LR 1,2 X", Field::Label, 2, (0, 3)),
+    ("LAB LR 1,2 X", Field::Op, 0, (0, 5)),
+    ("LAB LR 1,2 X", Field::Op, 1, (0, 6)),
+    ("LAB LR 1,2 X", Field::Operands, 0, (0, 8)),
+    ("LAB LR 1,2 X", Field::Operands, 2, (0, 10)),
+    ("𝄞é LR 1,2 X", Field::Op, 0, (0, 4)),
+    ("L LR|X\n                  1,2", Field::Operands, 1, (1, 20)),
+    // a field that goes on from column 71 in column 16
+    (
+        " LR 1111111111111111111111111111111111111111111111111111111111111111111X\n               2,3 X",
+        Field::Operands,
+        66,
+        (0, 71),
+    ),
+    (
+        " LR 1111111111111111111111111111111111111111111111111111111111111111111X\n               2,3 X",
+        Field::Operands,
+        67,
+        (1, 16),
+    ),
+    // the alternate format, with remarks behind commas and a line of remarks
+    (
+        " CALL A, x|X\n               B,y",
+        Field::Operands,
+        0,
+        (0, 7),
+    ),
+    (
+        " CALL A, x|X\n               B,y",
+        Field::Operands,
+        1,
+        (0, 8),
+    ),
+    (
+        " CALL A, x|X\n               B,y",
+        Field::Operands,
+        2,
+        (1, 16),
+    ),
+    (
+        " CALL A, x|X\n|X\n                y|X\n               BC y",
+        Field::Operands,
+        1,
+        (0, 8),
+    ),
+    (
+        " CALL A, x|X\n|X\n                y|X\n               BC y",
+        Field::Operands,
+        2,
+        (3, 16),
+    ),
+    (
+        " CALL A, x|X\n|X\n                y|X\n               BC y",
+        Field::Operands,
+        3,
+        (3, 17),
+    ),
+];
+
+#[test]
+fn characters_stand_where_they_were_read(rt: HostRuntime) -> Result<(), Fail> {
+    for (short, field, index, want) in PLACES {
+        let text = text_of(rt.alloc(), short)?;
+        let Ok(statements) = read_statements(rt.alloc(), text.as_str()) else {
+            return Err(AllocError.into());
+        };
+        for statement in statements.as_slice() {
+            assert_eq!(rt; statement.place(field, index), want, "at {short:?} {index}");
+        }
     }
     Ok(())
 }

@@ -1,2 +1,11 @@
+pub mod Answers
+pub mod Characters
+pub mod Moves
+pub mod Parts
+pub mod Reading
+pub mod Spelling
 pub mod Split
 pub mod SplitSublist
+pub mod Stacks
+pub mod Trees
+pub mod Views

@@ -1,31 +1,14 @@
 -- Frames: none begins another, and what is less than one.
-use Rattle.std.proofs.Common.{◌≡◌, ℕ, zero, suc, ◌+◌, ◌-◌, ◌<◌, ◌≤◌, ◌⊎◌, inl, inr, List, [], ◌∷◌, ◌++◌, length, take, drop, replicate, Some, None, refl, sym, ◌∙◌, ap, subst, arith, append_assoc, length-append}
+use Rattle.std.proofs.Common.{◌≡◌, ℕ, ◌+◌, ◌-◌, ◌<◌, ◌≤◌, inl, inr, List, [], ◌∷◌, ◌++◌, length, take, drop, replicate, Some, None, refl, sym, ◌∙◌, ap, subst, arith, append_assoc, length-append}
 use Rattle.std.proofs.lemmas.Bool.{cases_lt}
 use Rattle.std.proofs.lemmas.List.{append-nil, take-append-drop, take-append-le, take-take, length-replicate}
 use Rattle.std.specs.Fmt.{decimal}
 use Rattle.std.proofs.lemmas.Fmt.{decimal_is_IsNumeral, length-decimal-le}
-use Rattle.rpc_framing.specs.Frames.{label, blank_line, IsHead, IsFrame, IsFrames, BeginsFrames, IsPartial, IsBadStart, frame}
-use Rattle.rpc_framing.specs.Stages.{stage_from, whole_length}
+use Rattle.rpc_framing.specs.Frames.{line_end, ended, label, IsHead, IsFrame, IsFrames, BeginsFrames, IsPartial, IsBadStart, frame}
+use Rattle.rpc_framing.specs.Stages.{start, stage_from, whole_length}
 use Rattle.rpc_framing.specs.declared.header.Stage.{Stage}
-use Rattle.rpc_framing.specs.declared.header.Stage.TheVariants.{Label, Whole}
-use Rattle.rpc_framing.proofs.Heads.{stage_from-then, stage_from-dead, stage_from-Whole, stage_from-IsHead, HeadGoesOn, HeadGoesOn-stage_from, length-label}
-
--- Where two fronts of one list end: the one goes on to the other.
-pub fronts : (a b c d : List ℕ) → a ++ b ≡ c ++ d → ((z : List ℕ) × (c ≡ a ++ z) × (b ≡ z ++ d)) ⊎ ((z : List ℕ) × (a ≡ c ++ z) × (d ≡ z ++ b))
-fronts [] b c d e = inl (c, refl, e)
-fronts (x ∷ a) b [] d e = inr (x ∷ a, refl, sym e)
-fronts (x ∷ a) b (y ∷ c) d e =
-    let first : x ≡ y = cc in
-    let others : a ++ b ≡ c ++ d = cc in
-    elim (fronts a b c d others) [
-      | inl l ↦ inl (l.0, (let is = l.1 in cc), l.2)
-      | inr r ↦ inr (r.0, (let is = r.1 in cc), r.2)
-    ]
-
--- two lists that are nothing together
-pub nil_front : (a b : List ℕ) → a ++ b ≡ [] → (a ≡ []) × (b ≡ [])
-nil_front [] b e = (refl, e)
-nil_front (x ∷ a) b e = absurd cc
+use Rattle.rpc_framing.proofs.Lists.{fronts, nil_front, same_length, take-past}
+use Rattle.rpc_framing.proofs.Heads.{stage_from-then, stage_from-dead, stage_from-whole, stage_from-IsHead, IsHead-written, HeadGoesOn, HeadGoesOn-stage_from}
 
 -- no header begins another
 pub IsHead-unique : (head other x y : List ℕ) (n m : ℕ) → IsHead head n → IsHead other m → head ++ x ≡ other ++ y → (head ≡ other) × (n ≡ m) × (x ≡ y)
@@ -37,30 +20,21 @@ IsHead-unique head other x y n m h k e =
   where
     same : (head other x y : List ℕ) (n m : ℕ) → IsHead head n → IsHead other m → (z : List ℕ) → other ≡ head ++ z → x ≡ z ++ y → (head ≡ other) × (n ≡ m) × (x ≡ y)
     same head other x y n m h k z longer rest =
-        let first : stage_from (Label 0) head ≡ Some (Whole n) = stage_from-IsHead head n h in
-        let second : stage_from (Label 0) other ≡ Some (Whole m) = stage_from-IsHead other m k in
-        let behind : stage_from (Whole n) z ≡ Some (Whole m) = sym (stage_from-then (Label 0) (Whole n) head z first) ∙ ap (stage_from (Label 0)) (sym longer) ∙ second in
-        let none = stage_from-Whole n (Whole m) z behind in
+        let first = stage_from-IsHead head n h in
+        let second = stage_from-IsHead other m k in
+        let behind : stage_from first.0 z ≡ Some second.0 = sym (stage_from-then start first.0 head z first.1) ∙ ap (stage_from start) (sym longer) ∙ second.1 in
+        let none = stage_from-whole first.0 second.0 n z first.2 behind in
         let is : z ≡ [] = none.0 in
-        let said : Whole m ≡ Whole n = none.1 in
+        let said : Some m ≡ Some n = sym second.2 ∙ ap whole_length none.1 ∙ first.2 in
         (sym (longer ∙ ap (λ b. head ++ b) is ∙ append-nil head), (cc), rest ∙ ap (λ b. b ++ y) is)
 
 -- how long a header is, and the length that it says
-length-IsHead : (head : List ℕ) (n : ℕ) → IsHead head n → (0 < length head) × (length head ≤ 28) × (n ≤ 16777216)
+length-IsHead : (head : List ℕ) (n : ℕ) → IsHead head n → (0 < length head) × (length head ≤ 4096) × (n ≤ 16777216)
 length-IsHead head n h =
-    let is : length head ≡ length label + (length h.digits + 4) = ap length h.is ∙ length-append label (h.digits ++ blank_line) ∙ ap (λ k. length label + k) (length-append h.digits blank_line) in
-    let l = length-label in
-    let few = h.few in
-    (omega arith, omega arith, h.bound)
-
--- fronts of one length of the same list
-same_length : (a b c d : List ℕ) → length a ≡ length c → a ++ b ≡ c ++ d → (a ≡ c) × (b ≡ d)
-same_length [] b [] d l e = (refl, e)
-same_length [] b (y ∷ c) d l e = absurd (omega arith)
-same_length (x ∷ a) b [] d l e = absurd (omega arith)
-same_length (x ∷ a) b (y ∷ c) d l e =
-    let others = same_length a b c d (omega arith) (let f : a ++ b ≡ c ++ d = cc in f) in
-    ((let is = others.0 in cc), others.1)
+    let is : length head ≡ length (ended h.lines) + 2 = ap length h.is ∙ length-append (ended h.lines) line_end in
+    let says = h.says in
+    let line = says.says in
+    (omega arith, h.fits, line.bound)
 
 -- No frame begins another, and a frame has one body.
 pub IsFrame-unique : (f g b c x y : List ℕ) → IsFrame f b → IsFrame g c → f ++ x ≡ g ++ y → (f ≡ g) × (b ≡ c) × (x ≡ y)
@@ -72,7 +46,7 @@ IsFrame-unique f g b c x y h k e =
     (h.is ∙ ap (λ t. t ++ b) heads.0 ∙ ap (λ t. k.head ++ t) bodies.0 ∙ sym k.is, bodies.0, bodies.1)
 
 -- how long a frame is
-pub length-IsFrame : (f b : List ℕ) → IsFrame f b → (0 < length f) × (length f ≤ 16777244)
+pub length-IsFrame : (f b : List ℕ) → IsFrame f b → (0 < length f) × (length f ≤ 16781312)
 length-IsFrame f b h =
     let head = length-IsHead h.head (length b) h.says in
     let some = head.0 in
@@ -82,7 +56,7 @@ length-IsFrame f b h =
     (omega arith, omega arith)
 
 -- what is less than a whole frame is short
-pub length-IsPartial : (r : List ℕ) → IsPartial r → length r < 16777244
+pub length-IsPartial : (r : List ℕ) → IsPartial r → length r < 16781312
 length-IsPartial r p =
     let is = length-append r p.more in
     let bound = (length-IsFrame (r ++ p.more) p.body p.frame).1 in
@@ -138,15 +112,7 @@ IsPartial-HeadGoesOn bytes h = record {
 
 -- nothing is less than a whole frame
 pub IsPartial-nil : IsPartial []
-IsPartial-nil = IsPartial-HeadGoesOn [] (HeadGoesOn-stage_from (Label 0) [] refl refl)
-
--- a front that goes past the first of two lists
-pub take-past : (f z : List ℕ) (k : ℕ) → length f ≤ k → take k (f ++ z) ≡ f ++ take (k - length f) z
-take-past [] z k le = let e : k ≡ k - 0 = omega arith in ap (λ n. take n z) e
-take-past (x ∷ f) z zero le = absurd (omega arith)
-take-past (x ∷ f) z (suc k) le =
-    let e : k - length f ≡ suc k - suc (length f) = omega arith in
-    ap (λ t. x ∷ t) (take-past f z k (omega arith) ∙ ap (λ n. f ++ take n z) e)
+IsPartial-nil = IsPartial-HeadGoesOn [] (HeadGoesOn-stage_from start [] refl refl)
 
 -- what begins no frame
 pub record HasNoFrame (x : List ℕ) : Type 0 where
@@ -209,60 +175,54 @@ IsBadStart-unique x at place h k =
         h.bad (let P : List ℕ → Type 0 = λ t. BeginsFrames t in subst P same (BeginsFrames-IsPartial (take at (take (place - 1) x)) (IsPartial-take at (take (place - 1) x) k.partial)))
 
 -- a whole header is no front of what a byte more is no header's beginning
-not_behind : (xs : List ℕ) (byte : ℕ) (last : Stage) → stage_from (Label 0) xs ≡ Some last → whole_length last ≡ None → stage_from (Label 0) (xs ++ byte ∷ []) ≡ None → (head : List ℕ) (n : ℕ) → stage_from (Label 0) head ≡ Some (Whole n) → (z : List ℕ) → xs ++ byte ∷ [] ≡ head ++ z → ⊥
-not_behind xs byte last alive short dead head n whole z e =
+not_behind : (xs : List ℕ) (byte : ℕ) (last : Stage) → stage_from start xs ≡ Some last → whole_length last ≡ None → stage_from start (xs ++ byte ∷ []) ≡ None → (head : List ℕ) (n : ℕ) → IsHead head n → (z : List ℕ) → xs ++ byte ∷ [] ≡ head ++ z → ⊥
+not_behind xs byte last alive short dead head n h z e =
+    let whole = stage_from-IsHead head n h in
     elim (fronts xs (byte ∷ []) head z e) [
-      | inl l ↦ longer l.0 l.1 l.2
+      | inl l ↦ longer whole.0 whole.1 whole.2 l.0 l.1 l.2
       | inr r ↦
-          let behind : stage_from (Whole n) r.0 ≡ Some last = sym (stage_from-then (Label 0) (Whole n) head r.0 whole) ∙ ap (stage_from (Label 0)) (sym r.1) ∙ alive in
-          let is : last ≡ Whole n = (stage_from-Whole n last r.0 behind).1 in
-          let none : Some n ≡ None = ap whole_length (sym is) ∙ short in
+          let behind : stage_from whole.0 r.0 ≡ Some last = sym (stage_from-then start whole.0 head r.0 whole.1) ∙ ap (stage_from start) (sym r.1) ∙ alive in
+          let is : last ≡ whole.0 = (stage_from-whole whole.0 last n r.0 whole.2 behind).1 in
+          let none : Some n ≡ None = sym whole.2 ∙ ap whole_length (sym is) ∙ short in
           cc
     ]
   where
-    longer : (y : List ℕ) → head ≡ xs ++ y → byte ∷ [] ≡ y ++ z → ⊥
-    longer [] same rest =
-        let is : Some last ≡ Some (Whole n) = sym alive ∙ ap (stage_from (Label 0)) (sym (same ∙ append-nil xs)) ∙ whole in
-        let it : last ≡ Whole n = cc in
-        let none : Some n ≡ None = ap whole_length (sym it) ∙ short in
+    longer : (s : Stage) → stage_from start head ≡ Some s → whole_length s ≡ Some n → (y : List ℕ) → head ≡ xs ++ y → byte ∷ [] ≡ y ++ z → ⊥
+    longer s at says [] same rest =
+        let is : Some last ≡ Some s = sym alive ∙ ap (stage_from start) (sym (same ∙ append-nil xs)) ∙ at in
+        let it : last ≡ s = cc in
+        let none : Some n ≡ None = sym says ∙ ap whole_length (sym it) ∙ short in
         cc
-    longer (c ∷ y) same rest =
+    longer s at says (c ∷ y) same rest =
         let first : byte ≡ c = cc in
         let others : y ++ z ≡ [] = (let f : [] ≡ y ++ z = cc in sym f) in
         let nothing : y ≡ [] = (nil_front y z others).0 in
         let is : head ≡ xs ++ byte ∷ [] = same ∙ ap (λ t. xs ++ c ∷ t) nothing ∙ ap (λ b. xs ++ b ∷ []) (sym first) in
-        let gone : Some (Whole n) ≡ None = sym whole ∙ ap (stage_from (Label 0)) is ∙ dead in
+        let gone : Some s ≡ None = sym at ∙ ap (stage_from start) is ∙ dead in
         cc
 
 -- a byte with which no header goes on begins no frame
-pub dead_begins_nothing : (xs : List ℕ) (byte : ℕ) (last : Stage) → stage_from (Label 0) xs ≡ Some last → whole_length last ≡ None → stage_from (Label 0) (xs ++ byte ∷ []) ≡ None → BeginsFrames (xs ++ byte ∷ []) → ⊥
+pub dead_begins_nothing : (xs : List ℕ) (byte : ℕ) (last : Stage) → stage_from start xs ≡ Some last → whole_length last ≡ None → stage_from start (xs ++ byte ∷ []) ≡ None → BeginsFrames (xs ++ byte ∷ []) → ⊥
 dead_begins_nothing xs byte last alive short dead b = begins b.bodies b.more b.frames
   where
     begins : (bodies : List (List ℕ)) (more : List ℕ) → IsFrames ((xs ++ byte ∷ []) ++ more) bodies → ⊥
     begins [] more e = omega (arith, ap length e, length-append (xs ++ byte ∷ []) more, length-append xs (byte ∷ []))
     begins (body ∷ bodies) more e =
         let h = e.2 in
-        let n : ℕ = length body in
-        let whole : stage_from (Label 0) h.head ≡ Some (Whole n) = stage_from-IsHead h.head n h.says in
+        let whole = stage_from-IsHead h.head (length body) h.says in
         let same : (xs ++ byte ∷ []) ++ more ≡ h.head ++ (body ++ e.1) = e.4 ∙ ap (λ t. t ++ e.1) h.is ∙ append_assoc h.head body e.1 in
         elim (fronts (xs ++ byte ∷ []) more h.head (body ++ e.1) same) [
-          | inl l ↦ (let gone : stage_from (Label 0) h.head ≡ None = ap (stage_from (Label 0)) l.1 ∙ stage_from-dead (Label 0) (xs ++ byte ∷ []) l.0 dead in absurd cc)
-          | inr r ↦ not_behind xs byte last alive short dead h.head n whole r.0 r.1
+          | inl l ↦ (let gone : Some whole.0 ≡ None = sym whole.1 ∙ ap (stage_from start) l.1 ∙ stage_from-dead start (xs ++ byte ∷ []) l.0 dead in absurd cc)
+          | inr r ↦ not_behind xs byte last alive short dead h.head (length body) h.says r.0 r.1
         ]
 
 -- What is written is read.
 pub IsFrame-frame : (body : List ℕ) → length body ≤ 16777216 → IsFrame (frame body) body
 IsFrame-frame body bound =
     let n = decimal_is_IsNumeral (length body) (omega arith) in
+    let few : length (decimal (length body)) ≤ 8 = length-decimal-le 8 (length body) (omega arith) (omega arith) (omega arith) in
     record {
-      head = label ++ (decimal (length body) ++ blank_line);
-      says = record {
-        digits = decimal (length body);
-        numeral = n.0;
-        few = length-decimal-le 8 (length body) (omega arith) (omega arith) (omega arith);
-        value = n.1;
-        bound = bound;
-        is = refl;
-      };
+      head = label ++ (decimal (length body) ++ (line_end ++ line_end));
+      says = IsHead-written (decimal (length body)) (length body) n.0 (omega arith) n.1 bound;
       is = refl;
     }

@@ -1,17 +1,25 @@
 -- The stages of a header are its grammar: a whole header comes to its end, and a stage short of it goes on to one.
-use Rattle.std.proofs.Common.{◌≡◌, ℕ, ◌+◌, ◌-◌, ◌*◌, ◌<◌, ◌≤◌, ◌⊎◌, inl, inr, true, List, [], ◌∷◌, ◌++◌, length, take, drop, get_or, Option, Some, None, refl, sym, ◌∙◌, ap, subst, arith, rules, append_assoc, length-append}
-use Rattle.std.proofs.lemmas.List.{append-nil, take_more, take-append-drop, take_all, length-drop}
-use Rattle.std.proofs.lemmas.Bool.Decides.{nat_tests}
-use Rattle.std.proofs.lemmas.Bool.{cases_Bool, ltb-true, leb-true, eqb-true, eqb-false}
-use Rattle.std.proofs.lemmas.Str.Parse.{digit_from_value}
-use Rattle.std.specs.Prelude.{option_and_then, nat_lt, nat_le, ◌==◌}
-use Rattle.std.specs.Char.{digit_value, is_ascii_digit}
-use Rattle.std.specs.Int.{IsInRange}
-use Rattle.std.specs.Str.Parse.{IsNumeral, AllDigits, digits_value, digits_value_after}
-use Rattle.rpc_framing.specs.Frames.{label, blank_line, IsHead}
-use Rattle.rpc_framing.specs.Stages.{stage_after, stage_from, whole_length, after_label, after_digits, after_ending}
+use Rattle.std.proofs.Common.{◌≡◌, ℕ, ◌+◌, ◌<◌, ◌≤◌, inl, inr, true, List, [], ◌∷◌, ◌++◌, length, Some, None, refl, sym, ◌∙◌, ap, arith, length-append, append_assoc}
+use Rattle.std.proofs.lemmas.Bool.{leb-true, le-leb}
+use Rattle.std.proofs.lemmas.List.{append-nil}
+use Rattle.std.proofs.lemmas.List.Elements.{All-nil}
+use Rattle.std.proofs.lemmas.List.Sums.{AllPass-from_list_all}
+use Rattle.std.specs.Prelude.{option_and_then, nat_le, codes}
+use Rattle.std.specs.Str.Parse.{IsNumeral, digits_value}
+use Rattle.rpc_framing.specs.Faults.{Departs}
+use Rattle.rpc_framing.specs.Frames.{is_name_byte, is_blank, length_name, IsOtherLine, line_end, ended, label, IsHead}
+use Rattle.rpc_framing.specs.Places.{place_after, length_at, need, departure_at}
+use Rattle.rpc_framing.specs.Stages.{start, fitting, stage_after, stage_from, whole_length}
 use Rattle.rpc_framing.specs.declared.header.Stage.{Stage}
-use Rattle.rpc_framing.specs.declared.header.Stage.TheVariants.{Label, Digits, Ending, Whole}
+use Rattle.rpc_framing.specs.declared.place.Place.{Place}
+use Rattle.rpc_framing.specs.declared.place.Place.TheVariants.{Line, Name, OtherName, Digits, Gap, Value, Return, LastReturn, Whole}
+use Rattle.rpc_framing.proofs.Moves.{pick, whole_moves}
+use Rattle.rpc_framing.proofs.Says.{places, places-then, some_first, Says, Says-places}
+use Rattle.rpc_framing.proofs.Runs.{lines_end}
+use Rattle.rpc_framing.proofs.Needs.{need_least, completed, need_some}
+use Rattle.rpc_framing.proofs.Greatest.{Departs-at}
+
+-- ---- lists of bytes
 
 -- the bytes of two lists, one after the other
 pub stage_from-append : (s : Stage) (xs ys : List ℕ) → stage_from s (xs ++ ys) ≡ option_and_then (λ t. stage_from t ys) (stage_from s xs)
@@ -28,284 +36,106 @@ stage_from-then s t xs ys e = stage_from-append s xs ys ∙ ap (option_and_then 
 pub stage_from-dead : (s : Stage) (xs ys : List ℕ) → stage_from s xs ≡ None → stage_from s (xs ++ ys) ≡ None
 stage_from-dead s xs ys e = stage_from-append s xs ys ∙ ap (option_and_then (λ u. stage_from u ys)) e
 
--- the value between two steps that may fail
-some_first : {A B : Type 0} (f : A → Option B) (o : Option A) (y : B) → option_and_then f o ≡ Some y → (x : A) × (o ≡ Some x) × (f x ≡ Some y)
-some_first f None y e = absurd cc
-some_first f (Some x) y e = (x, refl, e)
+-- ---- stages and places
 
--- the stage behind the first byte
-pub stage_from-first : (s t : Stage) (byte : ℕ) (more : List ℕ) → stage_from s (byte ∷ more) ≡ Some t → (u : Stage) × (stage_after s byte ≡ Some u) × (stage_from u more ≡ Some t)
-stage_from-first s t byte more e = some_first (λ u. stage_from u more) (stage_after s byte) t e
+-- one byte more: the next place, a byte more, and room for what it needs
+stage_step : (s t : Stage) (byte : ℕ) → stage_after s byte ≡ Some t → (place_after s.place byte ≡ Some t.place) × (t.size ≡ s.size + 1) × (t.size + need t.place ≤ 4096)
+unfolding stage_after
+stage_step s t byte e =
+    let first = some_first (λ p. fitting (s.size + 1) p) (place_after s.place byte) t e in
+    elim (pick (nat_le (s.size + 1 + need first.0) 4096) (Some (record { place = first.0; size = s.size + 1 })) None t first.2) [
+      | inr none ↦ absurd (let is = none.1 in cc)
+      | inl fits ↦
+          let next : Stage = record { place = first.0; size = s.size + 1 } in
+          let is : next ≡ t = (let f = fits.1 in cc) in
+          let at : first.0 ≡ t.place = ap (λ (u : Stage). u.place) is in
+          let size : s.size + 1 ≡ t.size = ap (λ (u : Stage). u.size) is in
+          let room = leb-true (s.size + 1 + need first.0) 4096 fits.0 in
+          let same : need first.0 ≡ need t.place = ap need at in
+          (first.1 ∙ ap Some at, sym size, (omega arith))
+    ]
 
--- the stage between two lists
-pub stage_from-between : (s t : Stage) (xs ys : List ℕ) → stage_from s (xs ++ ys) ≡ Some t → (u : Stage) × (stage_from s xs ≡ Some u) × (stage_from u ys ≡ Some t)
-stage_from-between s t xs ys e = some_first (λ u. stage_from u ys) (stage_from s xs) t (sym (stage_from-append s xs ys) ∙ e)
+-- more bytes: their places, as many bytes more, and room still
+record Comes (s t : Stage) (bytes : List ℕ) : Type 0 where
+  places_are : places s.place bytes ≡ Some t.place
+  size : t.size ≡ s.size + length bytes
+  fits : s.size + need s.place ≤ 4096 → t.size + need t.place ≤ 4096
+
+stage_places : (bytes : List ℕ) (s t : Stage) → stage_from s bytes ≡ Some t → Comes s t bytes
+stage_places [] s t e =
+    let is : s ≡ t = cc in
+    let size : s.size ≡ t.size = ap (λ (u : Stage). u.size) is in
+    let same : need s.place ≡ need t.place = ap (λ (u : Stage). need u.place) is in
+    record { places_are = ap (λ (u : Stage). Some u.place) is; size = omega arith; fits = λ h. omega arith }
+stage_places (byte ∷ bytes) s t e =
+    let first = some_first (λ u. stage_from u bytes) (stage_after s byte) t e in
+    let one = stage_step s first.0 byte first.1 in
+    let rest = stage_places bytes first.0 t first.2 in
+    let size = rest.size in
+    record {
+      places_are = ap (option_and_then (λ q. places q bytes)) one.0 ∙ rest.places_are;
+      size = omega (arith, one.1);
+      fits = λ h. rest.fits one.2;
+    }
+
+-- bytes that bring a place to a header's end, with room for all of them
+places_stage : (bytes : List ℕ) (s : Stage) (n : ℕ) → places s.place bytes ≡ Some (Whole n) → s.size + length bytes ≤ 4096 → stage_from s bytes ≡ Some (record { place = Whole n; size = s.size + length bytes })
+unfolding stage_after
+places_stage [] s n e room =
+    let at : s.place ≡ Whole n = cc in
+    let size : s.size ≡ s.size + 0 = omega arith in
+    ap (λ p. Some (record { place = p; size = s.size })) at ∙ ap (λ k. Some (record { place = Whole n; size = k })) size
+places_stage (byte ∷ bytes) s n e room =
+    let first = some_first (λ q. places q bytes) (place_after s.place byte) (Whole n) e in
+    let least = need_least bytes first.0 n first.2 in
+    let next : Stage = record { place = first.0; size = s.size + 1 } in
+    let fits : nat_le (s.size + 1 + need first.0) 4096 ≡ true = le-leb (s.size + 1 + need first.0) 4096 (omega arith) in
+    let fitted : fitting (s.size + 1) first.0 ≡ Some next = rw fits refl in
+    let one : stage_after s byte ≡ Some next = ap (option_and_then (λ p. fitting (s.size + 1) p)) first.1 ∙ fitted in
+    let counted : s.size + 1 + length bytes ≡ s.size + length (byte ∷ bytes) = omega arith in
+    ap (option_and_then (λ u. stage_from u bytes)) one
+    ∙ places_stage bytes next n first.2 (omega arith)
+    ∙ ap (λ k. Some (record { place = Whole n; size = k })) counted
+
+-- a place that says a length is a header's end
+length_at-Some : (p : Place) (n : ℕ) → length_at p ≡ Some n → p ≡ Whole n
+length_at-Some (Line known) n e = cc
+length_at-Some (Name seen known) n e = cc
+length_at-Some (OtherName known) n e = cc
+length_at-Some (Digits count value) n e = cc
+length_at-Some (Gap known) n e = cc
+length_at-Some (Value known) n e = cc
+length_at-Some (Return known) n e = cc
+length_at-Some (LastReturn m) n e = cc
+length_at-Some (Whole m) n e = cc
 
 -- no byte belongs to a header behind its end
-pub stage_from-Whole : (n : ℕ) (t : Stage) (xs : List ℕ) → stage_from (Whole n) xs ≡ Some t → (xs ≡ []) × (t ≡ Whole n)
-unfolding stage_after
-stage_from-Whole n t [] e = (refl, (cc))
-stage_from-Whole n t (x ∷ xs) e = cc
+pub stage_from-whole : (s t : Stage) (n : ℕ) (xs : List ℕ) → whole_length s ≡ Some n → stage_from s xs ≡ Some t → (xs ≡ []) × (t ≡ s)
+stage_from-whole s t n [] whole e = (refl, (cc))
+stage_from-whole s t n (x ∷ xs) whole e =
+    let first = some_first (λ u. stage_from u xs) (stage_after s x) t e in
+    let one = stage_step s first.0 x first.1 in
+    let after : place_after (Whole n) x ≡ Some first.0.place = ap (λ p. place_after p x) (sym (length_at-Some s.place n whole)) ∙ one.0 in
+    absurd (whole_moves n x first.0.place after)
 
--- a stage that says a length is the end of a header
-pub whole_length-Some : (s : Stage) (n : ℕ) → whole_length s ≡ Some n → s ≡ Whole n
-whole_length-Some (Label k) n e = cc
-whole_length-Some (Digits c v) n e = cc
-whole_length-Some (Ending k v) n e = cc
-whole_length-Some (Whole v) n e = cc
+-- ---- whole headers
 
--- what a decimal digit is
-digit : (d : ℕ) → digit_value d < 10 → (is_ascii_digit d ≡ true) × (digit_value d ≡ d - 48)
-digit d h = let r : IsInRange 48 57 d = digit_from_value d h in (grind (arith, nat_tests), grind (arith, nat_tests))
-
-digit_back : (d : ℕ) → is_ascii_digit d ≡ true → (digit_value d < 10) × (digit_value d ≡ d - 48)
-digit_back d h = (grind (arith, nat_tests), grind (arith, nat_tests))
-
--- a number does not shrink by more digits
-value_grows : (v : ℕ) (ds : List ℕ) → v ≤ digits_value_after 10 v ds
-value_grows v [] = omega arith
-value_grows v (d ∷ ds) = omega (arith, value_grows (v * 10 + digit_value d) ds)
-
--- one digit more
-digit_goes : (c v d : ℕ) → digit_value d < 10 → c < 8 → v * 10 + digit_value d ≤ 16777216 → stage_after (Digits c v) d ≡ Some (Digits (c + 1) (v * 10 + digit_value d))
-unfolding stage_after
-digit_goes c v d h few small =
-    let is = digit d h in
-    let short : nat_lt c 8 ≡ true = grind (arith, nat_tests) in
-    let within : nat_le (v * 10 + (d - 48)) 16777216 ≡ true = rw (sym is.1) (grind (arith, nat_tests)) in
-    rw (is.0, short, within, is.1) refl
-
--- more digits
-digits_go : (c v : ℕ) (ds : List ℕ) → AllDigits 10 ds → c + length ds ≤ 8 → digits_value_after 10 v ds ≤ 16777216 → stage_from (Digits c v) ds ≡ Some (Digits (c + length ds) (digits_value_after 10 v ds))
-digits_go c v [] all few small = let e : c ≡ c + 0 = omega arith in cc
-digits_go c v (d ∷ ds) all few small =
-    let w : ℕ = v * 10 + digit_value d in
-    let grows : w ≤ digits_value_after 10 w ds = value_grows w ds in
-    let first : stage_after (Digits c v) d ≡ Some (Digits (c + 1) w) = digit_goes c v d all.0 (omega arith) (omega arith) in
-    let others : stage_from (Digits (c + 1) w) ds ≡ Some (Digits (c + 1 + length ds) (digits_value_after 10 w ds)) = digits_go (c + 1) w ds all.1 (omega arith) small in
-    let e : c + 1 + length ds ≡ c + length (d ∷ ds) = omega arith in
-    rw first (others ∙ ap (λ k. Some (Digits k (digits_value_after 10 w ds))) e)
-
--- the label brings to the digits
-label_goes : stage_from (Label 0) label ≡ Some (Digits 0 0)
-unfolding label stage_after
-label_goes = refl
-
--- the line's end and the empty line bring to the end
-blank_goes : (c v : ℕ) → 0 < c → stage_from (Digits c v) blank_line ≡ Some (Whole v)
-unfolding stage_after
-blank_goes c v some = let e : nat_lt 0 c ≡ true = grind (arith, nat_tests) in rw e refl
-
--- a whole header comes to its end, with the length that it says
-pub stage_from-IsHead : (head : List ℕ) (n : ℕ) → IsHead head n → stage_from (Label 0) head ≡ Some (Whole n)
+-- A whole header comes to its end, with the length that it says.
+pub stage_from-IsHead : (head : List ℕ) (n : ℕ) → IsHead head n → (s : Stage) × (stage_from start head ≡ Some s) × (whole_length s ≡ Some n)
 stage_from-IsHead head n h =
-    let numbers : stage_from (Digits 0 0) h.digits ≡ Some (Digits (0 + length h.digits) n) =
-    rw (← h.value) (digits_go 0 0 h.digits h.numeral.1 (let few = h.few in omega arith) (let bound = h.bound in let value = h.value in omega arith)) in
-    ap (stage_from (Label 0)) h.is
-    ∙ stage_from-then (Label 0) (Digits 0 0) label (h.digits ++ blank_line) label_goes
-    ∙ stage_from-then (Digits 0 0) (Digits (0 + length h.digits) n) h.digits blank_line numbers
-    ∙ blank_goes (0 + length h.digits) n (let some = h.numeral.0 in omega arith)
+    let goes : places (Line None) head ≡ Some (Whole n) = ap (places (Line None)) h.is ∙ lines_end h.lines n h.says in
+    let fits = h.fits in
+    (record { place = Whole n; size = 0 + length head }, places_stage head start n goes (omega arith), refl)
 
--- What the bytes are, stage by stage.
-record SaysDigits (count value : ℕ) (bytes : List ℕ) : Type 0 where
-  digits : List ℕ
-  all : AllDigits 10 digits
-  counted : length digits ≡ count
-  few : count ≤ 8
-  valued : digits_value 10 digits ≡ value
-  bound : value ≤ 16777216
-  is : bytes ≡ label ++ digits
-
-record SaysEnding (seen value : ℕ) (bytes : List ℕ) : Type 0 where
-  digits : List ℕ
-  numeral : IsNumeral 10 digits
-  few : length digits ≤ 8
-  valued : digits_value 10 digits ≡ value
-  bound : value ≤ 16777216
-  some : 0 < seen
-  short : seen < 4
-  is : bytes ≡ label ++ (digits ++ take seen blank_line)
-
-abbrev Says : Stage → List ℕ → Type 0
-Says (Label seen) bytes = (seen < 16) × (bytes ≡ take seen label)
-Says (Digits count value) bytes = SaysDigits count value bytes
-Says (Ending seen value) bytes = SaysEnding seen value bytes
-Says (Whole value) bytes = IsHead bytes value
-
--- the label's length in bytes
-pub length-label : length label ≡ 16
-unfolding label
-length-label = refl
-
--- one digit more is digits
-AllDigits-push : (ds : List ℕ) (d : ℕ) → AllDigits 10 ds → digit_value d < 10 → AllDigits 10 (ds ++ d ∷ [])
-AllDigits-push [] d all h = search rules
-AllDigits-push (c ∷ ds) d all h = (all.0, AllDigits-push ds d all.1 h)
-
--- and its value
-value-push : (v : ℕ) (ds : List ℕ) (d : ℕ) → digits_value_after 10 v (ds ++ d ∷ []) ≡ digits_value_after 10 v ds * 10 + digit_value d
-value-push v [] d = refl
-value-push v (c ∷ ds) d = value-push (v * 10 + digit_value c) ds d
-
--- what the next byte of a label, a length or an ending is
-record LabelStep (seen byte : ℕ) (next : Stage) : Type 0 where
-  within : seen < 16
-  byte_is : get_or label seen 0 ≡ byte
-  to : ((seen ≡ 15) × (next ≡ Digits 0 0)) ⊎ ((seen < 15) × (next ≡ Label (seen + 1)))
-
--- what the next byte of a label is
-label_step : (seen byte : ℕ) (next : Stage) → after_label seen byte ≡ Some next → LabelStep seen byte next
-label_step seen byte next e =
-    elim (cases_Bool (nat_lt seen 16)) [
-      | inr far ↦ absurd (let f : None ≡ Some next = rw far at e in cc)
-      | inl near ↦
-          let n : seen < 16 = ltb-true seen 16 near in
-          elim (cases_Bool (get_or label seen 0 == byte)) [
-            | inr other ↦ absurd (let f : None ≡ Some next = rw (near, other) at e in cc)
-            | inl same ↦
-                let s : get_or label seen 0 ≡ byte = eqb-true (get_or label seen 0) byte same in
-                elim (cases_Bool (seen == 15)) [
-                  | inl last ↦ record { within = n; byte_is = s; to = inl (eqb-true seen 15 last, (let f : Some (Digits 0 0) ≡ Some next = rw (near, same, last) at e in cc)) }
-                  | inr more ↦ let d : seen ≡ 15 → ⊥ = eqb-false seen 15 more in
-                      record { within = n; byte_is = s; to = inr ((omega arith), (let f : Some (Label (seen + 1)) ≡ Some next = rw (near, same, more) at e in cc)) }
-                ]
-          ]
-    ]
-
-record DigitsStep (count value byte : ℕ) (next : Stage) : Type 0 where
-  digit : digit_value byte < 10
-  few : count < 8
-  small : value * 10 + digit_value byte ≤ 16777216
-  to : next ≡ Digits (count + 1) (value * 10 + digit_value byte)
-
--- what the byte behind digits is
-digits_step : (count value byte : ℕ) (next : Stage) → after_digits count value byte ≡ Some next → DigitsStep count value byte next ⊎ ((0 < count) × (byte ≡ 13) × (next ≡ Ending 1 value))
-digits_step count value byte next e =
-    elim (cases_Bool (is_ascii_digit byte)) [
-      | inl a_digit ↦
-          let d = digit_back byte a_digit in
-          elim (cases_Bool (nat_lt count 8)) [
-            | inr many ↦ absurd (let f : None ≡ Some next = rw (a_digit, many) at e in cc)
-            | inl few ↦ elim (cases_Bool (nat_le (value * 10 + (byte - 48)) 16777216)) [
-              | inr large ↦ absurd (let f : None ≡ Some next = rw (a_digit, few, large) at e in cc)
-              | inl small ↦ inl (record {
-                digit = d.0;
-                few = ltb-true count 8 few;
-                small = let le = leb-true (value * 10 + (byte - 48)) 16777216 small in let is = d.1 in omega arith;
-                to = let f : Some (Digits (count + 1) (value * 10 + (byte - 48))) ≡ Some next = rw (a_digit, few, small) at e in let is = d.1 in cc;
-              })
-            ]
-          ]
-      | inr not_digit ↦ elim (cases_Bool (byte == 13)) [
-        | inr other ↦ absurd (let f : None ≡ Some next = rw (not_digit, other) at e in cc)
-        | inl return ↦ elim (cases_Bool (nat_lt 0 count)) [
-          | inr none ↦ absurd (let f : None ≡ Some next = rw (not_digit, return, none) at e in cc)
-          | inl some ↦ inr (ltb-true 0 count some, eqb-true byte 13 return, (let f : Some (Ending 1 value) ≡ Some next = rw (not_digit, return, some) at e in cc))
-        ]
-      ]
-    ]
-
-record EndingStep (seen value byte : ℕ) (next : Stage) : Type 0 where
-  within : seen < 4
-  byte_is : get_or blank_line seen 0 ≡ byte
-  to : ((seen ≡ 3) × (next ≡ Whole value)) ⊎ ((seen < 3) × (next ≡ Ending (seen + 1) value))
-
--- what the next byte of an ending is
-ending_step : (seen value byte : ℕ) (next : Stage) → after_ending seen value byte ≡ Some next → EndingStep seen value byte next
-ending_step seen value byte next e =
-    elim (cases_Bool (nat_lt seen 4)) [
-      | inr far ↦ absurd (let f : None ≡ Some next = rw far at e in cc)
-      | inl near ↦
-          let n : seen < 4 = ltb-true seen 4 near in
-          elim (cases_Bool (get_or blank_line seen 0 == byte)) [
-            | inr other ↦ absurd (let f : None ≡ Some next = rw (near, other) at e in cc)
-            | inl same ↦
-                let s : get_or blank_line seen 0 ≡ byte = eqb-true (get_or blank_line seen 0) byte same in
-                elim (cases_Bool (seen == 3)) [
-                  | inl last ↦ record { within = n; byte_is = s; to = inl (eqb-true seen 3 last, (let f : Some (Whole value) ≡ Some next = rw (near, same, last) at e in cc)) }
-                  | inr more ↦ let d : seen ≡ 3 → ⊥ = eqb-false seen 3 more in
-                      record { within = n; byte_is = s; to = inr ((omega arith), (let f : Some (Ending (seen + 1) value) ≡ Some next = rw (near, same, more) at e in cc)) }
-                ]
-          ]
-    ]
-
--- one byte more
-says_step : (s t : Stage) (bytes : List ℕ) (byte : ℕ) → Says s bytes → stage_after s byte ≡ Some t → Says t (bytes ++ byte ∷ [])
-unfolding stage_after
-says_step (Label seen) t bytes byte h e =
-    let l = label_step seen byte t e in
-    let within : seen < length label = rw length-label l.within in
-    let more : take (seen + 1) label ≡ bytes ++ byte ∷ [] = take_more label seen 0 within ∙ rw (l.byte_is, h.1) refl in
-    elim l.to [
-      | inl last ↦ rw last.1 (record {
-        digits = [];
-        all = search rules;
-        counted = refl;
-        few = omega arith;
-        valued = refl;
-        bound = omega arith;
-        is = sym more ∙ (let n : length label ≤ seen + 1 = rw length-label (let w = last.0 in omega arith) in take_all (seen + 1) label n ∙ sym (append-nil label));
-      })
-      | inr other ↦ rw other.1 ((let o = other.0 in omega arith), sym more)
-    ]
-says_step (Digits count value) t bytes byte h e =
-    elim (digits_step count value byte t e) [
-      | inl d ↦ rw d.to (record {
-        digits = h.digits ++ byte ∷ [];
-        all = AllDigits-push h.digits byte h.all d.digit;
-        counted = let counted = h.counted in omega (arith, length-append h.digits (byte ∷ []));
-        few = let few = d.few in omega arith;
-        valued = value-push 0 h.digits byte ∙ ap (λ n. n * 10 + digit_value byte) h.valued;
-        bound = d.small;
-        is = ap (λ b. b ++ byte ∷ []) h.is ∙ append_assoc label h.digits (byte ∷ []);
-      })
-      | inr r ↦ rw r.2 (record {
-        digits = h.digits;
-        numeral = ((let some = r.0 in let counted = h.counted in omega arith), h.all);
-        few = (let few = h.few in let counted = h.counted in omega arith);
-        valued = h.valued;
-        bound = h.bound;
-        some = omega arith;
-        short = omega arith;
-        is = ap (λ b. b ++ byte ∷ []) h.is ∙ append_assoc label h.digits (byte ∷ []) ∙ ap (λ b. label ++ (h.digits ++ b ∷ [])) r.1;
-      })
-    ]
-says_step (Ending seen value) t bytes byte h e =
-    let l = ending_step seen value byte t e in
-    let within : seen < length blank_line = l.within in
-    let more : take (seen + 1) blank_line ≡ take seen blank_line ++ byte ∷ [] = take_more blank_line seen 0 within ∙ rw l.byte_is refl in
-    let is : bytes ++ byte ∷ [] ≡ label ++ (h.digits ++ take (seen + 1) blank_line) =
-    ap (λ b. b ++ byte ∷ []) h.is ∙ append_assoc label (h.digits ++ take seen blank_line) (byte ∷ [])
-    ∙ ap (λ b. label ++ b) (append_assoc h.digits (take seen blank_line) (byte ∷ []) ∙ ap (λ b. h.digits ++ b) (sym more)) in
-    elim l.to [
-      | inl last ↦ rw last.1 (record {
-        digits = h.digits;
-        numeral = h.numeral;
-        few = h.few;
-        value = h.valued;
-        bound = h.bound;
-        is = is ∙ ap (λ k. label ++ (h.digits ++ take (k + 1) blank_line)) last.0;
-      })
-      | inr other ↦ rw other.1 (record {
-        digits = h.digits;
-        numeral = h.numeral;
-        few = h.few;
-        valued = h.valued;
-        bound = h.bound;
-        some = omega arith;
-        short = (let o = other.0 in omega arith);
-        is = is;
-      })
-    ]
-says_step (Whole value) t bytes byte h e = absurd cc
-
--- more bytes, one after the other
-says_from : (s t : Stage) (bytes more : List ℕ) → Says s bytes → stage_from s more ≡ Some t → Says t (bytes ++ more)
-says_from s t bytes [] h e = rw append-nil (let P : Stage → Type 0 = λ u. Says u bytes in subst P (let f : s ≡ t = cc in f) h)
-says_from s t bytes (byte ∷ more) h e =
-    let first = stage_from-first s t byte more e in
-    let P : List ℕ → Type 0 = λ b. Says t b in
-    subst P (append_assoc bytes (byte ∷ []) more) (says_from first.0 t (bytes ++ byte ∷ []) more (says_step s first.0 bytes byte h first.1) first.2)
+-- A header that comes to its end is whole, and says its length.
+pub IsHead-stage_from : (bytes : List ℕ) (s : Stage) (n : ℕ) → stage_from start bytes ≡ Some s → whole_length s ≡ Some n → IsHead bytes n
+IsHead-stage_from bytes s n e whole =
+    let comes = stage_places bytes start s e in
+    let at : s.place ≡ Whole n = length_at-Some s.place n whole in
+    let says : Says (Whole n) bytes = Says-places (Whole n) bytes (comes.places_are ∙ ap Some at) in
+    let room = comes.fits (omega arith) in
+    let size = comes.size in
+    record { lines = says.0; says = says.1; is = says.2; fits = omega arith }
 
 -- A header that has come to a stage short of its end goes on to a whole one.
 pub record HeadGoesOn (bytes : List ℕ) : Type 0 where
@@ -314,60 +144,66 @@ pub record HeadGoesOn (bytes : List ℕ) : Type 0 where
   pub some : 0 < length more
   pub head : IsHead (bytes ++ more) length_said
 
--- the end of a header behind digits
-ends : (digits : List ℕ) (value : ℕ) → IsNumeral 10 digits → length digits ≤ 8 → digits_value 10 digits ≡ value → value ≤ 16777216 → IsHead (label ++ (digits ++ blank_line)) value
-ends digits value numeral few valued bound = record { digits = digits; numeral = numeral; few = few; value = valued; bound = bound; is = refl }
-
--- a header that says 0
-zero_digit : IsHead (label ++ ((48 ∷ []) ++ blank_line)) 0
-zero_digit = ends (48 ∷ []) 0 (search rules) (omega arith) refl (omega arith)
-
--- what is left of a header makes it whole
-goes_on : (s : Stage) (bytes : List ℕ) → Says s bytes → whole_length s ≡ None → HeadGoesOn bytes
-goes_on (Label seen) bytes h e = record {
-  more = drop seen label ++ ((48 ∷ []) ++ blank_line);
-  length_said = 0;
-  some = rw length-append (omega arith);
-  head = let is : bytes ++ (drop seen label ++ ((48 ∷ []) ++ blank_line)) ≡ label ++ ((48 ∷ []) ++ blank_line) =
-      sym (append_assoc bytes (drop seen label) ((48 ∷ []) ++ blank_line))
-      ∙ ap (λ b. (b ++ drop seen label) ++ ((48 ∷ []) ++ blank_line)) h.1
-      ∙ ap (λ b. b ++ ((48 ∷ []) ++ blank_line)) (take-append-drop seen label) in
-      rw is zero_digit;
-}
-goes_on (Digits count value) bytes h e = digits_go_on h.digits count value bytes h refl
-  where
-    digits_go_on : (ds : List ℕ) (count value : ℕ) (bytes : List ℕ) (h : SaysDigits count value bytes) → h.digits ≡ ds → HeadGoesOn bytes
-    digits_go_on [] count value bytes h none = record {
-      more = (48 ∷ []) ++ blank_line;
-      length_said = 0;
-      some = omega arith;
-      head = let is : bytes ++ ((48 ∷ []) ++ blank_line) ≡ label ++ ((48 ∷ []) ++ blank_line) =
-          ap (λ b. b ++ ((48 ∷ []) ++ blank_line)) (h.is ∙ ap (λ b. label ++ b) none ∙ append-nil label) in
-          rw is zero_digit;
-    }
-    digits_go_on (d ∷ ds) count value bytes h some = record {
-      more = blank_line;
-      length_said = value;
-      some = omega arith;
-      head = let is : bytes ++ blank_line ≡ label ++ (h.digits ++ blank_line) = ap (λ b. b ++ blank_line) h.is ∙ append_assoc label h.digits blank_line in
-          rw is (ends h.digits value ((rw some (omega arith)), h.all) (let few = h.few in let counted = h.counted in omega arith) h.valued h.bound);
-    }
-goes_on (Ending seen value) bytes h e = record {
-  more = drop seen blank_line;
-  length_said = value;
-  some = rw length-drop (let short = h.short in omega arith);
-  head = let is : bytes ++ drop seen blank_line ≡ label ++ (h.digits ++ blank_line) =
-      ap (λ b. b ++ drop seen blank_line) h.is
-      ∙ append_assoc label (h.digits ++ take seen blank_line) (drop seen blank_line)
-      ∙ ap (λ b. label ++ b) (append_assoc h.digits (take seen blank_line) (drop seen blank_line) ∙ ap (λ b. h.digits ++ b) (take-append-drop seen blank_line)) in
-      rw is (ends h.digits value h.numeral h.few h.valued h.bound);
-}
-goes_on (Whole value) bytes h e = absurd cc
-
--- A header that comes to its end is whole, and says its length.
-pub IsHead-stage_from : (bytes : List ℕ) (n : ℕ) → stage_from (Label 0) bytes ≡ Some (Whole n) → IsHead bytes n
-IsHead-stage_from bytes n e = says_from (Label 0) (Whole n) [] bytes ((omega arith), refl) e
-
 -- A header that comes to another stage goes on to a whole one.
-pub HeadGoesOn-stage_from : (s : Stage) (bytes : List ℕ) → stage_from (Label 0) bytes ≡ Some s → whole_length s ≡ None → HeadGoesOn bytes
-HeadGoesOn-stage_from s bytes e short = goes_on s bytes (says_from (Label 0) s [] bytes ((omega arith), refl) e) short
+pub HeadGoesOn-stage_from : (s : Stage) (bytes : List ℕ) → stage_from start bytes ≡ Some s → whole_length s ≡ None → HeadGoesOn bytes
+HeadGoesOn-stage_from s bytes e short =
+    let comes = stage_places bytes start s e in
+    let says : Says s.place bytes = Says-places s.place bytes comes.places_are in
+    let rest = completed s.place bytes says short in
+    let some = need_some s.place bytes says short in
+    let room = comes.fits (omega arith) in
+    let size = comes.size in
+    let rest_size = rest.size in
+    let whole : places (Line None) (bytes ++ rest.more) ≡ Some (Whole rest.n) = places-then (Line None) s.place bytes rest.more comes.places_are ∙ rest.goes in
+    let lines : Says (Whole rest.n) (bytes ++ rest.more) = Says-places (Whole rest.n) (bytes ++ rest.more) whole in
+    record {
+      more = rest.more;
+      length_said = rest.n;
+      some = omega arith;
+      head = record { lines = lines.0; says = lines.1; is = lines.2; fits = omega (arith, length-append bytes rest.more) };
+    }
+
+-- What is wrong with a byte that does not go on from a stage.
+pub Departs-stage : (s : Stage) (bytes : List ℕ) (byte : ℕ) → stage_from start bytes ≡ Some s → Departs (departure_at s.place byte) (bytes ++ byte ∷ [])
+Departs-stage s bytes byte e =
+    let comes = stage_places bytes start s e in
+    Departs-at s.place bytes byte (Says-places s.place bytes comes.places_are) comes.places_are
+
+-- ---- the header that is written
+
+-- its line says the length, with one blank
+pub IsHead-written : (digits : List ℕ) (n : ℕ) → IsNumeral 10 digits → length digits ≤ 10 → digits_value 10 digits ≡ n → n ≤ 16777216 → IsHead (label ++ (digits ++ (line_end ++ line_end))) n
+unfolding label length_name is_name_byte is_blank
+IsHead-written digits n numeral few value bound =
+    let name : List ℕ = codes "Content-Length" in
+    let line : List ℕ = name ++ 58 ∷ ((32 ∷ []) ++ digits) in
+    let parts : label ++ (digits ++ (line_end ++ line_end)) ≡ ended (line ∷ []) ++ line_end =
+    sym (append_assoc label digits (line_end ++ line_end)) ∙ sym (append_assoc (label ++ digits) line_end line_end) ∙ ap (λ t. t ++ line_end) (sym (append-nil (line ++ line_end))) in
+    record {
+      lines = line ∷ [];
+      says = record {
+        before = [];
+        line = line;
+        behind = [];
+        others_before = All-nil IsOtherLine;
+        says = record {
+          name = name;
+          digits = digits;
+          field = record {
+            blanks = 32 ∷ [];
+            named = record { some = omega arith; all = AllPass-from_list_all is_name_byte name refl };
+            blank = AllPass-from_list_all is_blank (32 ∷ []) refl;
+            is = refl;
+          };
+          named = record { same = refl };
+          numeral = numeral;
+          few = few;
+          value = value;
+          bound = bound;
+        };
+        others_behind = All-nil IsOtherLine;
+        is = refl;
+      };
+      is = parts;
+      fits = omega (arith, length-append label (digits ++ (line_end ++ line_end)), length-append digits (line_end ++ line_end));
+    }

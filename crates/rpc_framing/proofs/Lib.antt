@@ -1,3 +1,10 @@
+pub mod Lists
+pub mod Lines
+pub mod Moves
+pub mod Says
+pub mod Runs
+pub mod Greatest
+pub mod Needs
 pub mod Heads
 pub mod FrameLaws
 pub mod Splitting

@@ -3,25 +3,30 @@ use Rattle.std.proofs.Common.{◌≡◌, ℕ, ◌+◌, ◌-◌, ◌<◌, ◌≤�
 use Rattle.std.proofs.lemmas.List.{append-nil, take_more, take-append-drop, take_all, length-take-le, drop-take, take_rest, map_push, map-append}
 use Rattle.std.specs.declared.alloc.Global.{Global}
 use Rattle.std.specs.Prelude.{Vec, MatchOption, option_and_then, option_map}
-use Rattle.rpc_framing.specs.Frames.{IsFrame, IsFrames, Splits, IsBadStart, Breaks}
+use Rattle.rpc_framing.specs.Faults.{Breaks, fault_at}
+use Rattle.rpc_framing.specs.Frames.{IsFrame, IsFrames, Splits}
+use Rattle.rpc_framing.specs.Places.{departure_at}
 use Rattle.rpc_framing.specs.Reading.{Reading, Stops, bodies_of}
-use Rattle.rpc_framing.specs.Stages.{stage_after, stage_from, whole_length}
+use Rattle.rpc_framing.specs.Stages.{start, stage_after, stage_from, whole_length}
 use Rattle.rpc_framing.specs.Steps.{Goes, Dies, IsShort, Stands, Brings, Spoils, Accepts}
+use Rattle.rpc_framing.specs.declared.fault.FrameFault.{FrameFault}
 use Rattle.rpc_framing.specs.declared.header.Stage.{Stage}
-use Rattle.rpc_framing.specs.declared.header.Stage.TheVariants.{Label, Whole}
-use Rattle.rpc_framing.proofs.Heads.{stage_from-then, stage_from-Whole, whole_length-Some}
+use Rattle.rpc_framing.specs.declared.place.Departure.{Departure}
+use Rattle.rpc_framing.specs.declared.unfinished.Astray.{Astray}
+use Rattle.rpc_framing.proofs.Heads.{stage_from-then, stage_from-whole}
 use Rattle.rpc_framing.proofs.FrameLaws.{IsFrames-one}
 use Rattle.rpc_framing.proofs.Splitting.{IsFrames-append, Splits-behind, Breaks-behind}
-use Rattle.rpc_framing.proofs.Standing.{IsPartial-Stands, parts_of, Stands-within, Splits-partial, IsFrame-whole, IsBadStart-Dies, Stands-nil}
+use Rattle.rpc_framing.proofs.Standing.{IsFault, IsPartial-Stands, parts_of, Stands-within, Splits-partial, IsFrame-whole, IsFault-Dies, Stands-nil}
 
-pub Breaks-IsBadStart : (stream : List ℕ) (at : ℕ) → IsBadStart stream at → Breaks stream [] at
-Breaks-IsBadStart stream at h = record { front = []; tail = stream; within = at; frames = refl; bad = h; is = refl; place = omega arith }
+-- A fault at the beginning of a stream.
+pub Breaks-IsFault : (stream : List ℕ) (departs : Departure) (at : ℕ) → IsFault stream departs at → Breaks stream [] departs at
+Breaks-IsFault stream departs at h = record { front = []; tail = stream; within = at; frames = refl; bad = h.bad; wrong = h.wrong; is = refl; place = omega arith }
 
 -- A piece with a byte that no frame goes on with is the first fault.
-pub Spoils-Dies : (stage : Stage) (header body piece : List ℕ) (count : ℕ) (ready : List (List ℕ)) → Stands stage header body → Dies stage piece count → Spoils (header ++ body) piece ready ready count
-Spoils-Dies stage header body piece count ready h dies = record {
+pub Spoils-Dies : (stage : Stage) (header body piece : List ℕ) (count : ℕ) (departs : Departure) (ready : List (List ℕ)) → Stands stage header body → Dies stage piece count departs → Spoils (header ++ body) piece ready ready departs count
+Spoils-Dies stage header body piece count departs ready h dies = record {
   fresh = [];
-  breaks = Breaks-IsBadStart ((header ++ body) ++ piece) (length (header ++ body) + count) (IsBadStart-Dies stage header body piece count h dies);
+  breaks = Breaks-IsFault ((header ++ body) ++ piece) departs (length (header ++ body) + count) (IsFault-Dies stage header body piece count departs h dies);
   ready = sym (append-nil ready);
 }
 
@@ -36,10 +41,8 @@ held_of stage next held bytes short goes = from_stage (whole_length stage) refl 
     from_stage : (o : Option ℕ) → whole_length stage ≡ o → MatchOption o (held ≡ 0) (λ says. held < says) → MatchOption (whole_length next) (held ≡ 0) (λ says. held ≤ says)
     from_stage None e none = from_next (whole_length next) none
     from_stage (Some n) e less =
-        let is : stage ≡ Whole n = whole_length-Some stage n e in
-        let from : stage_from (Whole n) bytes ≡ Some next = ap (λ s. stage_from s bytes) (sym is) ∙ goes.by in
-        let end : next ≡ Whole n = (stage_from-Whole n next bytes from).1 in
-        let said : whole_length next ≡ Some n = ap whole_length end in
+        let end : next ≡ stage = (stage_from-whole stage next n bytes e goes.by).1 in
+        let said : whole_length next ≡ Some n = ap whole_length end ∙ e in
         rw said (omega arith)
 
 -- So it is no more than a length that is said.
@@ -57,8 +60,8 @@ Goes-more start stage next piece i within goes e = record {
 }
 
 -- The first byte with which no header goes on.
-pub Dies-more : (start stage : Stage) (piece : List ℕ) (i : ℕ) → i < length piece → Goes start (take i piece) stage → None ≡ whole_length stage → None ≡ stage_after stage (get_or piece i 0) → Dies start piece (i + 1)
-Dies-more start stage piece i within goes short e =
+pub Dies-more : (start stage : Stage) (piece : List ℕ) (i : ℕ) (departs : Departure) → i < length piece → Goes start (take i piece) stage → None ≡ whole_length stage → None ≡ stage_after stage (get_or piece i 0) → departs ≡ departure_at stage.place (get_or piece i 0) → Dies start piece (i + 1) departs
+Dies-more start stage piece i departs within goes short e wrong =
     let same : i ≡ i + 1 - 1 = omega arith in
     record {
       last = stage;
@@ -69,6 +72,7 @@ Dies-more start stage piece i within goes short e =
       dead = ap (stage_from start) (take_more piece i 0 within)
           ∙ stage_from-then start stage (take i piece) (get_or piece i 0 ∷ []) goes.by
           ∙ ap (option_and_then (λ next. stage_from next [])) (sym e);
+      wrong = wrong ∙ ap (λ k. departure_at stage.place (get_or piece k 0)) same;
     }
 
 -- A piece that ends within the header, and one that goes to the end of the frame.
@@ -111,22 +115,24 @@ Brings-grown stage next now header body piece header_now body_now size ready h s
 }
 
 -- Frames at the beginning of a piece, and then less than a whole one, or a fault.
-pub Brings-ahead : (next now : Stage) (front left piece header_now body_now : List ℕ) (bodies : List (List ℕ)) (size : ℕ) → IsFrames front bodies → piece ≡ front ++ left → Stands now header_now body_now → Goes (Label 0) (take size left) next → header_now ≡ take size left → body_now ≡ drop size left → Brings [] piece [] bodies (header_now ++ body_now)
+pub Brings-ahead : (next now : Stage) (front left piece header_now body_now : List ℕ) (bodies : List (List ℕ)) (size : ℕ) → IsFrames front bodies → piece ≡ front ++ left → Stands now header_now body_now → Goes start (take size left) next → header_now ≡ take size left → body_now ≡ drop size left → Brings [] piece [] bodies (header_now ++ body_now)
 Brings-ahead next now front left piece header_now body_now bodies size h is s goes header_is body_is = record {
   fresh = bodies;
   splits = record {
     front = front;
     frames = h;
     partial = IsPartial-Stands now header_now body_now s;
-    is = is ∙ ap (λ t. front ++ t) (sym (parts-grown (Label 0) next [] [] left header_now body_now size Stands-nil goes header_is body_is));
+    is = is ∙ ap (λ t. front ++ t) (sym (parts-grown start next [] [] left header_now body_now size Stands-nil goes header_is body_is));
   };
   ready = refl;
 }
 
 -- Frames at the beginning of a piece, and then a fault.
-pub Spoils-ahead : (front left piece : List ℕ) (bodies : List (List ℕ)) (count : ℕ) → IsFrames front bodies → piece ≡ front ++ left → Dies (Label 0) left count → Spoils [] piece [] bodies (length piece - length left + count)
-Spoils-ahead front left piece bodies count h is dies =
+pub Spoils-ahead : (front left piece : List ℕ) (bodies : List (List ℕ)) (count : ℕ) (departs : Departure) → IsFrames front bodies → piece ≡ front ++ left → Dies start left count departs → Spoils [] piece [] bodies departs (length piece - length left + count)
+Spoils-ahead front left piece bodies count departs h is dies =
     let counted : length piece ≡ length front + length left = ap length is ∙ length-append front left in
+    let P : ℕ → Type 0 = λ n. IsFault left departs n in
+    let fault : IsFault left departs count = subst P (let e : 0 + count ≡ count = omega arith in e) (IsFault-Dies start [] [] left count departs Stands-nil dies) in
     record {
       fresh = bodies;
       breaks = record {
@@ -134,7 +140,8 @@ Spoils-ahead front left piece bodies count h is dies =
         tail = left;
         within = count;
         frames = h;
-        bad = (let P : ℕ → Type 0 = λ n. IsBadStart left n in subst P (let e : 0 + count ≡ count = omega arith in e) (IsBadStart-Dies (Label 0) [] [] left count Stands-nil dies));
+        bad = fault.bad;
+        wrong = fault.wrong;
         is = is;
         place = omega arith;
       };
@@ -142,9 +149,9 @@ Spoils-ahead front left piece bodies count h is dies =
     }
 
 -- One frame more at the beginning of a piece.
-pub IsFrames-ahead : (last : Stage) (front left piece : List ℕ) (bodies : List (List ℕ)) (size end : ℕ) → IsFrames front bodies → piece ≡ front ++ left → size ≤ end → end ≤ length left → Goes (Label 0) (take size left) last → whole_length last ≡ Some (0 + (end - size)) → IsFrames (front ++ take end left) (bodies ++ take (end - size) (drop size left) ∷ []) × (piece ≡ (front ++ take end left) ++ drop end left)
+pub IsFrames-ahead : (last : Stage) (front left piece : List ℕ) (bodies : List (List ℕ)) (size end : ℕ) → IsFrames front bodies → piece ≡ front ++ left → size ≤ end → end ≤ length left → Goes start (take size left) last → whole_length last ≡ Some (0 + (end - size)) → IsFrames (front ++ take end left) (bodies ++ take (end - size) (drop size left) ∷ []) × (piece ≡ (front ++ take end left) ++ drop end left)
 IsFrames-ahead last front left piece bodies size end h is order within goes says =
-    let whole : IsFrame (take end left) (drop size (take end left)) = IsFrame-whole (Label 0) last [] [] left size end Stands-nil order within goes says in
+    let whole : IsFrame (take end left) (drop size (take end left)) = IsFrame-whole start last [] [] left size end Stands-nil order within goes says in
     let ends : end ≡ size + (end - size) = omega arith in
     let same : drop size (take end left) ≡ take (end - size) (drop size left) = ap (λ k. drop size (take k left)) ends ∙ drop-take size (end - size) left in
     let P : List ℕ → Type 0 = λ t. IsFrame (take end left) t in (
@@ -163,19 +170,23 @@ bodies_of-joined before middle now fresh body bytes e is joined =
     ∙ ap (λ t. t ++ bodies_of fresh) (bodies_of-push before middle body bytes e is)
     ∙ append_assoc (bodies_of before) (bytes ∷ []) (bodies_of fresh)
 
+-- a fault so many bytes later
+abbrev pub later : ℕ → Astray → Astray
+later end astray = record { count = end + astray.count; departure = astray.departure }
+
 -- A piece that ends a frame, and what was read of the others behind it.
-pub Accepts-whole : (stage last : Stage) (header body piece : List ℕ) (size end held : ℕ) (before now fresh : List (List ℕ)) (new : List ℕ) (ahead fault : Option ℕ) → Stands stage header body → held ≡ length body → size ≤ end → end ≤ length piece → Goes stage (take size piece) last → whole_length last ≡ Some (held + (end - size)) → Accepts [] (take (length piece - end) (drop end piece)) [] fresh new ahead → fault ≡ option_map (λ count. end + count) ahead → now ≡ before ++ (body ++ drop size (take end piece)) ∷ fresh → Accepts (header ++ body) piece before now new fault
+pub Accepts-whole : (stage last : Stage) (header body piece : List ℕ) (size end held : ℕ) (before now fresh : List (List ℕ)) (new : List ℕ) (ahead fault : Option Astray) → Stands stage header body → held ≡ length body → size ≤ end → end ≤ length piece → Goes stage (take size piece) last → whole_length last ≡ Some (held + (end - size)) → Accepts [] (take (length piece - end) (drop end piece)) [] fresh new ahead → fault ≡ option_map (later end) ahead → now ≡ before ++ (body ++ drop size (take end piece)) ∷ fresh → Accepts (header ++ body) piece before now new fault
 Accepts-whole stage last header body piece size end held before now fresh new ahead fault h counted order within goes says read mapped ready =
     let P : ℕ → Type 0 = λ n. whole_length last ≡ Some (n + (end - size)) in
     let first : IsFrame ((header ++ body) ++ take end piece) (body ++ drop size (take end piece)) = IsFrame-whole stage last header body piece size end h order within goes (subst P counted says) in
-    let Q : Option ℕ → Type 0 = λ o. Accepts (header ++ body) piece before now new o in
+    let Q : Option Astray → Type 0 = λ o. Accepts (header ++ body) piece before now new o in
     let R : List ℕ → Type 0 = λ t. Accepts [] t [] fresh new ahead in
     subst Q (sym mapped) (go ahead first (subst R (take_rest piece end) read))
   where
     all : ((header ++ body) ++ take end piece) ++ drop end piece ≡ (header ++ body) ++ piece
     all = append_assoc (header ++ body) (take end piece) (drop end piece) ∙ ap (λ t. (header ++ body) ++ t) (take-append-drop end piece)
 
-    go : (o : Option ℕ) → IsFrame ((header ++ body) ++ take end piece) (body ++ drop size (take end piece)) → Accepts [] (drop end piece) [] fresh new o → Accepts (header ++ body) piece before now new (option_map (λ count. end + count) o)
+    go : (o : Option Astray) → IsFrame ((header ++ body) ++ take end piece) (body ++ drop size (take end piece)) → Accepts [] (drop end piece) [] fresh new o → Accepts (header ++ body) piece before now new (option_map (later end) o)
     go None first brings =
         let whole : List ℕ = body ++ drop size (take end piece) in
         let R : List ℕ → Type 0 = λ t. Splits t (whole ∷ brings.fresh) new in
@@ -184,29 +195,31 @@ Accepts-whole stage last header body piece size end held before now fresh new ah
           splits = subst R all (Splits-behind ((header ++ body) ++ take end piece) (whole ∷ []) brings.fresh (drop end piece) new (IsFrames-one ((header ++ body) ++ take end piece) whole first) brings.splits);
           ready = ready ∙ ap (λ t. before ++ whole ∷ t) brings.ready;
         }
-    go (Some count) first spoils =
+    go (Some astray) first spoils =
         let whole : List ℕ = body ++ drop size (take end piece) in
-        let R : List ℕ → Type 0 = λ t. Breaks t (whole ∷ spoils.fresh) (length (header ++ body) + (end + count)) in
-        let S : ℕ → Type 0 = λ n. Breaks (((header ++ body) ++ take end piece) ++ drop end piece) (whole ∷ spoils.fresh) n in
-        let place : length ((header ++ body) ++ take end piece) + (0 + count) ≡ length (header ++ body) + (end + count) = omega (arith, length-append (header ++ body) (take end piece), length-take-le end piece within) in
+        let R : List ℕ → Type 0 = λ t. Breaks t (whole ∷ spoils.fresh) astray.departure (length (header ++ body) + (end + astray.count)) in
+        let S : ℕ → Type 0 = λ n. Breaks (((header ++ body) ++ take end piece) ++ drop end piece) (whole ∷ spoils.fresh) astray.departure n in
+        let place : length ((header ++ body) ++ take end piece) + (0 + astray.count) ≡ length (header ++ body) + (end + astray.count) = omega (arith, length-append (header ++ body) (take end piece), length-take-le end piece within) in
         record {
           fresh = whole ∷ spoils.fresh;
-          breaks = subst R all (subst S place (Breaks-behind ((header ++ body) ++ take end piece) (whole ∷ []) spoils.fresh (drop end piece) (0 + count) (IsFrames-one ((header ++ body) ++ take end piece) whole first) spoils.breaks));
+          breaks = subst R all (subst S place (Breaks-behind ((header ++ body) ++ take end piece) (whole ∷ []) spoils.fresh (drop end piece) astray.departure (0 + astray.count) (IsFrames-one ((header ++ body) ++ take end piece) whole first) spoils.breaks));
           ready = ready ∙ ap (λ t. before ++ whole ∷ t) spoils.ready;
         }
 
 -- The first fault, as the reader shows it.
-pub Stops-Spoils : (old new : Reading) (rest piece : List ℕ) (now ready : List (List ℕ)) (fed count : ℕ) → Spoils rest piece now ready count → old.fault ≡ None → rest ≡ old.rest → now ≡ old.ready → fed ≡ old.fed → new.ready ≡ ready → new.fed ≡ fed + length piece → new.fault ≡ Some (fed + count) → Stops old new piece
-Stops-Spoils old new rest piece now ready fed count h sound rest_is ready_is fed_is ready_now fed_now fault =
-    let P : List ℕ → Type 0 = λ t. Breaks (t ++ piece) h.fresh (length t + count) in
+pub Stops-Spoils : (old new : Reading) (rest piece : List ℕ) (now ready : List (List ℕ)) (fed count : ℕ) (departs : Departure) (fault : FrameFault) → Spoils rest piece now ready departs count → old.fault ≡ None → rest ≡ old.rest → now ≡ old.ready → fed ≡ old.fed → new.ready ≡ ready → new.fed ≡ fed + length piece → fault ≡ fault_at departs (fed + count) → new.fault ≡ Some fault → Stops old new piece fault
+Stops-Spoils old new rest piece now ready fed count departs fault h sound rest_is ready_is fed_is ready_now fed_now says kept =
+    let P : List ℕ → Type 0 = λ t. Breaks (t ++ piece) h.fresh departs (length t + count) in
     record {
       fresh = h.fresh;
+      departs = departs;
       at = length old.rest + count;
       place = fed + count;
       breaks = subst P rest_is h.breaks;
       counted = omega arith;
+      says = says;
       ready = ready_now ∙ h.ready ∙ ap (λ t. t ++ h.fresh) ready_is;
       fed = fed_now ∙ ap (λ n. n + length piece) fed_is;
       sound = sound;
-      fault = fault;
+      kept = kept;
     }

@@ -1,10 +1,14 @@
 -- What the steps of a reader say of the whole stream, for callers.
-use Rattle.std.proofs.Common.{◌≡◌, ℕ, ◌+◌, ◌-◌, ◌<◌, ◌≤◌, ◌⊎◌, inl, inr, List, [], ◌∷◌, ◌++◌, length, take, Some, None, refl, sym, ◌∙◌, ap, subst, arith, append_assoc, length-append}
+use Rattle.std.proofs.Common.{◌≡◌, ℕ, ◌+◌, ◌-◌, ◌<◌, ◌≤◌, ◌⊎◌, inl, inr, List, [], ◌∷◌, ◌++◌, length, take, None, refl, sym, ◌∙◌, ap, subst, arith, append_assoc, length-append}
 use Rattle.std.proofs.lemmas.Bool.{cases_lt}
 use Rattle.std.proofs.lemmas.List.{append-nil, take-append-le, take_all, length-take-le, nil_from_length}
-use Rattle.rpc_framing.specs.Frames.{IsFrame, IsFrames, IsPartial, Splits, IsBadStart, Breaks}
+use Rattle.rpc_framing.specs.Faults.{Breaks, fault_at}
+use Rattle.rpc_framing.specs.Frames.{IsFrame, IsFrames, IsPartial, Splits, IsBadStart}
 use Rattle.rpc_framing.specs.Reading.{Reading, GoesOn, Stops, Waits}
-use Rattle.rpc_framing.proofs.FrameLaws.{nil_front, IsPartial-nil, IsPartial-no_frame, IsPartial-take, BeginsFrames-IsPartial, length-IsFrame, take-past}
+use Rattle.rpc_framing.specs.declared.fault.FrameFault.{FrameFault}
+use Rattle.rpc_framing.specs.declared.place.Departure.{Departure}
+use Rattle.rpc_framing.proofs.Lists.{nil_front, take-past}
+use Rattle.rpc_framing.proofs.FrameLaws.{IsPartial-nil, IsPartial-no_frame, IsPartial-take, BeginsFrames-IsPartial, length-IsFrame}
 use Rattle.rpc_framing.proofs.Splitting.{Splits-append, Breaks-Splits}
 
 -- A stream of which nothing has come.
@@ -41,15 +45,13 @@ HasRead-next old new stream body handed h e =
     record { splits = subst P (sym (append_assoc handed (body ∷ []) new.ready)) before.splits; fed = before.fed; sound = before.sound }
 
 -- A piece brought the first fault of the whole stream, at its place.
-pub Breaks-Stops : (old new : Reading) (stream piece : List ℕ) (handed : List (List ℕ)) (place : ℕ) → HasRead old stream handed → Stops old new piece → new.fault ≡ Some place → Breaks (stream ++ piece) (handed ++ new.ready) place
-Breaks-Stops old new stream piece handed place h stops fault =
-    let P : List (List ℕ) → Type 0 = λ t. Breaks (stream ++ piece) t place in
+pub Breaks-Stops : (old new : Reading) (stream piece : List ℕ) (handed : List (List ℕ)) (fault : FrameFault) → HasRead old stream handed → (stops : Stops old new piece fault) → Breaks (stream ++ piece) (handed ++ new.ready) stops.departs stops.place
+Breaks-Stops old new stream piece handed fault h stops =
+    let P : List (List ℕ) → Type 0 = λ t. Breaks (stream ++ piece) t stops.departs stops.place in
     let same : handed ++ old.ready ++ stops.fresh ≡ handed ++ new.ready = append_assoc handed old.ready stops.fresh ∙ ap (λ t. handed ++ t) (sym stops.ready) in
-    let here : Some stops.place ≡ Some place = sym stops.fault ∙ fault in
-    let is : stops.place ≡ place = cc in
     let counted = stops.counted in
     let fed = h.fed in
-    subst P same (Breaks-Splits stream (handed ++ old.ready) old.rest piece stops.fresh stops.at place h.splits stops.breaks (omega arith))
+    subst P same (Breaks-Splits stream (handed ++ old.ready) old.rest piece stops.fresh stops.departs stops.at stops.place h.splits stops.breaks (omega arith))
 
 -- What waits for n bytes more is less than a whole frame.
 pub IsPartial-Waits : (rest : List ℕ) (n : ℕ) → Waits rest n → IsPartial rest
@@ -107,8 +109,8 @@ Splits-Waits rest piece n fresh left w short h = go fresh h.front h.frames h.is
         inr (body, ap (λ t. body ∷ t) (IsFrames-nil bodies frames.1 frames.3 nothing.0), nothing.1, frame, enough body frame)
 
 -- A fault in such a piece is its last byte, and no body comes with it.
-pub Breaks-Waits : (rest piece : List ℕ) (n : ℕ) (fresh : List (List ℕ)) (at : ℕ) → Waits rest n → length piece ≤ n → Breaks (rest ++ piece) fresh at → (fresh ≡ []) × (at ≡ length rest + length piece)
-Breaks-Waits rest piece n fresh at w short h = go fresh h.front h.frames h.is h.place
+pub Breaks-Waits : (rest piece : List ℕ) (n : ℕ) (fresh : List (List ℕ)) (departs : Departure) (at : ℕ) → Waits rest n → length piece ≤ n → Breaks (rest ++ piece) fresh departs at → (fresh ≡ []) × (at ≡ length rest + length piece)
+Breaks-Waits rest piece n fresh departs at w short h = go fresh h.front h.frames h.is h.place
   where
     last : IsBadStart (rest ++ piece) h.within → h.within ≡ length rest + length piece
     last bad =
@@ -139,11 +141,11 @@ GoesOn-Waits old new piece n w short goes =
     ]
 
 -- A fault in such a piece is its last byte, as the reader shows it.
-pub Stops-Waits : (old new : Reading) (piece : List ℕ) (n : ℕ) → Waits old.rest n → length piece ≤ n → Stops old new piece → (new.ready ≡ old.ready) × (new.fault ≡ Some new.fed)
-Stops-Waits old new piece n w short stops =
-    let one = Breaks-Waits old.rest piece n stops.fresh stops.at w short stops.breaks in
+pub Stops-Waits : (old new : Reading) (piece : List ℕ) (fault : FrameFault) (n : ℕ) → Waits old.rest n → length piece ≤ n → (stops : Stops old new piece fault) → (new.ready ≡ old.ready) × (fault ≡ fault_at stops.departs new.fed)
+Stops-Waits old new piece fault n w short stops =
+    let one = Breaks-Waits old.rest piece n stops.fresh stops.departs stops.at w short stops.breaks in
     let counted = stops.counted in
     let at = one.1 in
     let fed = stops.fed in
     let place : stops.place ≡ new.fed = omega arith in
-    (stops.ready ∙ ap (λ t. old.ready ++ t) one.0 ∙ append-nil old.ready, stops.fault ∙ ap Some place)
+    (stops.ready ∙ ap (λ t. old.ready ++ t) one.0 ∙ append-nil old.ready, stops.says ∙ ap (fault_at stops.departs) place)

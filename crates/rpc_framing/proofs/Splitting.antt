@@ -1,8 +1,12 @@
 -- A stream is read in one way: as frames and less than a whole one, or as frames and a first fault.
 use Rattle.std.proofs.Common.{◌≡◌, ℕ, ◌+◌, ◌-◌, ◌<◌, List, [], ◌∷◌, ◌++◌, length, take, drop, refl, sym, ◌∙◌, ap, subst, arith, append_assoc, length-append}
 use Rattle.std.proofs.lemmas.List.{take-append-drop, take-append-le, take-take}
-use Rattle.rpc_framing.specs.Frames.{IsFrames, BeginsFrames, IsPartial, Splits, IsBadStart, Breaks}
-use Rattle.rpc_framing.proofs.FrameLaws.{IsFrame-unique, length-IsFrame, IsPartial-take, HasNoFrame, HasNoFrame-IsPartial, HasNoFrame-IsBadStart, IsBadStart-unique, BeginsFrames-front, BeginsFrames-IsPartial, take-past}
+use Rattle.rpc_framing.specs.Faults.{Departs, Breaks}
+use Rattle.rpc_framing.specs.Frames.{IsFrames, BeginsFrames, IsPartial, Splits, IsBadStart}
+use Rattle.rpc_framing.specs.declared.place.Departure.{Departure}
+use Rattle.rpc_framing.specs.declared.place.Departure.TheVariants.{BadHeader, TooLong}
+use Rattle.rpc_framing.proofs.Lists.{take-past}
+use Rattle.rpc_framing.proofs.FrameLaws.{IsFrame-unique, length-IsFrame, IsPartial-take, HasNoFrame, HasNoFrame-IsPartial, HasNoFrame-IsBadStart, IsBadStart-unique, BeginsFrames-front, BeginsFrames-IsPartial}
 
 -- Frames one behind the other, up to what begins with none, are read in one way.
 pub IsFrames-unique : (bodies others : List (List ℕ)) (f g x y : List ℕ) → IsFrames f bodies → IsFrames g others → HasNoFrame x → HasNoFrame y → f ++ x ≡ g ++ y → (bodies ≡ others) × (f ≡ g) × (x ≡ y)
@@ -24,22 +28,31 @@ Splits-unique stream bodies others rest left h k =
     (one.0, one.2)
 
 -- A stream with a fault has none.
-pub Splits-Breaks : (stream : List ℕ) (bodies others : List (List ℕ)) (rest : List ℕ) (at : ℕ) → Splits stream bodies rest → Breaks stream others at → ⊥
-Splits-Breaks stream bodies others rest at h k =
+pub Splits-Breaks : (stream : List ℕ) (bodies others : List (List ℕ)) (rest : List ℕ) (departs : Departure) (at : ℕ) → Splits stream bodies rest → Breaks stream others departs at → ⊥
+Splits-Breaks stream bodies others rest departs at h k =
     let one = IsFrames-unique bodies others h.front k.front rest k.tail h.frames k.frames (HasNoFrame-IsPartial rest h.partial) (HasNoFrame-IsBadStart k.tail k.within k.bad) (sym h.is ∙ k.is) in
     let P : List ℕ → Type 0 = λ t. BeginsFrames (take k.within t) in
     k.bad.bad (subst P one.2 (BeginsFrames-IsPartial (take k.within rest) (IsPartial-take k.within rest h.partial)))
 
+-- one departure
+Departs-unique : (a b : Departure) (bytes : List ℕ) → Departs a bytes → Departs b bytes → a ≡ b
+Departs-unique BadHeader BadHeader bytes h k = refl
+Departs-unique BadHeader TooLong bytes h k = absurd (h k)
+Departs-unique TooLong BadHeader bytes h k = absurd (k h)
+Departs-unique TooLong TooLong bytes h k = refl
+
 -- One first fault, and the same frames before it.
-pub Breaks-unique : (stream : List ℕ) (bodies others : List (List ℕ)) (at place : ℕ) → Breaks stream bodies at → Breaks stream others place → (bodies ≡ others) × (at ≡ place)
-Breaks-unique stream bodies others at place h k =
+pub Breaks-unique : (stream : List ℕ) (bodies others : List (List ℕ)) (departs differs : Departure) (at place : ℕ) → Breaks stream bodies departs at → Breaks stream others differs place → (bodies ≡ others) × (departs ≡ differs) × (at ≡ place)
+Breaks-unique stream bodies others departs differs at place h k =
     let one = IsFrames-unique bodies others h.front k.front h.tail k.tail h.frames k.frames (HasNoFrame-IsBadStart h.tail h.within h.bad) (HasNoFrame-IsBadStart k.tail k.within k.bad) (sym h.is ∙ k.is) in
     let P : List ℕ → Type 0 = λ t. IsBadStart t h.within in
     let same : h.within ≡ k.within = IsBadStart-unique k.tail h.within k.within (subst P one.2 h.bad) k.bad in
+    let bytes : take h.within h.tail ≡ take k.within k.tail = ap (take h.within) one.2 ∙ ap (λ n. take n k.tail) same in
+    let Q : List ℕ → Type 0 = λ t. Departs departs t in
     let fronts_same : length h.front ≡ length k.front = ap length one.1 in
     let first = h.place in
     let second = k.place in
-    (one.0, omega arith)
+    (one.0, Departs-unique departs differs (take k.within k.tail) (subst Q bytes h.wrong) k.wrong, omega arith)
 
 -- Frames behind frames.
 pub IsFrames-append : (bodies others : List (List ℕ)) (f g : List ℕ) → IsFrames f bodies → IsFrames g others → IsFrames (f ++ g) (bodies ++ others)
@@ -81,8 +94,8 @@ BeginsFrames-Splits stream bodies rest h =
     subst P (sym h.is) (BeginsFrames-append bodies h.front rest h.frames (BeginsFrames-IsPartial rest h.partial))
 
 -- At a first fault the bytes begin no sequence of frames ..
-pub Breaks-bad : (stream : List ℕ) (bodies : List (List ℕ)) (at : ℕ) → Breaks stream bodies at → BeginsFrames (take at stream) → ⊥
-Breaks-bad stream bodies at h b =
+pub Breaks-bad : (stream : List ℕ) (bodies : List (List ℕ)) (departs : Departure) (at : ℕ) → Breaks stream bodies departs at → BeginsFrames (take at stream) → ⊥
+Breaks-bad stream bodies departs at h b =
     let place = h.place in
     let front_is : take at stream ≡ h.front ++ take h.within h.tail =
     ap (take at) h.is ∙ take-past h.front h.tail at (omega arith) ∙ ap (λ k. h.front ++ take k h.tail) (let e : at - length h.front ≡ h.within = omega arith in e) in
@@ -90,8 +103,8 @@ Breaks-bad stream bodies at h b =
     h.bad.bad (BeginsFrames-cancel bodies h.front (take h.within h.tail) h.frames (subst P front_is b))
 
 -- .. and fewer of them do.
-pub Breaks-least : (stream : List ℕ) (bodies : List (List ℕ)) (at fewer : ℕ) → Breaks stream bodies at → fewer < at → BeginsFrames (take fewer stream)
-Breaks-least stream bodies at fewer h less =
+pub Breaks-least : (stream : List ℕ) (bodies : List (List ℕ)) (departs : Departure) (at fewer : ℕ) → Breaks stream bodies departs at → fewer < at → BeginsFrames (take fewer stream)
+Breaks-least stream bodies departs at fewer h less =
     let place = h.place in
     let some = h.bad.some in
     let before : take (at - 1) stream ≡ h.front ++ take (h.within - 1) h.tail =
@@ -124,13 +137,14 @@ Splits-behind f before bodies stream rest h s = record {
 }
 
 -- The same with a fault.
-pub Breaks-behind : (f : List ℕ) (before bodies : List (List ℕ)) (stream : List ℕ) (at : ℕ) → IsFrames f before → Breaks stream bodies at → Breaks (f ++ stream) (before ++ bodies) (length f + at)
-Breaks-behind f before bodies stream at h s = record {
+pub Breaks-behind : (f : List ℕ) (before bodies : List (List ℕ)) (stream : List ℕ) (departs : Departure) (at : ℕ) → IsFrames f before → Breaks stream bodies departs at → Breaks (f ++ stream) (before ++ bodies) departs (length f + at)
+Breaks-behind f before bodies stream departs at h s = record {
   front = f ++ s.front;
   tail = s.tail;
   within = s.within;
   frames = IsFrames-append before bodies f s.front h s.frames;
   bad = s.bad;
+  wrong = s.wrong;
   is = ap (λ t. f ++ t) s.is ∙ sym (append_assoc f s.front s.tail);
   place = (let place = s.place in omega (arith, length-append f s.front));
 }
@@ -142,22 +156,26 @@ Splits-append stream bodies rest piece fresh left h k =
     subst P (sym (ap (λ t. t ++ piece) h.is ∙ append_assoc h.front rest piece)) (Splits-behind h.front bodies fresh (rest ++ piece) left h.frames k)
 
 -- Or it has its first fault there.
-pub Breaks-Splits : (stream : List ℕ) (bodies : List (List ℕ)) (rest piece : List ℕ) (fresh : List (List ℕ)) (at place : ℕ) → Splits stream bodies rest → Breaks (rest ++ piece) fresh at → place + length rest ≡ length stream + at → Breaks (stream ++ piece) (bodies ++ fresh) place
-Breaks-Splits stream bodies rest piece fresh at place h k counted =
+pub Breaks-Splits : (stream : List ℕ) (bodies : List (List ℕ)) (rest piece : List ℕ) (fresh : List (List ℕ)) (departs : Departure) (at place : ℕ) → Splits stream bodies rest → Breaks (rest ++ piece) fresh departs at → place + length rest ≡ length stream + at → Breaks (stream ++ piece) (bodies ++ fresh) departs place
+Breaks-Splits stream bodies rest piece fresh departs at place h k counted =
     let is : length stream ≡ length h.front + length rest = ap length h.is ∙ length-append h.front rest in
     let same : length h.front + at ≡ place = omega arith in
-    let P : List ℕ → Type 0 = λ t. Breaks t (bodies ++ fresh) place in
-    let Q : ℕ → Type 0 = λ n. Breaks (h.front ++ (rest ++ piece)) (bodies ++ fresh) n in
-    subst P (sym (ap (λ t. t ++ piece) h.is ∙ append_assoc h.front rest piece)) (subst Q same (Breaks-behind h.front bodies fresh (rest ++ piece) at h.frames k))
+    let P : List ℕ → Type 0 = λ t. Breaks t (bodies ++ fresh) departs place in
+    let Q : ℕ → Type 0 = λ n. Breaks (h.front ++ (rest ++ piece)) (bodies ++ fresh) departs n in
+    subst P (sym (ap (λ t. t ++ piece) h.is ∙ append_assoc h.front rest piece)) (subst Q same (Breaks-behind h.front bodies fresh (rest ++ piece) departs at h.frames k))
 
 -- A fault stays the first, whatever follows.
-pub Breaks-append : (stream : List ℕ) (bodies : List (List ℕ)) (at : ℕ) (more : List ℕ) → Breaks stream bodies at → Breaks (stream ++ more) bodies at
-Breaks-append stream bodies at more h = record {
-  front = h.front;
-  tail = h.tail ++ more;
-  within = h.within;
-  frames = h.frames;
-  bad = IsBadStart-append h.tail more h.within h.bad;
-  is = ap (λ t. t ++ more) h.is ∙ append_assoc h.front h.tail more;
-  place = h.place;
-}
+pub Breaks-append : (stream : List ℕ) (bodies : List (List ℕ)) (departs : Departure) (at : ℕ) (more : List ℕ) → Breaks stream bodies departs at → Breaks (stream ++ more) bodies departs at
+Breaks-append stream bodies departs at more h =
+    let bad = h.bad in
+    let P : List ℕ → Type 0 = λ t. Departs departs t in
+    record {
+      front = h.front;
+      tail = h.tail ++ more;
+      within = h.within;
+      frames = h.frames;
+      bad = IsBadStart-append h.tail more h.within h.bad;
+      wrong = subst P (sym (take-append-le h.within h.tail more bad.within)) h.wrong;
+      is = ap (λ t. t ++ more) h.is ∙ append_assoc h.front h.tail more;
+      place = h.place;
+    }

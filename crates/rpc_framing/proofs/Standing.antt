@@ -1,29 +1,42 @@
 -- A frame that is not yet whole, by the stage of its header: what it is, and what more bytes make of it.
 use Rattle.std.proofs.Common.{◌≡◌, ℕ, ◌+◌, ◌-◌, ◌<◌, ◌≤◌, inl, inr, List, [], ◌∷◌, ◌++◌, length, take, drop, get_or, Option, Some, None, refl, sym, ◌∙◌, ap, subst, arith, append_assoc, length-append}
-use Rattle.std.proofs.lemmas.List.{append-nil, take_more, take-append-drop, take-take, length-take-le, length-drop, nil_from_length}
+use Rattle.std.proofs.lemmas.List.{append-nil, take_more, take-append-drop, take-append-le, take-take, length-take-le, length-drop, nil_from_length}
 use Rattle.std.specs.Prelude.{MatchOption, option_map, unwrap_or}
+use Rattle.rpc_framing.specs.Faults.{Departs}
 use Rattle.rpc_framing.specs.Frames.{IsHead, IsFrame, BeginsFrames, IsPartial, Splits, IsBadStart}
 use Rattle.rpc_framing.specs.Reading.{Misses, IsWanted, Waits}
-use Rattle.rpc_framing.specs.Stages.{stage_from, whole_length}
+use Rattle.rpc_framing.specs.Stages.{start, stage_from, whole_length}
 use Rattle.rpc_framing.specs.Steps.{Goes, Dies, IsShort, Stands}
 use Rattle.rpc_framing.specs.declared.header.Stage.{Stage}
-use Rattle.rpc_framing.specs.declared.header.Stage.TheVariants.{Label, Whole}
-use Rattle.rpc_framing.proofs.Heads.{stage_from-then, stage_from-Whole, stage_from-IsHead, whole_length-Some, IsHead-stage_from, HeadGoesOn-stage_from}
-use Rattle.rpc_framing.proofs.FrameLaws.{IsPartial-IsHead, IsPartial-HeadGoesOn, dead_begins_nothing, take-past}
+use Rattle.rpc_framing.specs.declared.place.Departure.{Departure}
+use Rattle.rpc_framing.proofs.Lists.{take-past}
+use Rattle.rpc_framing.proofs.Heads.{stage_from-then, stage_from-whole, stage_from-IsHead, IsHead-stage_from, HeadGoesOn-stage_from, Departs-stage}
+use Rattle.rpc_framing.proofs.FrameLaws.{IsPartial-IsHead, IsPartial-HeadGoesOn, dead_begins_nothing}
+use Rattle.rpc_framing.proofs.Splitting.{IsBadStart-append}
 
 -- A frame that is not yet whole stands in its header, or in its body.
-pub data Place (stage : Stage) (header body : List ℕ) : Type 0 where
-  in_header : whole_length stage ≡ None → body ≡ [] → Place stage header body
-  in_body : (says : ℕ) → stage ≡ Whole says → IsHead header says → length body < says → Place stage header body
+pub data Whereabouts (stage : Stage) (header body : List ℕ) : Type 0 where
+  in_header : whole_length stage ≡ None → body ≡ [] → Whereabouts stage header body
+  in_body : (says : ℕ) → whole_length stage ≡ Some says → IsHead header says → length body < says → Whereabouts stage header body
 
-pub place_of : (stage : Stage) (header body : List ℕ) → Stands stage header body → Place stage header body
+pub place_of : (stage : Stage) (header body : List ℕ) → Stands stage header body → Whereabouts stage header body
 place_of stage header body h = go (whole_length stage) refl h.short
   where
-    go : (o : Option ℕ) → whole_length stage ≡ o → MatchOption o (length body ≡ 0) (λ says. length body < says) → Place stage header body
+    go : (o : Option ℕ) → whole_length stage ≡ o → MatchOption o (length body ≡ 0) (λ says. length body < says) → Whereabouts stage header body
     go None e short = in_header e (nil_from_length body short)
-    go (Some n) e short =
-        let is : stage ≡ Whole n = whole_length-Some stage n e in
-        in_body n is (IsHead-stage_from header n (h.goes.by ∙ ap Some is)) short
+    go (Some n) e short = let goes = h.goes in in_body n e (IsHead-stage_from header stage n goes.by e) short
+
+-- where a frame begins no other, and what is wrong there
+pub record IsFault (bytes : List ℕ) (departs : Departure) (at : ℕ) : Type 0 where
+  pub bad : IsBadStart bytes at
+  pub wrong : Departs departs (take at bytes)
+
+-- it stays, whatever follows
+pub IsFault-append : (x y : List ℕ) (departs : Departure) (at : ℕ) → IsFault x departs at → IsFault (x ++ y) departs at
+IsFault-append x y departs at h =
+    let bad = h.bad in
+    let P : List ℕ → Type 0 = λ t. Departs departs t in
+    record { bad = IsBadStart-append x y at h.bad; wrong = subst P (sym (take-append-le at x y bad.within)) h.wrong }
 
 -- It is less than a whole frame.
 pub IsPartial-Stands : (stage : Stage) (header body : List ℕ) → Stands stage header body → IsPartial (header ++ body)
@@ -45,8 +58,7 @@ parts_of stage next header body piece size h goes =
           ∙ ap (λ t. header ++ t) (take-append-drop size piece)
           ∙ ap (λ t. t ++ piece) (sym (ap (λ t. header ++ t) none ∙ append-nil header))
       | in_body says is head less ↦
-          let from : stage_from (Whole says) (take size piece) ≡ Some next = ap (λ s. stage_from s (take size piece)) (sym is) ∙ goes.by in
-          let nothing : take size piece ≡ [] = (stage_from-Whole says next (take size piece) from).0 in
+          let nothing : take size piece ≡ [] = (stage_from-whole stage next says (take size piece) is goes.by).0 in
           let all : drop size piece ≡ piece = ap (λ t. t ++ drop size piece) (sym nothing) ∙ take-append-drop size piece in
           ap (λ t. (header ++ t) ++ (body ++ drop size piece)) nothing
           ∙ ap (λ t. t ++ (body ++ drop size piece)) (append-nil header)
@@ -60,7 +72,7 @@ Stands-within stage next header body piece size h goes short =
     let held : length body + (length piece - size) ≡ length (body ++ drop size piece) = omega (arith, length-append body (drop size piece), length-drop size piece) in
     let P : ℕ → Type 0 = λ n. IsShort next n in
     record {
-      goes = record { by = stage_from-then (Label 0) stage header (take size piece) h.goes.by ∙ goes.by };
+      goes = record { by = stage_from-then start stage header (take size piece) h.goes.by ∙ goes.by };
       short = subst P held short;
     }
 
@@ -74,52 +86,56 @@ IsFrame-whole stage last header body piece size end h order within goes says =
     let same : take size (take end piece) ≡ take size piece = take-take size end piece order in
     let P : List ℕ → Type 0 = λ t. Goes stage t last in
     let by : Goes stage (take size (take end piece)) last = subst P (sym same) goes in
-    let is : last ≡ Whole (length body + (end - size)) = whole_length-Some last (length body + (end - size)) says in
     let head : IsHead (header ++ take size (take end piece)) (length body + (end - size)) =
-    IsHead-stage_from (header ++ take size (take end piece)) (length body + (end - size))
-    (stage_from-then (Label 0) stage header (take size (take end piece)) h.goes.by ∙ by.by ∙ ap Some is) in
+    IsHead-stage_from (header ++ take size (take end piece)) last (length body + (end - size))
+    (stage_from-then start stage header (take size (take end piece)) h.goes.by ∙ by.by) says in
     let held : length body + (end - size) ≡ length (body ++ drop size (take end piece)) =
     omega (arith, length-append body (drop size (take end piece)), length-drop size (take end piece), length-take-le end piece within) in
     let Q : ℕ → Type 0 = λ n. IsHead (header ++ take size (take end piece)) n in
     record { head = header ++ take size (take end piece); says = subst Q held head; is = sym (parts_of stage last header body (take end piece) size h by) }
 
 -- A piece with a byte that no frame goes on with.
-pub IsBadStart-Dies : (stage : Stage) (header body piece : List ℕ) (count : ℕ) → Stands stage header body → Dies stage piece count → IsBadStart ((header ++ body) ++ piece) (length (header ++ body) + count)
-IsBadStart-Dies stage header body piece count h dies =
+pub IsFault-Dies : (stage : Stage) (header body piece : List ℕ) (count : ℕ) (departs : Departure) → Stands stage header body → Dies stage piece count departs → IsFault ((header ++ body) ++ piece) departs (length (header ++ body) + count)
+IsFault-Dies stage header body piece count departs h dies =
     elim (place_of stage header body h) [
       | in_header short none ↦
-          let P : List ℕ → Type 0 = λ t. IsBadStart (t ++ piece) (length t + count) in
-          subst P (sym (ap (λ t. header ++ t) none ∙ append-nil header)) (in_a_header stage header piece count h.goes.by dies)
+          let P : List ℕ → Type 0 = λ t. IsFault (t ++ piece) departs (length t + count) in
+          let goes = h.goes in
+          subst P (sym (ap (λ t. header ++ t) none ∙ append-nil header)) (in_a_header stage header piece count goes.by dies)
       | in_body says is head less ↦
-          let alive : stage_from (Whole says) (take (count - 1) piece) ≡ Some dies.last = ap (λ s. stage_from s (take (count - 1) piece)) (sym is) ∙ dies.alive in
-          let end : dies.last ≡ Whole says = (stage_from-Whole says dies.last (take (count - 1) piece) alive).1 in
-          let none : Some says ≡ None = ap whole_length (sym end) ∙ dies.unfinished in
+          let end : dies.last ≡ stage = (stage_from-whole stage dies.last says (take (count - 1) piece) is dies.alive).1 in
+          let none : Some says ≡ None = sym is ∙ ap whole_length (sym end) ∙ dies.unfinished in
           absurd cc
     ]
   where
-    in_a_header : (stage : Stage) (header piece : List ℕ) (count : ℕ) → stage_from (Label 0) header ≡ Some stage → Dies stage piece count → IsBadStart (header ++ piece) (length header + count)
+    in_a_header : (stage : Stage) (header piece : List ℕ) (count : ℕ) → stage_from start header ≡ Some stage → Dies stage piece count departs → IsFault (header ++ piece) departs (length header + count)
     in_a_header stage header piece count goes d =
         let some = d.some in
         let within = d.within in
         let byte : ℕ = get_or piece (count - 1) 0 in
         let front : List ℕ = header ++ take (count - 1) piece in
-        let alive : stage_from (Label 0) front ≡ Some d.last = stage_from-then (Label 0) stage header (take (count - 1) piece) goes ∙ d.alive in
+        let alive : stage_from start front ≡ Some d.last = stage_from-then start stage header (take (count - 1) piece) goes ∙ d.alive in
         let counts : count - 1 + 1 ≡ count = omega arith in
         let more : take count piece ≡ take (count - 1) piece ++ byte ∷ [] = ap (λ k. take k piece) (sym counts) ∙ take_more piece (count - 1) 0 (omega arith) in
         let whole : header ++ take count piece ≡ front ++ byte ∷ [] = ap (λ t. header ++ t) more ∙ sym (append_assoc header (take (count - 1) piece) (byte ∷ [])) in
-        let dead : stage_from (Label 0) (front ++ byte ∷ []) ≡ None =
-        ap (stage_from (Label 0)) (sym whole) ∙ stage_from-then (Label 0) stage header (take count piece) goes ∙ d.dead in
+        let dead : stage_from start (front ++ byte ∷ []) ≡ None =
+        ap (stage_from start) (sym whole) ∙ stage_from-then start stage header (take count piece) goes ∙ d.dead in
         let past : take (length header + count) (header ++ piece) ≡ front ++ byte ∷ [] =
         take-past header piece (length header + count) (omega arith) ∙ ap (λ k. header ++ take k piece) (let e : length header + count - length header ≡ count = omega arith in e) ∙ whole in
         let before : take (length header + count - 1) (header ++ piece) ≡ front =
         take-past header piece (length header + count - 1) (omega arith) ∙ ap (λ k. header ++ take k piece) (let e : length header + count - 1 - length header ≡ count - 1 = omega arith in e) in
         let P : List ℕ → Type 0 = λ t. BeginsFrames t in
         let Q : List ℕ → Type 0 = λ t. IsPartial t in
+        let R : List ℕ → Type 0 = λ t. Departs departs t in
+        let S : Departure → Type 0 = λ wrong. Departs wrong (front ++ byte ∷ []) in
         record {
-          some = omega arith;
-          within = omega (arith, length-append header piece);
-          bad = (λ b. dead_begins_nothing front byte d.last alive d.unfinished dead (subst P past b));
-          partial = subst Q (sym before) (IsPartial-HeadGoesOn front (HeadGoesOn-stage_from d.last front alive d.unfinished));
+          bad = record {
+            some = omega arith;
+            within = omega (arith, length-append header piece);
+            bad = (λ b. dead_begins_nothing front byte d.last alive d.unfinished dead (subst P past b));
+            partial = subst Q (sym before) (IsPartial-HeadGoesOn front (HeadGoesOn-stage_from d.last front alive d.unfinished));
+          };
+          wrong = subst R (sym past) (subst S (sym d.wrong) (Departs-stage d.last front byte alive));
         }
 
 -- How many bytes are missing.
@@ -138,8 +154,7 @@ Waits-Stands stage header body n h wanted =
             },
           )
       | in_body says is head less ↦
-          let said : whole_length stage ≡ Some says = ap whole_length is in
-          let counted : n ≡ says - length body = (let P : Option ℕ → Type 0 = λ o. MatchOption o (n ≡ 1) (λ says. n ≡ says - length body) in subst P said wanted) in
+          let counted : n ≡ says - length body = (let P : Option ℕ → Type 0 = λ o. MatchOption o (n ≡ 1) (λ says. n ≡ says - length body) in subst P is wanted) in
           let all : says ≡ length body + n = omega arith in (
             inl (record { head = header; body = body; some = omega arith; says = (let P : ℕ → Type 0 = λ k. IsHead header k in subst P all head); is = refl }),
             record {
@@ -152,15 +167,16 @@ Waits-Stands stage header body n h wanted =
   where
     in_no_body : (stage : Stage) (header body : List ℕ) → Stands stage header body → whole_length stage ≡ None → header ++ body ≡ header → (missing : ℕ) → Misses (header ++ body) missing → ⊥
     in_no_body stage header body h short bytes missing m =
-        let whole : stage_from (Label 0) m.head ≡ Some (Whole (length m.body + missing)) = stage_from-IsHead m.head (length m.body + missing) m.says in
-        let behind : stage_from (Whole (length m.body + missing)) m.body ≡ Some stage =
-        sym (stage_from-then (Label 0) (Whole (length m.body + missing)) m.head m.body whole) ∙ ap (stage_from (Label 0)) (sym m.is ∙ bytes) ∙ h.goes.by in
-        let is : stage ≡ Whole (length m.body + missing) = (stage_from-Whole (length m.body + missing) stage m.body behind).1 in
-        let none : Some (length m.body + missing) ≡ None = ap whole_length (sym is) ∙ short in
+        let whole = stage_from-IsHead m.head (length m.body + missing) m.says in
+        let goes = h.goes in
+        let behind : stage_from whole.0 m.body ≡ Some stage =
+        sym (stage_from-then start whole.0 m.head m.body whole.1) ∙ ap (stage_from start) (sym m.is ∙ bytes) ∙ goes.by in
+        let is : stage ≡ whole.0 = (stage_from-whole whole.0 stage (length m.body + missing) m.body whole.2 behind).1 in
+        let none : Some (length m.body + missing) ≡ None = sym whole.2 ∙ ap whole_length (sym is) ∙ short in
         cc
 
 -- A header with nothing of a body.
-pub Stands-header : (stage : Stage) (header : List ℕ) → stage_from (Label 0) header ≡ Some stage → IsShort stage 0 → Stands stage header []
+pub Stands-header : (stage : Stage) (header : List ℕ) → stage_from start header ≡ Some stage → IsShort stage 0 → Stands stage header []
 Stands-header stage header goes short = record { goes = record { by = goes }; short = short }
 
 -- Nothing of a body is short where a length of 0 was not yet said.
@@ -169,8 +185,8 @@ IsShort-nil stage None e h = rw e refl
 IsShort-nil stage (Some n) e h = rw e h
 
 -- Nothing of a frame.
-pub Stands-nil : Stands (Label 0) [] []
-Stands-nil = Stands-header (Label 0) [] refl (IsShort-nil (Label 0) None refl tt)
+pub Stands-nil : Stands start [] []
+Stands-nil = Stands-header start [] refl (IsShort-nil start None refl tt)
 
 -- How many bytes are wanted.
 pub Waits-wanted : (stage : Stage) (header body : List ℕ) (n : ℕ) → Stands stage header body → n ≡ unwrap_or (option_map (λ says. says - length body) (whole_length stage)) 1 → IsWanted (header ++ body) n × Waits (header ++ body) n

@@ -1,15 +1,18 @@
 -- What a reader of frames holds, and how a piece of the stream moves it (this project).
 use Rattle.std.specs.Prelude.{◌≡◌, ℕ, ◌+◌, ◌<◌, ◌⊎◌, List, ◌++◌, length, Option, Some, None, map, Vec}
 use Rattle.std.specs.declared.alloc.Global.{Global}
-use Rattle.rpc_framing.specs.Frames.{IsHead, IsPartial, Splits, Breaks}
+use Rattle.rpc_framing.specs.Faults.{Breaks, fault_at}
+use Rattle.rpc_framing.specs.Frames.{IsHead, IsPartial, Splits}
+use Rattle.rpc_framing.specs.declared.fault.FrameFault.{FrameFault}
+use Rattle.rpc_framing.specs.declared.place.Departure.{Departure}
 
--- The bodies that wait, what has come of the next frame, how many bytes were fed, and after a fault its place: the
--- number of bytes, over all that were fed, up to the first with which they begin no sequence of frames.
+-- The bodies that wait, what has come of the next frame, how many bytes were fed, and the fault, if one was met. Its
+-- place is the number of bytes, over all that were fed, up to the first with which they begin no sequence of frames.
 pub record Reading : Type 0 where
   pub ready : List (List ℕ)
   pub rest : List ℕ
   pub fed : ℕ
-  pub fault : Option ℕ
+  pub fault : Option FrameFault
 
 -- the bytes of bodies as they lie in memory
 abbrev pub bodies_of : List (Vec ℕ Global) → List (List ℕ)
@@ -25,17 +28,19 @@ pub record GoesOn (old new : Reading) (piece : List ℕ) : Type 0 where
   pub still_sound : new.fault ≡ None
 
 -- A piece brought the first fault, and the bodies before it wait behind the others. `at` counts from the beginning of
--- the frame that was not yet whole, and `place` from the first byte that was ever fed.
-pub record Stops (old new : Reading) (piece : List ℕ) : Type 0 where
+-- the frame that was not yet whole, and `place`, which the fault says, from the first byte that was ever fed.
+pub record Stops (old new : Reading) (piece : List ℕ) (fault : FrameFault) : Type 0 where
   pub fresh : List (List ℕ)
+  pub departs : Departure
   pub at : ℕ
   pub place : ℕ
-  pub breaks : Breaks (old.rest ++ piece) fresh at
+  pub breaks : Breaks (old.rest ++ piece) fresh departs at
   pub counted : place + length old.rest ≡ old.fed + at
+  pub says : fault ≡ fault_at departs place
   pub ready : new.ready ≡ old.ready ++ fresh
   pub fed : new.fed ≡ old.fed + length piece
   pub sound : old.fault ≡ None
-  pub fault : new.fault ≡ Some place
+  pub kept : new.fault ≡ Some fault
 
 -- The header of a frame is whole, and this many bytes of its body are missing.
 pub record Misses (rest : List ℕ) (missing : ℕ) : Type 0 where

@@ -10,11 +10,13 @@
 mod fault;
 mod header;
 pub mod laws;
+mod place;
 mod reader;
 mod unfinished;
 mod writer;
 
 pub use fault::FrameFault;
+pub use place::Departure;
 pub use reader::FrameReader;
 pub use writer::write_frame;
 

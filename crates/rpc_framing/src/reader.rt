@@ -1,5 +1,5 @@
 //! The frames of a stream that comes in pieces.
-ghost use Rattle.std.specs.Prelude.{◌≡◌, ◌+◌, ◌^◌, ◌<◌, ◌∷◌, [], length, None, OnOk, OnErr, IfSome, IfNone, IsSome, IsErrOf};
+ghost use Rattle.std.specs.Prelude.{◌≡◌, ◌≢◌, ◌+◌, ◌^◌, ◌<◌, ◌∷◌, [], length, None, OnOk, IfSome, IfNone, IfErr, IsSome, IsErrOf};
 ghost use Rattle.rpc_framing.specs.Reading.{GoesOn, Stops, IsWanted, Waits};
 
 use crate::FrameFault;
@@ -9,13 +9,13 @@ use std::collections::VecDeque;
 use std::marker::Model;
 
 /// Reads the frames of a stream, in whatever pieces it comes. Contracts see the bodies that wait, what has come of the
-/// next frame, the number of bytes fed, and the place of the first fault.
+/// next frame, the number of bytes fed, and the first fault.
 #[derive(Drop)]
 pub struct FrameReader {
     ready: VecDeque<Vec<u8>>,
     rest: Unfinished,
     fed: u64,
-    fault: Option<u64>,
+    fault: Option<FrameFault>,
 }
 
 impl Model for FrameReader {
@@ -69,8 +69,8 @@ impl FrameReader {
         self.fed
     }
 
-    /// The number of bytes, over all pieces, up to the first with which they begin no sequence of frames.
-    pub fn fault(&self) -> Option<u64>
+    /// The first fault, if there was one.
+    pub fn fault(&self) -> Option<FrameFault>
         ensures { result ≡ self.now.fault }
     {
         self.fault
@@ -81,22 +81,24 @@ impl FrameReader {
     pub fn feed(&mut self, alloc: Global, piece: &[u8]) -> Result<(), FrameFault>
         requires room { self.old.fed + length piece.now < 2 ^ 64 }
         ensures ok { OnOk result (GoesOn self.old self.new piece.now) }
-        ensures stops { IsErrOf result FrameFault.NotBuilt → self.old.fault ≡ None → Stops self.old self.new piece.now }
-        // After a fault each piece is refused.
-        ensures stays { IsSome self.old.fault → IsErrOf result FrameFault.NotBuilt × (self.new ≡ self.old) }
+        ensures stops { IfErr result (λ fault. fault ≢ FrameFault.OutOfMemory → self.old.fault ≡ None
+            → Stops self.old self.new piece.now fault) }
+        // After a fault each piece is refused for it.
+        ensures stays { IfSome self.old.fault (λ fault. IsErrOf result fault × (self.new ≡ self.old)) }
         ensures memory { IsErrOf result FrameFault.OutOfMemory → self.new ≡ self.old }
     {
-        if self.fault.is_some() {
-            return Err(FrameFault::NotBuilt);
+        if let Some(fault) = self.fault {
+            return Err(fault);
         }
         let before = self.fed;
         let fault = accept(alloc, &mut self.rest, &mut self.ready, piece)?;
         self.fed = before + piece.len() as u64;
         match fault {
             None => Ok(()),
-            Some(count) => {
-                self.fault = Some(before + count as u64);
-                Err(FrameFault::NotBuilt)
+            Some(astray) => {
+                let fault = FrameFault::of(astray.departure, before + astray.count as u64);
+                self.fault = Some(fault);
+                Err(fault)
             }
         }
     }

@@ -5,6 +5,7 @@ ghost use Rattle.rpc_framing.specs.Stages.{whole_length};
 ghost use Rattle.rpc_framing.specs.Steps.{Reaches, IsShort, Stands, Accepts};
 
 use crate::header::{Headway, Stage, follow_header};
+use crate::place::Departure;
 use hl_base::OutOfMemory;
 use std::alloc::Global;
 use std::collections::VecDeque;
@@ -28,7 +29,17 @@ pub(crate) enum Reach {
     Whole(usize, usize),
 
     /// With so many bytes of the piece no frame begins so.
-    Dead(usize),
+    Dead(usize, Departure),
+}
+
+/// The first fault in a piece.
+#[derive(Clone, Copy)]
+pub(crate) struct Astray {
+    /// The number of the piece's bytes up to it.
+    pub(crate) count: usize,
+
+    /// What is wrong with the last of them.
+    pub(crate) departure: Departure,
 }
 
 /// How far a piece takes a frame whose header stands at a stage, and of whose body `held` bytes have come.
@@ -38,11 +49,11 @@ fn how_far(stage: Stage, held: usize, piece: &[u8]) -> Reach
 {
     match follow_header(stage, piece) {
         Headway::Open(next) => Reach::Within(piece.len(), next),
-        Headway::Dead(count) => Reach::Dead(count),
-        Headway::Whole(size, length) => {
+        Headway::Dead(count, departure) => Reach::Dead(count, departure),
+        Headway::Whole(size, length, last) => {
             let missing = length as usize - held;
             if piece.len() - size < missing {
-                Reach::Within(size, Stage::Whole(length))
+                Reach::Within(size, last)
             } else {
                 Reach::Whole(size, size + missing)
             }
@@ -58,7 +69,7 @@ impl Unfinished {
         ensures body { result.body.items ≡ [] }
     {
         Unfinished {
-            stage: Stage::Label(0),
+            stage: Stage::START,
             header: Vec::new(alloc),
             body: Vec::new(alloc),
         }
@@ -94,13 +105,13 @@ impl Unfinished {
     }
 }
 
-/// What a piece at the beginning of a frame has: the bodies that are whole, what follows them, and the number of bytes
-/// up to the first fault, if there is one.
+/// What a piece at the beginning of a frame has: the bodies that are whole, what follows them, and the first fault, if
+/// there is one.
 #[derive(Drop)]
 struct Ahead {
     bodies: VecDeque<Vec<u8>>,
     rest: Unfinished,
-    fault: Option<usize>,
+    fault: Option<Astray>,
 }
 
 /// Reads a piece at the beginning of a frame.
@@ -113,7 +124,7 @@ fn read_ahead(alloc: Global, piece: &[u8]) -> Result<Ahead, OutOfMemory>
     let mut left = piece;
     loop {
         let mut rest = Unfinished::new(alloc);
-        match how_far(Stage::Label(0), 0, left) {
+        match how_far(Stage::START, 0, left) {
             Reach::Whole(size, end) => {
                 bodies.push_back(Vec::from_slice(alloc, &left[size..end])?)?;
                 left = &left[end..];
@@ -126,32 +137,32 @@ fn read_ahead(alloc: Global, piece: &[u8]) -> Result<Ahead, OutOfMemory>
                     fault: None,
                 });
             }
-            Reach::Dead(count) => {
-                let fault = Some(piece.len() - left.len() + count);
+            Reach::Dead(count, departure) => {
+                let count = piece.len() - left.len() + count;
                 return Ok(Ahead {
                     bodies,
                     rest,
-                    fault,
+                    fault: Some(Astray { count, departure }),
                 });
             }
         }
     }
 }
 
-/// Takes a piece of the stream behind what has come of a frame. `Ok` says the number of the piece's bytes up to the
-/// first fault, if there is one. An `Err` changes nothing.
+/// Takes a piece of the stream behind what has come of a frame. `Ok` says the first fault, if there is one. An `Err`
+/// changes nothing.
 pub(crate) fn accept(
     alloc: Global,
     rest: &mut Unfinished,
     ready: &mut VecDeque<Vec<u8>>,
     piece: &[u8],
-) -> Result<Option<usize>, OutOfMemory>
+) -> Result<Option<Astray>, OutOfMemory>
     requires { Stands rest.old.stage rest.old.header.items rest.old.body.items }
     ensures stands { Stands rest.new.stage rest.new.header.items rest.new.body.items }
     ensures reads { IfOk result (λ fault.
         Accepts (rest.old.header.items ++ rest.old.body.items) piece.now (bodies_of ready.old.items)
         (bodies_of ready.new.items) (rest.new.header.items ++ rest.new.body.items) fault) }
-    ensures within { IfOk result (λ fault. IfSome fault (λ count. count ≤ length piece.now)) }
+    ensures within { IfOk result (λ fault. IfSome fault (λ astray. astray.count ≤ length piece.now)) }
     ensures err_rest { OnErr result (rest.new.header.items ++ rest.new.body.items ≡ rest.old.header.items ++ rest.old.body.items) }
     ensures err_ready { OnErr result (bodies_of ready.new.items ≡ bodies_of ready.old.items) }
 {
@@ -161,7 +172,7 @@ pub(crate) fn accept(
             Ok(None)
         }
         Reach::Whole(size, end) => complete(alloc, rest, ready, piece, size, end),
-        Reach::Dead(count) => Ok(Some(count)),
+        Reach::Dead(count, departure) => Ok(Some(Astray { count, departure })),
     }
 }
 
@@ -174,14 +185,14 @@ fn complete(
     piece: &[u8],
     size: usize,
     end: usize,
-) -> Result<Option<usize>, OutOfMemory>
+) -> Result<Option<Astray>, OutOfMemory>
     requires stands { Stands rest.old.stage rest.old.header.items rest.old.body.items }
     requires reaches { Reaches rest.old.stage (vec_len rest.old.body) piece.now (Reach.Whole size end) }
     ensures stands { Stands rest.new.stage rest.new.header.items rest.new.body.items }
     ensures reads { IfOk result (λ fault.
         Accepts (rest.old.header.items ++ rest.old.body.items) piece.now (bodies_of ready.old.items)
         (bodies_of ready.new.items) (rest.new.header.items ++ rest.new.body.items) fault) }
-    ensures within { IfOk result (λ fault. IfSome fault (λ count. count ≤ length piece.now)) }
+    ensures within { IfOk result (λ fault. IfSome fault (λ astray. astray.count ≤ length piece.now)) }
     ensures err_rest { OnErr result (rest.new.header.items ++ rest.new.body.items ≡ rest.old.header.items ++ rest.old.body.items) }
     ensures err_ready { OnErr result (bodies_of ready.new.items ≡ bodies_of ready.old.items) }
 {
@@ -195,5 +206,8 @@ fn complete(
     let whole = mem::replace(rest, next);
     ready.push_back(whole.body).unwrap();
     ready.append(&mut bodies).unwrap();
-    Ok(fault.map(|count| end + count))
+    Ok(fault.map(|astray| Astray {
+        count: end + astray.count,
+        departure: astray.departure,
+    }))
 }

@@ -3,6 +3,6 @@ use Rattle.hlasm_statements.specs.Statements.{statements_of}
 use Rattle.hlasm_statements.proofs.StatementLaws.{Reads}
 use Rattle.hlasm_statements.proofs.statement.read_statements.Given as goal
 
--- the statements so far, those of the group's lines and of the lines that are left are those of the text
+-- the statements so far, those of the lines that wait and those of the lines that are left are those of the text
 abbrev pub invariant-loop-line : goal.invariant-loop-line
-invariant-loop-line l = Reads l.statements l.group l.line-iterator (statements_of (chars l.text))
+invariant-loop-line l = Reads l.statements l.number l.bodies.items l.line-iterator (statements_of (chars l.text))

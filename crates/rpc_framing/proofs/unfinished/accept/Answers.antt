@@ -15,4 +15,4 @@ returns-in_ok-grow-in-Within-clause-reads c =
     c.in-Within.ensures.1 grown.header grown.body
 
 pub returns-in-Dead-clause-reads : goal.returns-in-Dead-clause-reads
-returns-in-Dead-clause-reads c = Spoils-Dies _ _ _ _ _ _ c.requires c.in-Dead.ensures
+returns-in-Dead-clause-reads c = Spoils-Dies _ _ _ _ _ _ _ c.requires c.in-Dead.ensures

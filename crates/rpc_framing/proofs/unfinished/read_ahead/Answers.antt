@@ -20,7 +20,7 @@ returns-in-Within-clause-reads c =
 pub returns-in-Dead-clause-reads : goal.returns-in-Dead-clause-reads
 returns-in-Dead-clause-reads c =
     let read = c.loop-size.invariant in
-    Spoils-ahead _ _ _ _ _ read.1 read.2 c.in-Dead.ensures
+    Spoils-ahead _ _ _ _ _ _ read.1 read.2 c.in-Dead.ensures
 
 pub loop-size-preserved : goal.loop-size-preserved
 loop-size-preserved c =

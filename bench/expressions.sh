@@ -1,0 +1,79 @@
+#!/bin/sh
+# How fast expressions are read: a program over operand_grammar, built by rt in a copy of this repository.
+set -eu
+top=$(cd "$(dirname "$0")/.." && pwd)
+work=$(mktemp -d)
+trap 'rm -rf "$work"' EXIT
+cp -r "$top/crates" "$top/crates.txt" "$top/HANDLES" "$work/"
+mkdir -p "$work/crates/expressions_bench/src"
+echo 'expressions_bench: operand_grammar' >> "$work/crates.txt"
+cat > "$work/crates/expressions_bench/src/main.rt" <<'PROGRAM'
+//! Times the reading of the lines of its arguments as expressions, and a pass over their characters.
+#![tactic(auto)]
+
+use operand_grammar::parse_arith;
+use std::time::Instant;
+use std::{env, fs, io};
+
+/// The nanoseconds of reading each line, and how many are expressions.
+fn expressions(rt: &HostRuntime, text: &str) -> io::Result<(u128, usize)> {
+    let start = Instant::now(rt)?;
+    let mut count = 0usize;
+    for line in text.lines() {
+        if parse_arith(rt.alloc(), line).is_ok() {
+            count = count.saturating_add(1);
+        }
+    }
+    Ok((start.elapsed(rt)?.as_nanos(), count))
+}
+
+/// The nanoseconds of one pass over the characters, and how many there are.
+fn plain(rt: &HostRuntime, text: &str) -> io::Result<(u128, usize)> {
+    let start = Instant::now(rt)?;
+    let mut count = 0usize;
+    for line in text.lines() {
+        for c in line.chars() {
+            if c != '(' {
+                count = count.saturating_add(1);
+            }
+        }
+    }
+    Ok((start.elapsed(rt)?.as_nanos(), count))
+}
+
+fn main(rt: HostRuntime) -> io::Result<()> {
+    for path in env::args(&rt)?.skip(1) {
+        let text = fs::read_to_string(&rt, path.as_str())?;
+        for _ in 0..21 {
+            let (time, count) = expressions(&rt, text.as_str())?;
+            println!(&rt; "expressions {} {count} {time}", text.len())?;
+            let (time, count) = plain(&rt, text.as_str())?;
+            println!(&rt; "characters {} {count} {time}", text.len())?;
+        }
+    }
+    Ok(())
+}
+PROGRAM
+python3 - "$work" <<'TEXTS'
+import sys
+lines = ["&COUNT+1", "(&A(1)-K'&NAME)*2", "X'1F'/3 + &LONGER_NAME(&I,2)", " 4 * ( N'&SYSLIST - 1 ) ", "+".join(["(&V*12)"] * 120)]
+def text(count):
+    return "".join(lines[n % 5] + "\n" for n in range(count))
+for name, count in (("once", 5500), ("twice", 11000)):
+    with open(f"{sys.argv[1]}/{name}.txt", "w") as out:
+        out.write(text(count))
+TEXTS
+cd "$work/crates/expressions_bench"
+rt try -- "$work/once.txt" "$work/twice.txt" > "$work/times" 2> "$work/log" || { tail -20 "$work/times" "$work/log" >&2; exit 1; }
+python3 - "$work/times" <<'RESULT'
+import sys
+best = {}
+for words in map(str.split, open(sys.argv[1])):
+    if len(words) == 4 and words[0] in ("expressions", "characters"):
+        key = (words[0], int(words[1]))
+        best[key] = min(best.get(key, 1 << 80), int(words[3]))
+once, twice = sorted({size for _, size in best})
+for kind in ("expressions", "characters"):
+    print(f"{kind}: {once} bytes in {best[kind, once] / 1e6:.2f} ms, {once * 1000 / best[kind, once]:.0f} MB/s")
+print(f"twice the text: {best['expressions', twice] / best['expressions', once]:.2f} times the time (at most 2.2)")
+RESULT

@@ -1,0 +1,4 @@
+pub mod ArithmeticLemmas
+pub mod OutcomeLemmas
+pub mod TextLemmas
+pub mod CharacterLemmas

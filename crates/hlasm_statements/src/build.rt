@@ -1,0 +1,224 @@
+//! The statement that some lines make up.
+ghost use Rattle.std.specs.Prelude.{◌≡◌, ◌<◌, ◌+◌, ◌∷◌, ◌&&◌, not, ◌==◌, map, take, length, IfOk};
+ghost use Rattle.std.specs.List.{list_any};
+ghost use Rattle.std.specs.Str.{chars};
+ghost use Rattle.hlasm_statements.specs.Faults as spec;
+ghost use Rattle.hlasm_statements.specs.Fields as fields;
+ghost use Rattle.hlasm_statements.specs.Reading.{IsRead, whole_source, bodies_of};
+ghost use Rattle.hl_base.specs.Symbols.{symbol_of};
+ghost use Rattle.hlasm_statements.specs.Building.{is_plain, empty_statement, filled_statement, whole_statement};
+ghost use Rattle.hlasm_statements.specs.Statements.{lines_read};
+
+use crate::column::{is_all_blank, split_columns};
+use crate::places::Places;
+use crate::reader::Reader;
+use crate::shape::opening;
+use crate::{Faults, Shape, Statement};
+use hl_base::{Name, OutOfMemory, Text};
+use instruction_table::{Operation, operation};
+use std::alloc::Global;
+
+/// How many continuation lines of a statement in the standard format are read.
+const LINES_READ: usize = 9;
+
+/// Behind how many columns a continuation line's text begins.
+const MARGIN: usize = 15;
+
+/// The column in which it begins.
+const TEXT_COLUMN: u32 = 16;
+
+/// A line number so many lines on. `OutOfMemory` where a `u32` does not count that far.
+pub fn count_on(number: u32, count: usize) -> Result<u32, OutOfMemory>
+    ensures { IfOk result (λ n. n ≡ number + count) }
+{
+    let count = u32::try_from(count).map_err(|_| OutOfMemory)?;
+    number.checked_add(count).ok_or(OutOfMemory)
+}
+
+/// The continuation lines that are read in the standard format.
+fn lines_read<'b, 'a>(rest: &'b [&'a str]) -> &'b [&'a str]
+    ensures { bodies_of result.now ≡ take lines_read (bodies_of rest.now) }
+{
+    if rest.len() > LINES_READ {
+        return &rest[..LINES_READ];
+    }
+    rest
+}
+
+/// Whether columns 1 to 15 of a line have text.
+fn has_margin_text(body: &str) -> bool
+    ensures { result ≡ spec.has_margin_text (chars body.now) }
+{
+    let (margin, _) = split_columns(body, MARGIN);
+    !is_all_blank(margin)
+}
+
+fn have_margin_text(mut rest: &[&str]) -> bool
+    ensures { result ≡ list_any spec.has_margin_text (bodies_of rest.entry.now) }
+{
+    while let [body, more @ ..] = rest {
+        if has_margin_text(body) {
+            return true;
+        }
+        rest = more;
+    }
+    false
+}
+
+/// Whether statements with this operation are in the alternate format.
+fn is_alternate_operation(op: &Text) -> bool
+    ensures { result ≡ fields.is_alternate_operation op.now }
+{
+    if op.is_empty() {
+        return false;
+    }
+    let text = op.as_str();
+    if has_ampersand(text) {
+        return false;
+    }
+    is_alternate_name(text)
+}
+
+fn has_ampersand(text: &str) -> bool
+    ensures { result ≡ list_any (λ c. c == 38) (chars text.now) }
+{
+    text.chars().any(|c| c == '&')
+}
+
+fn is_alternate_name(text: &str) -> bool
+    ensures { result ≡ fields.is_alternate_name (symbol_of text.now) }
+{
+    match Name::read(text) {
+        None => true,
+        Some(name) => is_alternate(operation(&name)),
+    }
+}
+
+fn is_alternate(meaning: Operation) -> bool
+    ensures { result ≡ fields.is_alternate_meaning meaning }
+{
+    match meaning {
+        Operation::Conditional | Operation::LeftOut | Operation::Unknown => true,
+        Operation::Ordinary | Operation::Both | Operation::Silent | Operation::Machine(_) => false,
+    }
+}
+
+/// Whether there are continuation lines, and the operation is one of the alternate format.
+fn goes_on_with(rest: &[&str], op: &Text) -> bool
+    ensures { result ≡ (not (length (bodies_of rest.now) == 0) && fields.is_alternate_operation op.now) }
+{
+    !rest.is_empty() && is_alternate_operation(op)
+}
+
+/// The fields of lines that are all read.
+fn read_fields(
+    alloc: Global,
+    alternate: bool,
+    number: u32,
+    first: &str,
+    rest: &[&str],
+) -> Result<Reader, OutOfMemory>
+    ensures { IfOk result (λ r. IsRead r alternate (whole_source number (chars first.now ∷ bodies_of rest.now))) }
+{
+    let mut reader = Reader::new(alloc);
+    reader.read_part(alternate, first, number, 1)?;
+    let mut line = number;
+    for body in rest {
+        line = line.checked_add(1).ok_or(OutOfMemory)?;
+        let (_, part) = split_columns(body, MARGIN);
+        reader.read_part(alternate, part, line, TEXT_COLUMN)?;
+    }
+    Ok(reader)
+}
+
+/// A statement without fields.
+fn without_fields(alloc: Global, first: u32, last: u32, shape: Shape, faults: Faults) -> Statement
+    ensures { result ≡ empty_statement first last shape faults }
+{
+    Statement {
+        first,
+        last,
+        shape,
+        label: Text::new(alloc),
+        op: Text::new(alloc),
+        operands: Text::new(alloc),
+        faults,
+        label_places: Places::new(alloc),
+        op_places: Places::new(alloc),
+        operand_places: Places::new(alloc),
+    }
+}
+
+/// A statement with the fields that were read.
+fn with_fields(first: u32, last: u32, reader: Reader, faults: Faults) -> Statement
+    ensures { result ≡ filled_statement first last reader faults }
+{
+    Statement {
+        first,
+        last,
+        shape: Shape::Plain,
+        label: reader.label,
+        op: reader.op,
+        operands: reader.operands,
+        faults,
+        label_places: reader.label_places,
+        op_places: reader.op_places,
+        operand_places: reader.operand_places,
+    }
+}
+
+fn is_plain(shape: Shape) -> bool
+    ensures { result ≡ is_plain shape }
+{
+    match shape {
+        Shape::Plain => true,
+        Shape::Comment | Shape::InnerComment | Shape::Blank => false,
+    }
+}
+
+/// The statement of the first line and of the lines that continue it, of which the last is marked or not.
+fn statement(
+    alloc: Global,
+    number: u32,
+    first: &str,
+    rest: &[&str],
+    is_marked: bool,
+) -> Result<Statement, OutOfMemory>
+    ensures { IfOk result (λ s. s ≡ whole_statement number is_marked (chars first.now ∷ bodies_of rest.now)) }
+{
+    let last = count_on(number, rest.len())?;
+    let read = lines_read(rest);
+    let faults = Faults::of(
+        alloc,
+        have_margin_text(read),
+        rest.len() > LINES_READ,
+        is_marked,
+    )?;
+    let shape = opening(first);
+    if !is_plain(shape) {
+        return Ok(without_fields(alloc, number, last, shape, faults));
+    }
+    let standard = read_fields(alloc, false, number, first, read)?;
+    if standard.is_blank() {
+        return Ok(without_fields(alloc, number, last, Shape::Blank, faults));
+    }
+    if !goes_on_with(rest, &standard.op) {
+        return Ok(with_fields(number, last, standard, faults));
+    }
+    let whole = read_fields(alloc, true, number, first, rest)?;
+    let faults = Faults::of(alloc, have_margin_text(rest), false, is_marked)?;
+    Ok(with_fields(number, last, whole, faults))
+}
+
+/// The statement of some lines, of which columns 1 to 71 are given.
+pub fn statement_of_lines(
+    alloc: Global,
+    number: u32,
+    bodies: &[&str],
+    is_marked: bool,
+) -> Result<Statement, OutOfMemory>
+    requires { 0 < length bodies.now }
+    ensures { IfOk result (λ s. s ≡ whole_statement number is_marked (bodies_of bodies.now)) }
+{
+    statement(alloc, number, bodies[0], &bodies[1..], is_marked)
+}

@@ -1,0 +1,69 @@
+#!/bin/sh
+# Compares what the built parser answers with the recognizer of grammar.py, on random texts: compare.sh [COUNT [SEED]].
+# The program stands in a copy of this repository, built by rt there; nothing here is proved.
+set -eu
+top=$(cd "$(dirname "$0")/../.." && pwd)
+count=${1:-100000}
+seed=${2:-1}
+work=$(mktemp -d)
+trap 'rm -rf "$work"' EXIT
+cp -r "$top/crates" "$top/crates.txt" "$top/HANDLES" "$work/"
+mkdir -p "$work/crates/expressions_compare/src"
+echo 'expressions_compare: hl_base operand_grammar' >> "$work/crates.txt"
+cat > "$work/crates/expressions_compare/src/main.rt" <<'PROGRAM'
+//! Answers for each line of a file, which begins with `a` or `o` for its grammar: `read`, or how far some expression
+//! begins so.
+#![tactic(auto)]
+
+use operand_grammar::{SyntaxFault, parse_arith, parse_ordinary};
+use std::{env, fs, io};
+
+fn main(rt: HostRuntime) -> io::Result<()> {
+    for path in env::args(&rt)?.skip(1) {
+        let lines = fs::read_to_string(&rt, path.as_str())?;
+        for line in lines.as_str().lines() {
+            let read = match line.strip_prefix('a') {
+                Some(text) => parse_arith(rt.alloc(), text),
+                None => match line.strip_prefix('o') {
+                    Some(text) => parse_ordinary(rt.alloc(), text),
+                    None => Err(SyntaxFault::OutOfMemory),
+                },
+            };
+            match read {
+                Ok(_) => println!(&rt; "read")?,
+                Err(SyntaxFault::At(count)) => println!(&rt; "{count}")?,
+                Err(SyntaxFault::OutOfMemory) => println!(&rt; "out of memory")?,
+            }
+        }
+    }
+    Ok(())
+}
+PROGRAM
+cd "$top/tests/expressions"
+python3 -c '
+import sys
+from texts import texts
+with open(sys.argv[3], "w") as out:
+    for grammar, text in texts(int(sys.argv[1]), int(sys.argv[2])):
+        out.write(grammar[0] + text + "\n")
+' "$count" "$seed" "$work/texts"
+cd "$work/crates/expressions_compare"
+rt try -- "$work/texts" > "$work/answers" 2> "$work/log" || { tail -20 "$work/answers" "$work/log" >&2; exit 1; }
+cd "$top/tests/expressions"
+python3 -c '
+import sys
+from grammar import GRAMMARS
+texts = open(sys.argv[1]).read().split("\n")[:-1]
+answers = [line for line in open(sys.argv[2]).read().split("\n") if line == "read" or line.isdigit() or line == "out of memory"]
+if len(answers) != len(texts):
+    sys.exit(f"{len(texts)} texts, but {len(answers)} answers")
+read = wrong = 0
+for text, answer in zip(texts, answers):
+    place = GRAMMARS["arith" if text[0] == "a" else "ordinary"].read(text[1:])
+    read += place is None
+    if answer != ("read" if place is None else str(place)):
+        wrong += 1
+        print(f"{text!r}: the parser says {answer}, the grammar {place}")
+print(f"{len(texts)} texts, {read} of them expressions: {wrong} answers differ")
+sys.exit(wrong > 0)
+' "$work/texts" "$work/answers"

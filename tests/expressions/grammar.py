@@ -1,0 +1,157 @@
+"""An independent recognizer of expressions: Earley's algorithm over the BNF of docs/EXPRESSIONS.md.
+
+It shares nothing with the product. Terminals are sets of characters. Every nonterminal has a text, so a prefix begins some
+expression exactly where Earley's set behind it is not empty.
+"""
+import string
+
+LETTERS = string.ascii_letters + "$_#@"
+DIGITS = string.digits
+BLANKS = " \t"
+
+
+class Chars:
+    """A terminal: one of some characters, or all but some."""
+
+    def __init__(self, chars, negated=False):
+        self.chars = frozenset(chars)
+        self.negated = negated
+
+    def has(self, c):
+        return (c in self.chars) != self.negated
+
+
+class Grammar:
+    def __init__(self, start):
+        self.start = start
+        self.rules = {}
+
+    def add(self, name, *bodies):
+        self.rules.setdefault(name, []).extend(tuple(body) for body in bodies)
+
+    def repeated(self, name, chars, least, most):
+        """name is from `least` to `most` of the terminal."""
+        for k in range(most + 1):
+            bodies = []
+            if k >= 1:
+                bodies.append((chars, f"{name}{k - 1}"))
+            if most - k >= least:
+                bodies.append(())
+            self.add(f"{name}{k}", *bodies)
+        self.add(name, (f"{name}{most}",))
+
+
+def only(text):
+    return [Chars(c + c.lower() + c.upper()) for c in text]
+
+
+def terms(g):
+    digit = Chars(DIGITS)
+    # decimal: at most ten digits, and at most 2147483647
+    g.repeated("short", digit, 1, 9)
+    g.add("number", ("short",))
+    most = "2147483647"
+    for k, top in enumerate(most):
+        smaller = DIGITS[: int(top)]
+        if smaller:
+            g.add("number", [Chars(d) for d in most[:k]] + [Chars(smaller)] + [digit] * (9 - k))
+    g.add("number", [Chars(d) for d in most])
+    g.repeated("hex", Chars(string.hexdigits), 1, 8)
+    g.add("number", only("X'") + ["hex"] + only("'"))
+    g.repeated("bits", Chars("01"), 1, 32)
+    g.add("number", only("B'") + ["bits"] + only("'"))
+    g.add("char", (Chars("'&", negated=True),), [Chars("'"), Chars("'")], [Chars("&"), Chars("&")])
+    for k in range(1, 5):
+        g.add("number", only("C'") + ["char"] * k + only("'"))
+    g.repeated("others", Chars(LETTERS + DIGITS), 0, 62)
+    g.add("name", (Chars(LETTERS), "others"))
+
+
+def precedence(g, gap):
+    g.add("sum", ("sum", gap, Chars("+-"), gap, "product"), ("product",))
+    g.add("product", ("product", gap, Chars("*/"), gap, "factor"), ("factor",))
+    g.add("factor", (Chars("+-"), gap, "factor"), ("primary",))
+    g.add("primary", ("number",), (Chars("("), gap, "sum", gap, Chars(")")))
+
+
+def arithmetic():
+    g = Grammar("expression")
+    g.add("gap", (), (Chars(BLANKS), "gap"))
+    g.add("expression", ("gap", "sum", "gap"))
+    terms(g)
+    precedence(g, "gap")
+    g.add("primary", ("variable",))
+    g.add("variable", (Chars("&"), "name"), (Chars("&"), "name", Chars("("), "list", Chars(")")))
+    g.add("list", ("gap", "sum", "gap"), ("list", Chars(","), "gap", "sum", "gap"))
+    for letter in "KNLD":
+        g.add("primary", only(letter + "'") + ["variable"])
+    for letter in "LD":
+        g.add("primary", only(letter + "'") + ["name"])
+    return g
+
+
+def ordinary():
+    g = Grammar("sum")
+    g.add("gap", ())
+    terms(g)
+    precedence(g, "gap")
+    g.add("primary", ("name",), (Chars("*"),), only("L'") + ["name"])
+    return g
+
+
+class Recognizer:
+    def __init__(self, grammar):
+        self.rules = [(name, body) for name, bodies in grammar.rules.items() for body in bodies]
+        self.by_name = {}
+        for number, (name, _) in enumerate(self.rules):
+            self.by_name.setdefault(name, []).append(number)
+        self.start = grammar.start
+        self.empty = set()
+        grew = True
+        while grew:
+            grew = False
+            for name, body in self.rules:
+                if name not in self.empty and all(isinstance(s, str) and s in self.empty for s in body):
+                    self.empty.add(name)
+                    grew = True
+
+    def close(self, sets, items, place):
+        seen = set(items)
+        work = list(seen)
+        while work:
+            rule, dot, origin = work.pop()
+            name, body = self.rules[rule]
+            new = []
+            if dot == len(body):
+                if origin != place:
+                    for r, d, o in sets[origin]:
+                        b = self.rules[r][1]
+                        if d < len(b) and b[d] == name:
+                            new.append((r, d + 1, o))
+            elif isinstance(body[dot], str):
+                new.extend((r, 0, place) for r in self.by_name[body[dot]])
+                if body[dot] in self.empty:
+                    new.append((rule, dot + 1, origin))
+            for item in new:
+                if item not in seen:
+                    seen.add(item)
+                    work.append(item)
+        return seen
+
+    def read(self, text):
+        """None where the text is an expression, else the length of its longest prefix that one begins with."""
+        sets = [self.close([], [(r, 0, 0) for r in self.by_name[self.start]], 0)]
+        for place, c in enumerate(text):
+            items = []
+            for rule, dot, origin in sets[place]:
+                body = self.rules[rule][1]
+                if dot < len(body) and not isinstance(body[dot], str) and body[dot].has(c):
+                    items.append((rule, dot + 1, origin))
+            if not items:
+                return place
+            sets.append(self.close(sets, items, place + 1))
+        whole = any(o == 0 and self.rules[r][0] == self.start and d == len(self.rules[r][1]) for r, d, o in sets[-1])
+        return None if whole else len(text)
+
+
+GRAMMARS = {"arith": Recognizer(arithmetic()), "ordinary": Recognizer(ordinary())}

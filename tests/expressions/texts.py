@@ -1,0 +1,65 @@
+"""Random texts for the comparison: expressions, and expressions with a few characters changed."""
+import random
+
+NAMES = ["A", "B9", "$X", "_Q#", "ZED", "X", "L", "C", "&", "N", "a", "x1"]
+
+
+def number(r):
+    return r.choice(["0", "7", "42", "2147483647", "2147483648", "0000000001", "00000000001", "X'1F'", "x'ffffffff'", "B'101'", "C'A'", "C''''", "C'&&'", "c'ab c'", "C'ABCDE'", "X'123456789'", "X''", "B'2'"])
+
+
+def name(r):
+    return r.choice(NAMES[:8] + ["N", "a", "x1"])
+
+
+def term(r, grammar, depth):
+    k = r.randrange(10)
+    if k < 3:
+        return number(r)
+    if k < 5 and depth > 0:
+        gap = gap_of(r, grammar)
+        return "(" + gap + expression(r, grammar, depth - 1) + gap_of(r, grammar) + ")"
+    if grammar == "ordinary":
+        return r.choice([name(r), "*", "L'" + name(r), name(r)])
+    if k < 8:
+        text = "&" + name(r)
+        if depth > 0 and r.randrange(3) == 0:
+            text += "(" + ",".join(expression(r, grammar, depth - 1) for _ in range(r.choice([1, 1, 2]))) + ")"
+        return r.choice(["", "", "", "K'", "N'", "l'", "D'"]) + text
+    return r.choice(["L'", "D'", "T'", "K'"]) + name(r)
+
+
+def gap_of(r, grammar):
+    return r.choice(["", "", "", " ", "\t "]) if grammar == "arith" or r.randrange(20) == 0 else ""
+
+
+def expression(r, grammar, depth):
+    text = gap_of(r, grammar)
+    for k in range(r.choice([1, 1, 2, 3])):
+        if k:
+            text += gap_of(r, grammar) + r.choice("+-*/") + gap_of(r, grammar)
+        while r.randrange(6) == 0:
+            text += r.choice("+-")
+        text += term(r, grammar, depth)
+    return text + gap_of(r, grammar)
+
+
+def changed(r, text):
+    for _ in range(r.choice([0, 1, 1, 2])):
+        at = r.randrange(len(text) + 1)
+        c = r.choice("()+-*/,'& 019AXBCKLNDTzé.;$")
+        kind = r.randrange(3)
+        if kind == 0:
+            text = text[:at] + c + text[at:]
+        elif kind == 1:
+            text = text[:at] + text[at + 1:]
+        else:
+            text = text[:at] + c + text[at + 1:]
+    return text
+
+
+def texts(count, seed):
+    r = random.Random(seed)
+    for _ in range(count):
+        grammar = r.choice(["arith", "ordinary"])
+        yield grammar, changed(r, expression(r, grammar, r.choice([0, 1, 1, 2])))[:48]
