@@ -3,3 +3,8 @@ pub mod FromLemmas
 pub mod PlaceLemmas
 pub mod EditLemmas
 pub mod InverseLaws
+pub mod OwnerLemmas
+pub mod DocumentLemmas
+pub mod StoreLemmas
+pub mod CallLemmas
+pub mod ShowLemmas

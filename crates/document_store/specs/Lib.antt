@@ -6,4 +6,5 @@ pub mod Holdings
 pub mod Shown
 pub mod Places
 pub mod Faults
+pub mod Inside
 pub mod Laws
