@@ -1,11 +1,11 @@
 -- The bytes of a text after a change, and what its changes in turn come to.
-use Rattle.std.proofs.Common.{◌≡◌, ◌∙◌, ℕ, ◌+◌, ◌<◌, ◌≤◌, true, false, List, [], ◌∷◌, ◌++◌, length, take, drop, sym, refl, ap, subst, arith, length-append}
+use Rattle.std.proofs.Common.{◌≡◌, ◌∙◌, ℕ, ◌+◌, ◌<◌, ◌≤◌, true, false, List, ◌∷◌, ◌++◌, length, take, drop, sym, refl, ap, subst, arith, length-append}
 use Rattle.std.specs.Prelude.{encode_utf8_all, chars, IsUtf8, IsCharBoundary, slice_range, Result, Ok, Err}
 use Rattle.std.proofs.lemmas.Bool.{lt-ltb, le-ltb}
 use Rattle.std.proofs.lemmas.Str.{encodes-append, chars_from_encodes}
 use Rattle.hl_base.specs.declared.edit.Edit.{Edit}
 use Rattle.text_pool.specs.declared.pool.TheConstants.{LONGEST_TEXT}
-use Rattle.document_store.specs.Edits.{edited, start_of, stop_of, is_backward, is_too_long, after_edit, after_edits, and_then}
+use Rattle.document_store.specs.Edits.{edited, start_of, stop_of, is_backward, after_edit, after_edits, and_then}
 use Rattle.document_store.specs.Places.{bytes_before, GivesText}
 use Rattle.document_store.specs.declared.fault.StoreFault.{StoreFault}
 use Rattle.document_store.specs.declared.fault.StoreFault.TheVariants.{BadUri, AlreadyOpen, TooMany, TextTooLong, NotOpen, BadRange, OutOfMemory}

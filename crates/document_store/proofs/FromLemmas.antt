@@ -1,14 +1,14 @@
 -- What stands in a text from a line on.
-use Rattle.std.proofs.Common.{◌≡◌, ◌∙◌, ℕ, zero, suc, ◌+◌, ◌-◌, ◌<◌, ◌≤◌, Bool, true, false, cond, List, [], ◌∷◌, ◌++◌, length, take, drop, get_or, refl, sym, inl, inr, ap, subst, arith, map, get_or-drop, length-drop, add-zero, take-append-drop, append-nil, append_assoc, length-append}
+use Rattle.std.proofs.Common.{◌≡◌, ◌∙◌, ℕ, zero, suc, ◌+◌, ◌<◌, true, false, cond, List, [], ◌∷◌, ◌++◌, length, take, drop, get_or, refl, sym, inl, inr, ap, subst, arith, map, get_or-drop, length-drop, add-zero, take-append-drop, append-nil, append_assoc, length-append}
 use Rattle.std.proofs.Math.Seq.{drop-nil}
-use Rattle.std.specs.Prelude.{◌==◌, min, slice_index}
+use Rattle.std.specs.Prelude.{◌==◌}
 use Rattle.std.specs.List.{onto_first, concat}
 use Rattle.std.proofs.lemmas.Bool.{eqb-true, cases_Bool, or_cases}
 use Rattle.std.proofs.lemmas.List.{drop_more, get_or-map, drop-drop, drop_all, length-map, drop-map}
 use Rattle.hl_base.specs.Texts.{lines}
 use Rattle.hl_base.specs.Remaining as remaining
 use Rattle.hl_base.proofs.LineLaws.{IsWithin}
-use Rattle.document_store.specs.Positions.{whole_lines, ends_line, line_of, last_line, line_start}
+use Rattle.document_store.specs.Positions.{whole_lines, line_of, last_line, line_start}
 use Rattle.document_store.proofs.LineLemmas.{IsCons, without_end, lines-whole, whole_lines-some, whole_lines-cons, whole_lines-cr, concat-whole_lines}
 
 -- a text is what stands in another from a line on

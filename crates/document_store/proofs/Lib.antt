@@ -2,3 +2,8 @@ pub mod LineLemmas
 pub mod FromLemmas
 pub mod PlaceLemmas
 pub mod EditLemmas
+pub mod OwnerLemmas
+pub mod DocumentLemmas
+pub mod StoreLemmas
+pub mod CallLemmas
+pub mod ShowLemmas

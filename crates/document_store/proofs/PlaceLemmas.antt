@@ -1,5 +1,5 @@
 -- Places of a text in bytes and in characters.
-use Rattle.std.proofs.Common.{◌≡◌, ◌∙◌, ℕ, zero, suc, ◌+◌, ◌-◌, ◌*◌, ◌<◌, ◌≤◌, Bool, true, false, cond, List, [], ◌∷◌, ◌++◌, length, take, drop, get_or, refl, sym, inl, inr, ap, subst, arith, map, length-append, length-take, length-drop, add-zero, take-append-drop, append-nil, append_assoc, zero-add, add_assoc}
+use Rattle.std.proofs.Common.{◌≡◌, ◌∙◌, ℕ, zero, suc, ◌+◌, ◌-◌, ◌*◌, ◌<◌, ◌≤◌, Bool, true, false, cond, List, [], ◌∷◌, ◌++◌, length, take, drop, get_or, refl, sym, inl, inr, ap, arith, map, length-append, length-drop, take-append-drop, append-nil, zero-add, add_assoc}
 use Rattle.std.proofs.Math.Seq.{take-nil, drop-nil, take-length, take-append_seam, drop-append_seam}
 use Rattle.std.proofs.lemmas.List.{take-append-le, take_more, at_drop_more, at_drop_all, drop-drop}
 use Rattle.std.proofs.lemmas.List.Sums.{sum_by-append}
@@ -9,10 +9,10 @@ use lib.Utf8.{scalars, scalar}
 use Rattle.std.proofs.Math.Nat.{suc-add}
 use Rattle.std.proofs.lemmas.Bool.Decides.{nat_tests}
 use Rattle.document_store.proofs.LineLemmas.{whole_lines-some, without_end, lines-whole, concat-whole_lines}
-use Rattle.std.specs.Prelude.{◌==◌, nat_lt, min, encode_utf8, encode_utf8_all, chars, IsUtf8, IsCharBoundary, Option, None, Some, slice_get}
-use Rattle.std.specs.List.{onto_first, concat}
+use Rattle.std.specs.Prelude.{◌==◌, nat_lt, min, encode_utf8, encode_utf8_all, chars, IsUtf8, IsCharBoundary}
+use Rattle.std.specs.List.{concat}
 use Rattle.std.specs.Char.{len_utf8}
-use Rattle.std.proofs.lemmas.Str.{encodes-chars, encodes-append, IsUtf8-append, IsCharBoundary-at_seam, chars_from_encodes, scalars-chars, chars-encodes, length-encode, length-le-encodes}
+use Rattle.std.proofs.lemmas.Str.{encodes-chars, encodes-append, IsCharBoundary-at_seam, scalars-chars, chars-encodes, length-encode, length-le-encodes}
 use Rattle.hl_base.specs.Texts.{lines, unit_width, units}
 use Rattle.std.proofs.lemmas.Option.{slice_get-get_or, slice_get_past}
 use Rattle.hl_base.specs.declared.edit.Position.{Position}

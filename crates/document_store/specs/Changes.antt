@@ -1,6 +1,6 @@
 -- What opening, changing and closing do to the documents (Language Server Protocol 3.17, "Text Document
 -- Synchronization"): the store that follows, or why they are refused.
-use Rattle.std.specs.Prelude.{◌≡◌, ℕ, ℤ, ◌==◌, Bool, not, List, [], ◌∷◌, ◌++◌, Option, None, Some, Result, Ok, Err, length, map, filter, nat_le, is_some, if◌then◌else◌}
+use Rattle.std.specs.Prelude.{◌≡◌, ℕ, ℤ, not, List, [], ◌∷◌, ◌++◌, Option, None, Some, Result, Ok, Err, length, map, filter, nat_le, is_some, if◌then◌else◌}
 use Rattle.std.specs.List.{list_any}
 use Rattle.std.specs.Str.{bytes_eq}
 use Rattle.file_uri.specs.Paths.{path_of}
@@ -37,12 +37,12 @@ abbrev pub with_text : Store → List ℕ → ℤ → List ℕ → Store
 with_text store path version text =
     record store { documents = map (λ d. if is_at path d then record d { version = version; text = text } else d) store.documents }
 
-abbrev changed_document : Store → List ℕ → Option OpenDocument → ℤ → List Edit → Result Store StoreFault
+abbrev pub changed_document : Store → List ℕ → Option OpenDocument → ℤ → List Edit → Result Store StoreFault
 changed_document store path None version edits = Err NotOpen
 changed_document store path (Some document) version edits =
     and_then (λ text. Ok (with_text store path version text)) (after_edits edits 0 document.text)
 
-abbrev changed_at : Store → Option (List ℕ) → ℤ → List Edit → Result Store StoreFault
+abbrev pub changed_at : Store → Option (List ℕ) → ℤ → List Edit → Result Store StoreFault
 changed_at store None version edits = Err BadUri
 changed_at store (Some path) version edits = changed_document store path (document_of store path) version edits
 
@@ -54,7 +54,7 @@ changed store uri version edits = changed_at store (path_of uri) version edits
 abbrev pub without : Store → List ℕ → Store
 without store path = record store { documents = filter (λ d. not (is_at path d)) store.documents }
 
-abbrev closed_at : Store → Option (List ℕ) → Result Store StoreFault
+abbrev pub closed_at : Store → Option (List ℕ) → Result Store StoreFault
 closed_at store None = Err BadUri
 closed_at store (Some path) = if is_some (document_of store path) then Ok (without store path) else Err NotOpen
 

@@ -1,12 +1,10 @@
 -- What a `DocumentStore` holds, as contracts see it: the store, and the pool that has the texts (this project).
-use Rattle.std.specs.Prelude.{◌≡◌, ◌↔◌, ℕ, ℤ, List, Option, None, Some, IsSome, refl, count_by, All, Contains, slice_get}
-use Rattle.std.specs.Option.{option_and_then}
+use Rattle.std.specs.Prelude.{◌≡◌, ℕ, ℤ, List, Option, None, Some, refl}
 use Rattle.std.specs.Cmp.Lexicographic.{slice_cmp}
 use Rattle.std.specs.Ordering.{nat_cmp}
-use Rattle.std.specs.Str.{bytes_eq}
 use Rattle.std.specs.FinMap as map
 use Rattle.std.specs.Coded.{Coded, code_by, coded×, coded_ℕ, coded_ℤ, coded_list, coded_option}
-use Rattle.text_pool.specs.Pool.{Pool, pool_code, IsLive, text_of, owners_of}
+use Rattle.text_pool.specs.Pool.{Pool, pool_code}
 use Rattle.document_store.specs.Store.{Store, OpenDocument, File, Readable, Unreadable, present_at}
 
 -- the documents, files and paths, and the texts under their numbers
@@ -63,7 +61,7 @@ holdings_code =
     (λ _. refl)
 
 -- the text that is present at the path of a number
-abbrev text_in : Option File → Option (List ℕ)
+abbrev pub text_in : Option File → Option (List ℕ)
 text_in (Some (Readable text)) = Some text
 text_in (Some Unreadable) = None
 text_in None = None

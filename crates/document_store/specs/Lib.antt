@@ -6,3 +6,4 @@ pub mod Holdings
 pub mod Shown
 pub mod Places
 pub mod Faults
+pub mod Inside

@@ -1,6 +1,6 @@
 -- Where a position lies in a text (Language Server Protocol 3.17, "Position"): its line counted from 0, and its place in
 -- the line counted from 0 in UTF-16 units. Columns count from 1 in characters.
-use Rattle.std.specs.Prelude.{◌≡◌, ℕ, suc, ◌+◌, ◌-◌, ◌<◌, ◌≤◌, Bool, ◌==◌, ◌||◌, ◌&&◌, not, List, [], ◌∷◌, Option, None, Some, length, take, nat_lt, slice_get, slice_index_or, if◌then◌else◌}
+use Rattle.std.specs.Prelude.{ℕ, suc, ◌+◌, ◌-◌, Bool, ◌==◌, ◌||◌, ◌&&◌, not, List, [], ◌∷◌, Option, None, Some, length, take, nat_lt, slice_get, slice_index_or, if◌then◌else◌}
 use Rattle.std.specs.List.{concat, onto_first}
 use Rattle.hl_base.specs.Texts.{lines, begins_crlf, unit_width, units}
 use Rattle.hl_base.specs.declared.edit.Position.{Position}

@@ -1,8 +1,8 @@
 -- What the store shows of what it holds (this project).
-use Rattle.std.specs.Prelude.{◌≡◌, ◌↔◌, ℕ, ◌==◌, List, Option, None, Some, IsSome, Contains, count_by, slice_get, chars}
+use Rattle.std.specs.Prelude.{◌≡◌, ℕ, List, Option, None, Some, Contains, count_by, slice_get, chars}
 use Rattle.std.specs.Str.{bytes_eq}
 use Rattle.text_pool.specs.Pool.{Pool, IsLive, text_of, owners_of}
-use Rattle.document_store.specs.Store.{Store, OpenDocument, File, Readable, Unreadable, number_of}
+use Rattle.document_store.specs.Store.{OpenDocument, File, Readable, Unreadable, number_of}
 use Rattle.document_store.specs.Holdings.{Holdings}
 use Rattle.document_store.specs.declared.document.Document.{Document}
 use Rattle.document_store.specs.declared.document.MemberText.{MemberText}
@@ -11,6 +11,7 @@ use Rattle.document_store.specs.declared.document.MemberText.TheVariants as memb
 -- a document is shown: the number of its path, its URI, its language and its version
 pub record Shows (paths : List (List ℕ)) (document : OpenDocument) (shown : Document) : Type 0 where
   pub path : slice_get paths shown.path.0 ≡ Some document.path
+  pub number : number_of paths document.path ≡ Some shown.path.0
   pub uri : chars shown.uri.now ≡ document.uri
   pub language : chars shown.language.now ≡ document.language
   pub version : shown.version ≡ document.version

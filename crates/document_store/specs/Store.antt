@@ -1,13 +1,11 @@
 -- The open documents, the files of members and the numbers of paths (this project). A document is named by the path of
 -- its URI (Language Server Protocol 3.17, "TextDocumentItem").
-use Rattle.std.specs.Prelude.{◌≡◌, ℕ, ℤ, Bool, List, [], Option, None, Some, refl, position, find, slice_get}
-use Rattle.std.specs.Option.{option_map, option_and_then}
+use Rattle.std.specs.Prelude.{ℕ, ℤ, Bool, List, [], Option, None, Some, position, find, slice_get}
+use Rattle.std.specs.Option.{option_and_then}
 use Rattle.std.specs.Ordering.{nat_cmp}
 use Rattle.std.specs.Cmp.Lexicographic.{slice_cmp}
 use Rattle.std.specs.Str.{bytes_eq}
 use Rattle.std.specs.FinMap as map
-use Rattle.std.specs.Coded.{Coded, code_by, coded×, coded_ℕ, coded_ℤ, coded_list, coded_option}
-use Rattle.text_pool.specs.Pool.{Pool, pool_code}
 
 -- an open document: the path of its URI, the URI as it was opened, its language, version and text
 pub record OpenDocument : Type 0 where
@@ -45,7 +43,7 @@ document_of store path = find (is_at path) store.documents
 abbrev pub number_of : List (List ℕ) → List ℕ → Option ℕ
 number_of paths path = position (bytes_eq path) paths
 
-abbrev present_in : Store → List ℕ → Option OpenDocument → Option File
+abbrev pub present_in : Store → List ℕ → Option OpenDocument → Option File
 present_in store path (Some document) = Some (Readable document.text)
 present_in store path None = map.get store.files path
 

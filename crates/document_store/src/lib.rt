@@ -1,10 +1,10 @@
-//! Positions in texts and changes of texts, as the editor means them.
+//! The open documents, positions in their texts and changes of them, as the editor means them.
 //!
 //! A position has a line, counted from 0, and a place in the line, counted from 0 in UTF-16 units; a column counts from 1
 //! in characters. Lines end by LF, CRLF and CR (Language Server Protocol 3.17, "Text Documents"). A character past the
 //! line's end is that end, a line past the last is the end of the text, and a unit within a character is the start of that
-//! character. Changes apply in turn, and where one is refused none is applied. The definitions of the store of open
-//! documents stand here too; the store itself comes next.
+//! character. Changes apply in turn, and where one is refused none is applied. A document is named by the path of
+//! its URI.
 //!
 //! It knows nothing of messages, statements and files. A text has at most 4 MiB in UTF-8.
 #![tactic(auto)]
@@ -12,15 +12,20 @@
 mod changes;
 mod document;
 mod fault;
+mod kept;
 mod limits;
 mod lines;
+mod opening;
+mod paths;
 mod place;
+mod store;
 
 pub use changes::after_edits;
 pub use document::{Document, MemberText};
 pub use fault::StoreFault;
 pub use limits::MOST_DOCUMENTS;
 pub use place::{column, position};
+pub use store::DocumentStore;
 
 #[cfg(test)]
 mod tests;

@@ -1,4 +1,4 @@
-use crate::{StoreFault, after_edits, column, position};
+use crate::{DocumentStore, MOST_DOCUMENTS, MemberText, StoreFault, after_edits, column, position};
 use hl_base::{Edit, Edits, Position, Text};
 use std::alloc::Global;
 use std::test::Fail;
@@ -164,5 +164,90 @@ fn columns_count_characters_and_positions_units(rt: HostRuntime) -> Result<(), F
         let found = position(text, line, at);
         assert_eq!(rt; (found.line, found.character), want);
     }
+    Ok(())
+}
+
+/// What is present at a path.
+fn present(store: &DocumentStore, path: &str) -> Option<MemberText> {
+    store.present(store.path_id(path)?)
+}
+
+/// The version of the open document of a place.
+fn version(store: &DocumentStore, index: u32) -> Option<i32> {
+    match store.document(index) {
+        Some(document) => Some(document.version),
+        None => None,
+    }
+}
+
+#[test]
+fn at_most_64_documents_are_open(rt: HostRuntime) -> Result<(), Fail> {
+    let alloc = rt.alloc();
+    let mut store = DocumentStore::new(alloc);
+    for n in 0..MOST_DOCUMENTS {
+        let uri = format!(in alloc; "file:///d{n}.hlasm")?;
+        store.open_text(alloc, uri.as_str(), "hlasm", 1, "x")?;
+    }
+    let first = store.open_text(alloc, "file:///d0.hlasm", "hlasm", 2, "y");
+    assert_eq!(rt; first, Err(StoreFault::AlreadyOpen));
+    let more = store.open_text(alloc, "file:///e.hlasm", "hlasm", 2, "y");
+    assert_eq!(rt; more, Err(StoreFault::TooMany));
+    assert_eq!(rt;
+        store.path_id("/e.hlasm"),
+        None,
+        "a refused path has no number"
+    );
+    store.close(alloc, "file:///d0.hlasm")?;
+    store.open_text(alloc, "file:///e.hlasm", "hlasm", 2, "y")?;
+    assert_eq!(rt; version(&store, 0), Some(1), "the second is the first now");
+    assert_eq!(rt; version(&store, 63), Some(2));
+    assert_eq!(rt; version(&store, 64), None);
+    Ok(())
+}
+
+#[test]
+fn equal_texts_are_held_once(rt: HostRuntime) -> Result<(), Fail> {
+    let alloc = rt.alloc();
+    let mut store = DocumentStore::new(alloc);
+    store.open_text(alloc, "file:///a%20b", "hlasm", 1, "5\n")?;
+    store.open_text(alloc, "file:///c", "hlasm", 1, "5\n")?;
+    assert!(rt; present(&store, "/a b").is_some());
+    assert_eq!(rt; present(&store, "/a b"), present(&store, "/c"));
+    // The change of `7` for `5` is good, the next one ends before it starts: neither is made.
+    let refused = edits(
+        alloc,
+        &[
+            (Some((0, 0)), Some((0, 1)), "7"),
+            (Some((1, 0)), Some((0, 1)), "x"),
+        ],
+    )?;
+    let answer = store.change(alloc, "file:///c", 2, refused.as_slice());
+    assert_eq!(rt; answer, Err(StoreFault::BadRange(1)));
+    assert_eq!(rt; version(&store, 1), Some(1));
+    assert_eq!(rt; present(&store, "/a b"), present(&store, "/c"));
+    let good = edits(alloc, &[(Some((0, 0)), Some((0, 1)), "7")])?;
+    store.change(alloc, "file:///c", 3, good.as_slice())?;
+    assert_eq!(rt; version(&store, 1), Some(3));
+    assert_ne!(rt; present(&store, "/a b"), present(&store, "/c"));
+    store.change(alloc, "file:///a%20b", 2, good.as_slice())?;
+    assert_eq!(rt; present(&store, "/a b"), present(&store, "/c"));
+    Ok(())
+}
+
+#[test]
+fn calls_without_an_open_document_are_refused(rt: HostRuntime) -> Result<(), Fail> {
+    let alloc = rt.alloc();
+    let mut store = DocumentStore::new(alloc);
+    store.open_text(alloc, "file:///a", "hlasm", 1, "x")?;
+    store.close(alloc, "file:///a")?;
+    let none = edits(alloc, &[])?;
+    assert_eq!(rt; store.close(alloc, "file:///a"), Err(StoreFault::NotOpen));
+    assert_eq!(rt; store.close(alloc, "untitled:a"), Err(StoreFault::BadUri));
+    let changed = store.change(alloc, "file:///b", 2, none.as_slice());
+    assert_eq!(rt; changed, Err(StoreFault::NotOpen));
+    let opened = store.open_text(alloc, "untitled:a", "hlasm", 1, "x");
+    assert_eq!(rt; opened, Err(StoreFault::BadUri));
+    assert_eq!(rt; present(&store, "/a"), None, "its path keeps its number");
+    assert!(rt; store.path_id("/a").is_some());
     Ok(())
 }

@@ -1,4 +1,4 @@
-use Rattle.std.proofs.Common.{◌≡◌, ◌∙◌, sym, ap}
+use Rattle.std.proofs.Common.{◌∙◌, ap}
 use Rattle.std.specs.Prelude.{chars}
 use Rattle.hl_base.proofs.LineLaws.{cut_behind_crlf, cut_behind_end}
 use Rattle.document_store.specs.Positions.{whole_lines}

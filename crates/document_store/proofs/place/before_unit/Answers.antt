@@ -1,11 +1,10 @@
-use Rattle.std.proofs.Common.{◌≡◌, ◌∙◌, ◌+◌, ◌-◌, ◌<◌, ◌≤◌, length, drop, sym, ap, arith, subst}
+use Rattle.std.proofs.Common.{◌≡◌, ◌∙◌, ◌+◌, ◌<◌, ◌≤◌, length, sym, ap, arith, subst}
 use Rattle.std.specs.Prelude.{ℕ, chars}
 use Rattle.hl_base.specs.Texts.{unit_width}
 use Rattle.std.proofs.lemmas.Iterator.{YieldsList-from_chars}
 use Rattle.std.proofs.lemmas.Iterator.Consumers.{YieldsList-turn, YieldsList-end}
 use Rattle.std.proofs.lemmas.List.{length_push}
 use Rattle.document_store.specs.Places.{bytes_before}
-use Rattle.document_store.specs.Positions.{characters_before}
 use Rattle.document_store.proofs.PlaceLemmas.{unit_width_is, bytes_before-next, bytes_before-le, characters_before-next, characters_before-behind, characters_before-ended}
 use Rattle.document_store.proofs.place.before_unit.Goals as goal
 

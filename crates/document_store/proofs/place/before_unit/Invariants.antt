@@ -1,4 +1,4 @@
-use Rattle.std.proofs.Common.{◌≡◌, ◌+◌, ◌≤◌, length, drop}
+use Rattle.std.proofs.Common.{◌≡◌, ◌+◌, length, drop}
 use Rattle.std.specs.Prelude.{chars}
 use Rattle.document_store.specs.Positions.{characters_before}
 use Rattle.document_store.specs.Places.{bytes_before}

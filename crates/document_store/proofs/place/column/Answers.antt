@@ -1,6 +1,6 @@
-use Rattle.std.proofs.Common.{◌≡◌, ◌∙◌, ◌+◌, ◌≤◌, length, sym, ap, arith, cond}
+use Rattle.std.proofs.Common.{◌∙◌, ◌+◌, length, ap, arith, cond}
 use Rattle.std.specs.Prelude.{chars, ◌==◌}
-use Rattle.document_store.specs.Positions.{characters_before, line_of}
+use Rattle.document_store.specs.Positions.{characters_before}
 use Rattle.document_store.proofs.PlaceLemmas.{spot_of-line, spot_of-before, length-line_bytes, before_is_within}
 use Rattle.document_store.proofs.place.column.Goals as goal
 

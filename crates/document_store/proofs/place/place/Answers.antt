@@ -1,4 +1,3 @@
-use Rattle.std.proofs.Common.{sym}
 use Rattle.document_store.proofs.PlaceLemmas.{place_past_bytes}
 use Rattle.document_store.proofs.place.place.Goals as goal
 

@@ -1,7 +1,7 @@
-use Rattle.std.proofs.Common.{◌≡◌, ◌∙◌, ◌+◌, ◌-◌, ◌≤◌, length, ap, arith}
+use Rattle.std.proofs.Common.{◌≡◌, ◌∙◌, ◌+◌, ◌-◌, length, ap, arith}
 use Rattle.std.specs.Prelude.{chars}
 use Rattle.document_store.specs.Places.{bytes_before}
-use Rattle.document_store.specs.Positions.{characters_before, place_of, line_of}
+use Rattle.document_store.specs.Positions.{characters_before, place_of}
 use Rattle.document_store.proofs.PlaceLemmas.{place_in_bytes, bytes_before-le, text_of_rest}
 use Rattle.document_store.proofs.place.place_in.Goals as goal
 

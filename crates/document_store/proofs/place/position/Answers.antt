@@ -1,4 +1,4 @@
-use Rattle.std.proofs.Common.{◌≡◌, ◌∙◌, ◌-◌, ◌≤◌, length, take, sym, ap, arith, cond}
+use Rattle.std.proofs.Common.{◌∙◌, ◌-◌, length, take, ap, arith, cond}
 use Rattle.std.specs.Prelude.{ℕ, chars, ◌==◌}
 use Rattle.hl_base.specs.Texts.{units}
 use Rattle.hl_base.specs.declared.edit.Position.{Position}

@@ -1,5 +1,5 @@
-use Rattle.std.proofs.Common.{◌≡◌, ◌∙◌, ◌+◌, ◌-◌, ◌<◌, ◌≤◌, length, drop, sym, ap, arith, subst}
-use Rattle.std.specs.Prelude.{ℕ, chars}
+use Rattle.std.proofs.Common.{◌≡◌, length, arith}
+use Rattle.std.specs.Prelude.{chars}
 use Rattle.hl_base.specs.Texts.{unit_width}
 use Rattle.hl_base.proofs.UnitLaws.{units-le}
 use Rattle.std.proofs.lemmas.Iterator.{YieldsList-from_chars}

@@ -1,4 +1,4 @@
-use Rattle.std.proofs.Common.{◌≡◌, ◌+◌, ◌≤◌, length, take, drop}
+use Rattle.std.proofs.Common.{◌≡◌, ◌+◌, length, take, drop}
 use Rattle.std.specs.Prelude.{chars}
 use Rattle.hl_base.specs.Texts.{units}
 use Rattle.document_store.proofs.place.units_before.Given as goal

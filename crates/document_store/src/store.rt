@@ -1,0 +1,271 @@
+//! The store of open documents.
+ghost use Rattle.std.specs.Prelude.{◌≡◌, ◌+◌, ◌<◌, ◌≤◌, ℕ, length, IfOk, IfErr, IfSome, OnOk, OnErr, IsSome, ◌==◌, ◌^◌, Some, None, position, slice_get, slice_index_or, unwrap_or, []};
+ghost use Rattle.std.specs.Option.{option_map, option_and_then};
+ghost use Rattle.std.specs.Str.{chars};
+ghost use Rattle.document_store.specs.Store as store;
+ghost use Rattle.document_store.specs.Changes.{opened, changed, closed, with_document, with_text, Answers, MayOpen};
+ghost use Rattle.document_store.specs.Holdings as holdings;
+ghost use Rattle.document_store.specs.Shown.{IsShown, IsPresent};
+ghost use Rattle.document_store.specs.Positions as positions;
+
+use crate::changes::after_edits;
+use crate::kept::{KeptDocument, append, place_in};
+use crate::opening::prepare;
+use crate::paths::{enter, number_in};
+use crate::{Document, MOST_DOCUMENTS, MemberText, StoreFault, place};
+use file_uri::file_path;
+use hl_base::{Edit, PathId, Position, Text};
+use std::alloc::Global;
+use std::marker::Model;
+use text_pool::{LONGEST_TEXT, TextPool};
+
+/// The open documents in order of opening, and the numbers of paths. Contracts see its `Store` and its pool.
+#[derive(Drop)]
+pub struct DocumentStore {
+    // The paths in the order of their numbers. A path keeps its number for good.
+    paths: Vec<Text>,
+    documents: Vec<KeptDocument>,
+    pool: TextPool,
+}
+
+impl Model for DocumentStore {
+    ghost use Rattle.document_store.specs.Holdings.{Holdings, holdings_code};
+
+    ghost Value = { Holdings };
+
+    ghost coded = { holdings_code };
+
+    ghost use Rattle.document_store.specs.Inside.{holdings_of, IsKept};
+
+    ghost view = { λ s. holdings_of s.paths.items s.documents.items s.pool };
+
+    ghost invariant = { λ s. IsKept s.paths.items s.documents.items s.pool };
+}
+
+impl DocumentStore {
+    /// A store without documents. It takes no memory.
+    pub fn new(alloc: Global) -> DocumentStore
+        ensures { result.store ≡ store.empty_store }
+    {
+        DocumentStore {
+            paths: Vec::new(alloc),
+            documents: Vec::new(alloc),
+            pool: TextPool::new(alloc),
+        }
+    }
+
+    /// The pool of the texts that are present.
+    pub fn pool(&self) -> &TextPool
+        ensures { result.now ≡ self.now.pool }
+    {
+        &self.pool
+    }
+
+    /// The number of a path; none where no document of it was ever opened.
+    pub fn path_id(&self, path: &str) -> Option<PathId>
+        ensures { option_map (λ id. id.0) result ≡ store.number_of self.now.store.paths (chars path.now) }
+    {
+        let number = number_in(self.paths.as_slice(), path)?;
+        Some(PathId(number as u32))
+    }
+
+    /// The path of a number that was given.
+    pub fn path_text(&self, path: PathId) -> &str
+        requires given { path.0 < length self.now.store.paths }
+        ensures { Some (chars result.now) ≡ slice_get self.now.store.paths path.0 }
+    {
+        self.paths[path.0 as usize].as_str()
+    }
+
+    /// The open document of a place in the order of opening, counted from 0.
+    pub fn document(&self, index: u32) -> Option<Document<'_>>
+        ensures { IsShown self.now.store.paths (slice_get self.now.store.documents index) result }
+    {
+        match self.documents.get(index as usize) {
+            Some(kept) => Some(kept.shown()),
+            None => None,
+        }
+    }
+
+    /// What is present at the path of a number.
+    pub fn present(&self, path: PathId) -> Option<MemberText>
+        ensures { IsPresent self.now.pool (store.present_at self.now.store path.0) result }
+    {
+        match self.place(path) {
+            Some(at) => Some(MemberText::File(self.documents[at].text)),
+            None => None,
+        }
+    }
+
+    /// The line, counted from 0, and the column, counted from 1 in characters, of a position in the text that is present
+    /// at a path (Language Server Protocol 3.17, "Position").
+    pub fn column(&self, path: PathId, at: Position) -> (u32, u32)
+        requires present { IsSome (holdings.present_text self.now.store path.0) }
+        ensures line { IfSome (holdings.present_text self.now.store path.0) (λ text. result.0 ≡ (positions.column_of text at).0) }
+        ensures column { IfSome (holdings.present_text self.now.store path.0) (λ text. result.1 ≡ (positions.column_of text at).1) }
+    {
+        place::column(self.present_text(path), at)
+    }
+
+    /// The position of a column, counted from 1 in characters, of a line, counted from 0, of the text that is present at a
+    /// path. Column 0 is read as column 1.
+    pub fn position(&self, path: PathId, line: u32, column: u32) -> Position
+        requires present { IsSome (holdings.present_text self.now.store path.0) }
+        ensures { IfSome (holdings.present_text self.now.store path.0) (λ text. result ≡ positions.position_of text line column) }
+    {
+        place::position(self.present_text(path), line, column)
+    }
+
+    /// The text that is present at a path.
+    fn present_text(&self, path: PathId) -> &str
+        requires present { IsSome (holdings.present_text self.now.store path.0) }
+        ensures text { holdings.present_text self.now.store path.0 ≡ Some (chars result.now) }
+        ensures short { length result.now ≤ LONGEST_TEXT }
+    {
+        match self.place(path) {
+            Some(at) => self.pool.text(self.documents[at].text),
+            None => unreachable!(),
+        }
+    }
+
+    /// The place of the open document of a path.
+    fn find(&self, path: &str) -> Option<usize>
+        ensures { result ≡ position (store.is_at (chars path.now)) self.now.store.documents }
+    {
+        place_in(self.documents.as_slice(), path)
+    }
+
+    /// The place of the open document at the path of a number.
+    fn place(&self, path: PathId) -> Option<usize>
+        ensures { result ≡ option_and_then (λ p. position (store.is_at p) self.now.store.documents) (slice_get self.now.store.paths path.0) }
+    {
+        let path = self.paths.get(path.0 as usize)?;
+        self.find(path.as_str())
+    }
+
+    /// Whether a document of a path may be opened with a text.
+    fn may_open(&self, path: &str, text: &str) -> Result<(), StoreFault>
+        ensures { MayOpen self.now.store (chars path.now) (chars text.now) result }
+    {
+        if self.find(path).is_some() {
+            return Err(StoreFault::AlreadyOpen);
+        }
+        if self.documents.as_slice().len() >= MOST_DOCUMENTS {
+            return Err(StoreFault::TooMany);
+        }
+        if text.len() > LONGEST_TEXT {
+            return Err(StoreFault::TextTooLong);
+        }
+        Ok(())
+    }
+
+    /// Takes in a document of a path at which none is open, with a text that is not too long.
+    fn admit(
+        &mut self,
+        alloc: Global,
+        path: &str,
+        uri: &str,
+        language: &str,
+        version: i32,
+        text: &str,
+    ) -> Result<(), StoreFault>
+        requires absent { store.document_of self.old.store (chars path.now) ≡ None }
+        requires short { length text.now ≤ LONGEST_TEXT }
+        ensures taken { OnOk result (self.new.store ≡ with_document self.old.store (record { path = chars path.now; uri = chars uri.now; language = chars language.now; version = version; text = chars text.now })) }
+        ensures memory { IfErr result (λ fault. fault ≡ StoreFault.OutOfMemory) }
+        ensures kept { OnErr result (self.new ≡ self.old) }
+    {
+        let opening = prepare(alloc, self.paths.as_slice(), path, uri, language, version)?;
+        self.documents.reserve(1)?;
+        self.paths.reserve(1)?;
+        let text = self.pool.intern(alloc, text)?;
+        let (key, kept) = opening.keep(text);
+        enter(&mut self.paths, key);
+        append(&mut self.documents, kept);
+        Ok(())
+    }
+
+    /// Opens a document (Language Server Protocol 3.17, "DidOpenTextDocument Notification"). An `Err` changes nothing.
+    pub fn open_text(
+        &mut self,
+        alloc: Global,
+        uri: &str,
+        language: &str,
+        version: i32,
+        text: &str,
+    ) -> Result<(), StoreFault>
+        ensures answer { Answers (opened self.old.store (chars uri.now) (chars language.now) version (chars text.now)) result self.new.store }
+        ensures kept { OnErr result (self.new ≡ self.old) }
+    {
+        let path = file_path(alloc, uri)?;
+        self.may_open(path.as_str(), text)?;
+        self.admit(alloc, path.as_str(), uri, language, version, text)
+    }
+
+    /// The text of the open document of a place.
+    fn text_at(&self, at: usize) -> &str
+        requires { at < length self.now.store.documents }
+        ensures text { IfSome (slice_get self.now.store.documents at) (λ document. chars result.now ≡ document.text) }
+        ensures short { length result.now ≤ LONGEST_TEXT }
+    {
+        self.pool.text(self.documents[at].text)
+    }
+
+    /// Gives the document of a path, which is at a place, another version and text. The path is for the contract alone.
+    fn replace(
+        &mut self,
+        alloc: Global,
+        _path: &str,
+        at: usize,
+        version: i32,
+        text: &str,
+    ) -> Result<(), StoreFault>
+        requires found { position (store.is_at (chars _path.now)) self.old.store.documents ≡ Some at }
+        requires short { length text.now ≤ LONGEST_TEXT }
+        ensures replaced { OnOk result (self.new.store ≡ with_text self.old.store (chars _path.now) version (chars text.now)) }
+        ensures memory { IfErr result (λ fault. fault ≡ StoreFault.OutOfMemory) }
+        ensures kept { OnErr result (self.new ≡ self.old) }
+    {
+        let old = self.documents[at].text;
+        let new = self.pool.intern(alloc, text)?;
+        self.pool.release(old);
+        self.documents[at].rewrite(version, new);
+        Ok(())
+    }
+
+    /// Changes the text of a document and gives it a version (Language Server Protocol 3.17, "DidChangeTextDocument
+    /// Notification"): the changes apply in turn, each to the text that the one before left. An `Err` changes nothing.
+    pub fn change(
+        &mut self,
+        alloc: Global,
+        uri: &str,
+        version: i32,
+        edits: &[Edit],
+    ) -> Result<(), StoreFault>
+        ensures answer { Answers (changed self.old.store (chars uri.now) version edits.now) result self.new.store }
+        ensures kept { OnErr result (self.new ≡ self.old) }
+    {
+        let path = file_path(alloc, uri)?;
+        let Some(at) = self.find(path.as_str()) else {
+            return Err(StoreFault::NotOpen);
+        };
+        match after_edits(alloc, self.text_at(at), edits) {
+            Ok(text) => self.replace(alloc, path.as_str(), at, version, text.as_str()),
+            Err(fault) => Err(fault),
+        }
+    }
+
+    /// Closes a document (Language Server Protocol 3.17, "DidCloseTextDocument Notification"). An `Err` changes nothing.
+    pub fn close(&mut self, alloc: Global, uri: &str) -> Result<(), StoreFault>
+        ensures answer { Answers (closed self.old.store (chars uri.now)) result self.new.store }
+        ensures kept { OnErr result (self.new ≡ self.old) }
+    {
+        let path = file_path(alloc, uri)?;
+        let Some(at) = place_in(self.documents.as_slice(), path.as_str()) else {
+            return Err(StoreFault::NotOpen);
+        };
+        let document = self.documents.remove(at);
+        self.pool.release(document.text);
+        Ok(())
+    }
+}
