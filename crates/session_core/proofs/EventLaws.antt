@@ -1,5 +1,5 @@
 -- Steps of notifications, as the code makes them.
-use Rattle.std.proofs.Common.{◌≡◌, ◌≢◌, ℕ, ℤ, ◌≤◌, Bool, true, false, cond, List, [], ◌∷◌, ◌++◌, codes, Option, Some, None, Result, Ok, Err, refl, sym, ap, ◌∙◌, subst}
+use Rattle.std.proofs.Common.{◌≡◌, ◌≢◌, ℕ, ℤ, false, cond, List, [], ◌∷◌, ◌++◌, codes, Option, Result, Ok, Err, refl, sym, ap, ◌∙◌, subst}
 use Rattle.std.proofs.lemmas.List.{append-nil}
 use Rattle.std.specs.Prelude.{encode_utf8_all}
 use Rattle.hl_base.specs.declared.edit.Edit.{Edit}
@@ -12,11 +12,10 @@ use Rattle.document_store.specs.declared.fault.StoreFault.{StoreFault}
 use Rattle.document_store.specs.declared.fault.StoreFault.TheVariants as fault
 use Rattle.session_core.specs.declared.state.LastList.{LastList}
 use Rattle.session_core.specs.declared.state.Stage.{Stage}
-use Rattle.session_core.specs.declared.state.Stage.TheVariants.{Active}
 use Rattle.session_core.specs.Bodies.{log_line, refusal_of}
-use Rattle.session_core.specs.Message.{notified, is_optional, is_active, after_change, after_closing, after_leaving, queue_all, farewell_at}
+use Rattle.session_core.specs.Message.{notified, is_optional, after_change, after_closing, farewell_at}
 use Rattle.session_core.specs.State.{State, programs, with_programs, without, published_without}
-use Rattle.session_core.specs.Step.{Step, quiet, says, written, IsStep}
+use Rattle.session_core.specs.Step.{quiet, says, written, IsStep}
 use Rattle.session_core.proofs.StoreLaws.{Answers-refused}
 
 abbrev pub state_of : Stage → Store → List PathId → List LastList → State

@@ -1,5 +1,5 @@
 -- Lists from an index on.
-use Rattle.std.proofs.Common.{◌≡◌, ℕ, ◌+◌, ◌<◌, ◌≤◌, Bool, ◌&&◌, List, [], ◌∷◌, length, drop, take, ◌++◌, get_or, Option, Some, None, zero, suc, refl, ap, ◌∙◌, slice_get, arith, cond, find, true, false, Result, Ok, Err, OnOk}
+use Rattle.std.proofs.Common.{◌≡◌, ℕ, ◌+◌, ◌<◌, ◌≤◌, Bool, ◌&&◌, List, [], ◌∷◌, length, drop, take, ◌++◌, get_or, Some, None, zero, suc, refl, ap, ◌∙◌, slice_get, arith, cond, find, true, false, Result, Ok, Err, OnOk}
 use Rattle.std.specs.List.{remove}
 use Rattle.std.specs.Cmp.Lexicographic.{pointwise}
 use Rattle.std.proofs.lemmas.List.{drop_more}

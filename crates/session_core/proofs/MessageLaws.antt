@@ -1,7 +1,6 @@
 -- What a message that is refused leaves, and what stands behind the end.
-use Rattle.std.proofs.Common.{◌≡◌, ℕ, ◌≤◌, Bool, true, false, not, cond, List, [], ◌∷◌, length, Option, Some, None, Result, Ok, Err, refl, sym, ap, ◌∙◌, arith, codes}
+use Rattle.std.proofs.Common.{◌≡◌, ℕ, Bool, true, false, not, cond, List, Option, Some, None, Result, Ok, Err, refl, arith, codes}
 use Rattle.std.specs.Prelude.{is_err}
-use Rattle.std.specs.Str.{bytes_eq}
 use Rattle.serde_json.specs.Data.{Data}
 use Rattle.json_view.specs.Texts.{reading}
 use Rattle.io_edge.specs.LibraryCall.{LibraryCall}
@@ -19,10 +18,9 @@ use Rattle.document_store.specs.declared.fault.StoreFault.{StoreFault}
 use Rattle.session_core.specs.declared.phase.Phase.TheVariants as phases
 use Rattle.session_core.specs.declared.state.Stage.{Stage}
 use Rattle.session_core.specs.declared.state.Stage.TheVariants.{Fresh, Active, Closing, Ended}
-use Rattle.session_core.specs.Bodies.{parse_error}
 use Rattle.session_core.specs.Held.{phase_of}
 use Rattle.session_core.specs.Laws.{is_fresh, is_refused, is_refused_value, is_refused_body, Keeps}
-use Rattle.session_core.specs.Message.{message, received, heard, asked, by_id, id_told, is_initialize, requested, noticed, notified, placed, granted, after_change, after_closing, is_optional, is_active, is_ended}
+use Rattle.session_core.specs.Message.{message, received, asked, by_id, is_initialize, placed, after_change, after_closing, is_optional, is_active, is_ended}
 use Rattle.session_core.specs.State.{State, number_named}
 use Rattle.session_core.specs.Step.{Step, quiet, says}
 

@@ -1,9 +1,9 @@
 -- The open documents by the numbers of their paths, and the queue of programs.
-use Rattle.std.proofs.Common.{◌≡◌, ◌≢◌, ℕ, ◌+◌, ◌<◌, ◌≤◌, Bool, true, false, not, ◌&&◌, ◌==◌, cond, List, [], ◌∷◌, ◌++◌, length, drop, take, map, filter, find, Option, Some, None, zero, suc, refl, sym, ap, ◌∙◌, subst, slice_get, arith, append_assoc}
+use Rattle.std.proofs.Common.{◌≡◌, ℕ, ◌+◌, ◌≤◌, Bool, true, false, not, ◌&&◌, ◌==◌, cond, List, [], ◌∷◌, ◌++◌, length, drop, take, map, filter, find, Option, Some, None, refl, sym, ap, ◌∙◌, subst, slice_get, append_assoc}
 use Rattle.std.specs.Str.{chars}
 use Rattle.std.proofs.lemmas.List.{append-nil}
 use Rattle.hl_base.specs.declared.place.PathId.{PathId}
-use Rattle.document_store.specs.Store.{Store, OpenDocument, number_of}
+use Rattle.document_store.specs.Store.{Store, OpenDocument}
 use Rattle.document_store.specs.Shown.{IsShown, Shows}
 use Rattle.document_store.specs.declared.document.Document.{Document}
 use Rattle.session_core.specs.Inside.{wanted_of, wanted_from}

@@ -1,5 +1,5 @@
 -- The text of a document that is found by its number, and its list.
-use Rattle.std.proofs.Common.{◌≡◌, ℕ, Bool, true, false, cond, ◌==◌, List, [], ◌∷◌, find, Option, Some, None, ◌++◌, ℤ, refl, sym, ap, ◌∙◌, subst, slice_get}
+use Rattle.std.proofs.Common.{◌≡◌, ℕ, Bool, true, false, cond, ◌==◌, List, [], ◌∷◌, find, Option, Some, None, ◌++◌, refl, sym, ap, ◌∙◌, subst, slice_get}
 use Rattle.std.proofs.lemmas.List.{append-nil}
 use Rattle.std.specs.Str.{chars}
 use Rattle.std.proofs.lemmas.Bool.Decides.{Decides-eqb}
@@ -10,12 +10,10 @@ use Rattle.hl_base.specs.declared.place.PathId.{PathId}
 use Rattle.document_store.specs.Store.{Store, OpenDocument, number_of, document_of, is_at, present, present_at, File, Readable}
 use Rattle.std.specs.FinMap as map
 use Rattle.std.specs.Option.{option_and_then}
-use Rattle.text_pool.specs.Pool.{Pool, text_of}
-use Rattle.document_store.specs.Shown.{IsPresent, IsShown, Shows}
+use Rattle.text_pool.specs.Pool.{Pool}
+use Rattle.document_store.specs.Shown.{IsPresent, IsShown}
 use Rattle.document_store.specs.declared.document.Document.{Document}
 use Rattle.document_store.specs.declared.document.MemberText.{MemberText}
-use Rattle.document_store.specs.declared.document.MemberText.TheVariants as member
-use Rattle.hl_base.specs.declared.place.TextId.{TextId}
 use Rattle.lsp_messages.specs.declared.outgoing.Diagnostic.{Diagnostic}
 use Rattle.session_core.specs.declared.state.LastList.{LastList}
 use Rattle.session_core.specs.Bodies.{list_body}

@@ -1,8 +1,8 @@
 -- The bodies that a session writes (JSON-RPC 2.0, "Response object"; LSP 3.17, `ErrorCodes`, `LogMessageParams`).
-use Rattle.std.specs.Prelude.{ℕ, ℤ, pos, neg_ℤ, List, [], ◌++◌, codes, Option, Some, None, encode_utf8_all}
+use Rattle.std.specs.Prelude.{ℕ, ℤ, pos, neg_ℤ, List, ◌++◌, codes, Option, Some, None, encode_utf8_all}
 use Rattle.std.specs.Fmt.{decimal}
 use Rattle.std.specs.Str.{chars}
-use Rattle.serde_json.specs.Data.{Data, null}
+use Rattle.serde_json.specs.Data.{null}
 use Rattle.serde_json.specs.Written.{compact_text}
 use Rattle.lsp_messages.specs.declared.incoming.Id.{Id}
 use Rattle.lsp_messages.specs.declared.outgoing.Diagnostic.{Diagnostic}

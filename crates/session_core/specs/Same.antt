@@ -1,5 +1,5 @@
 -- Whether two lists of diagnostics are the same, member by member (this project).
-use Rattle.std.specs.Prelude.{ℕ, Bool, ◌==◌, ◌&&◌, List}
+use Rattle.std.specs.Prelude.{Bool, ◌==◌, ◌&&◌, List}
 use Rattle.std.specs.Cmp.Lexicographic.{pointwise}
 use Rattle.std.specs.Str.{bytes_eq}
 use Rattle.hl_base.specs.declared.edit.Position.{Position}

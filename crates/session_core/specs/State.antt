@@ -1,5 +1,5 @@
 -- What a session knows between two events (this project).
-use Rattle.std.specs.Prelude.{◌≡◌, ℕ, ℤ, ◌==◌, Bool, true, not, ◌&&◌, false, List, [], ◌∷◌, ◌++◌, Option, Some, None, codes, map, filter, find, unwrap_or, option_map, option_and_then, encode_utf8_all}
+use Rattle.std.specs.Prelude.{ℕ, ◌==◌, Bool, true, not, false, List, [], ◌∷◌, ◌++◌, Option, Some, None, codes, map, filter, find, unwrap_or, option_map, option_and_then, encode_utf8_all}
 use Rattle.std.specs.List.{list_any}
 use Rattle.std.specs.Str.{bytes_eq}
 use Rattle.hl_base.specs.declared.place.PathId.{PathId}

@@ -28,8 +28,3 @@ mod state;
 pub use fault::SessionFault;
 pub use phase::Phase;
 pub use session::Session;
-
-#[cfg(test)]
-mod conversations;
-#[cfg(test)]
-mod tests;

@@ -1,4 +1,4 @@
-use Rattle.std.proofs.Common.{◌≡◌, ◌++◌, ◌∙◌, ap, take, length}
+use Rattle.std.proofs.Common.{◌++◌, ◌∙◌, ap, take, length}
 use Rattle.session_core.specs.Inside.{wanted_of}
 use Rattle.session_core.proofs.ProgramLaws.{queuing_goes_on, queuing_ends, nothing_behind}
 use Rattle.session_core.proofs.programs.queue_programs.Goals as goal

@@ -1,4 +1,3 @@
-use Rattle.std.proofs.Common.{◌≡◌, length}
 use Rattle.session_core.proofs.ProgramLaws.{IsQueuing}
 use Rattle.session_core.proofs.programs.queue_programs.Given as goal
 

@@ -1,4 +1,4 @@
-use Rattle.session_core.proofs.TurnLaws.{turning_goes_on, turning_smaller, turning_ends}
+use Rattle.session_core.proofs.TurnLaws.{turning_goes_on, turning_smaller}
 use Rattle.session_core.proofs.standing.Standing.all_turns.Goals as goal
 
 pub queue-smaller : goal.queue-smaller

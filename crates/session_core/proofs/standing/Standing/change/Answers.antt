@@ -1,6 +1,5 @@
 use Rattle.std.proofs.Common.{ap, codes, w32}
 use Rattle.std.proofs.lemmas.Int.{to_z-of_z}
-use Rattle.document_store.specs.Changes.{changed}
 use Rattle.document_store.specs.Holdings.{Holdings}
 use Rattle.session_core.specs.State.{State}
 use Rattle.session_core.proofs.EventLaws.{change_refused, changed_same, state_kept, state_of}

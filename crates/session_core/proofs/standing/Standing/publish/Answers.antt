@@ -1,5 +1,5 @@
 use Rattle.std.proofs.Common.{◌≡◌, ◌++◌, ◌∷◌, [], ◌∙◌, ap, sym, subst, true, false}
-use Rattle.session_core.specs.State.{State, document_at, last_list, with_list}
+use Rattle.session_core.specs.State.{document_at, last_list, with_list}
 use Rattle.session_core.specs.Step.{IsStep, written}
 use Rattle.session_core.specs.Turn.{turn_at, is_published}
 use Rattle.session_core.proofs.EventLaws.{state_of}
