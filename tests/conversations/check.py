@@ -1,0 +1,64 @@
+#!/usr/bin/env python3
+"""Whole conversations with the built program: what a client sends, the exact bytes that are written, and how it ends.
+
+conversations.json has a list; each element says what it shows, the bodies that are sent (`says`), the bodies that are
+written (`hears`) and the name of the status (`ends`). The body `initialize` stands for a whole such request, and `offer`
+for its answer. Each was worked out by hand from LSP 3.17 and JSON-RPC 2.0.
+
+Usage: check.py [--server PATH]
+"""
+import argparse
+import json
+import os
+import subprocess
+import sys
+
+HERE = os.path.dirname(os.path.realpath(__file__))
+BUILT = os.path.normpath(os.path.join(HERE, "../../crates/hlasm_ls/out/hlasm_ls"))
+
+INITIALIZE = '{"id":1,"jsonrpc":"2.0","method":"initialize","params":{}}'
+OFFER = ('{"id":1,"jsonrpc":"2.0","result":{"capabilities":{"definitionProvider":true,"documentSymbolProvider":true,'
+         '"hoverProvider":true,"positionEncoding":"utf-16","referencesProvider":true,"textDocumentSync":{"change":2,"openClose":true}},'
+         '"serverInfo":{"name":"hlasm_ls","version":"1"}}}')
+STATUSES = {"Done": 0, "NoShutdown": 1, "InputEnded": 2}
+
+
+def framed(bodies):
+    """The bodies, each in a frame."""
+    parts = []
+    for body in bodies:
+        data = body.encode()
+        parts.append(b"Content-Length: %d\r\n\r\n" % len(data) + data)
+    return b"".join(parts)
+
+
+def difference(server, row):
+    """What is wrong with a conversation, if anything."""
+    says = framed(INITIALIZE if body == "initialize" else body for body in row["says"])
+    hears = framed(OFFER if body == "offer" else body for body in row["hears"])
+    run = subprocess.run([server, "serve"], input=says, capture_output=True, timeout=60)
+    if run.stdout != hears:
+        return f"wrote {run.stdout!r}, not {hears!r}"
+    if run.returncode != STATUSES[row["ends"]]:
+        return f"ended with status {run.returncode}, not {row['ends']}"
+    return None
+
+
+def main():
+    parser = argparse.ArgumentParser(description=__doc__.splitlines()[0])
+    parser.add_argument("--server", default=BUILT)
+    server = parser.parse_args().server
+    with open(os.path.join(HERE, "conversations.json"), encoding="utf-8") as file:
+        rows = json.load(file)
+    wrong = 0
+    for row in rows:
+        found = difference(server, row)
+        if found:
+            wrong += 1
+            print(f"{row['shows']}: {found}")
+    print(f"conversations: {len(rows) - wrong} as they should be, {wrong} not")
+    return 1 if wrong else 0
+
+
+if __name__ == "__main__":
+    sys.exit(main())
