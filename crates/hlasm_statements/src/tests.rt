@@ -159,8 +159,8 @@ fn fields(alloc: Global, text: &str) -> Result<String, AllocError> {
     Ok(seen)
 }
 
-/// The fields of statements, worked out by hand and by a program that knows nothing of this one.
-const FIELDS: [(&str, &str); 112] = [
+/// Apostrophes of attributes and of quoted texts: the fields of statements, worked out by hand and by a program that knows nothing of this one.
+const ATTRIBUTES: [(&str, &str); 28] = [
     ("A EQU D'B X", "[A] [EQU] [D'B];"),
     ("A EQU I'B X", "[A] [EQU] [I'B];"),
     ("A EQU K'B X", "[A] [EQU] [K'B];"),
@@ -189,6 +189,20 @@ const FIELDS: [(&str, &str); 112] = [
     (" DC L'* 2' X", "[] [DC] [L'* 2'];"),
     (" DC L'' X", "[] [DC] [L''];"),
     (" DC C'IT''S A' X", "[] [DC] [C'IT''S A'];"),
+];
+
+#[test]
+fn apostrophes_of_attributes_are_told_apart(rt: HostRuntime) -> Result<(), Fail> {
+    for (short, want) in ATTRIBUTES {
+        let text = text_of(rt.alloc(), short)?;
+        let seen = fields(rt.alloc(), text.as_str())?;
+        assert_eq!(rt; seen.as_str(), want, "at {short:?}");
+    }
+    Ok(())
+}
+
+/// Blanks within quotes and parentheses, and name entries: the fields of statements, worked out by hand and by a program that knows nothing of this one.
+const QUOTES_AND_PARENTHESES: [(&str, &str); 28] = [
     (" DC C'''' X", "[] [DC] [C''''];"),
     (" MVC A,=C' , ' X", "[] [MVC] [A,=C' , '];"),
     (" DC C'(' X)", "[] [DC] [C'('];"),
@@ -217,6 +231,20 @@ const FIELDS: [(&str, &str); 112] = [
     ("A CSECT", "[A] [CSECT] [];"),
     ("A CSECT   ", "[A] [CSECT] [];"),
     (".X ANOP , X", "[.X] [ANOP] [,];"),
+];
+
+#[test]
+fn blanks_in_quotes_and_parentheses_belong_to_the_operands(rt: HostRuntime) -> Result<(), Fail> {
+    for (short, want) in QUOTES_AND_PARENTHESES {
+        let text = text_of(rt.alloc(), short)?;
+        let seen = fields(rt.alloc(), text.as_str())?;
+        assert_eq!(rt; seen.as_str(), want, "at {short:?}");
+    }
+    Ok(())
+}
+
+/// Entries and fields that go on over lines: the fields of statements, worked out by hand and by a program that knows nothing of this one.
+const ENTRIES_AND_CONTINUATIONS: [(&str, &str); 28] = [
     ("$A#@_9 DS 0F", "[$A#@_9] [DS] [0F];"),
     ("A-B LR 1,2", "[A-B] [LR] [1,2];"),
     ("&A&B LR 1,2", "[&A&B] [LR] [1,2];"),
@@ -272,6 +300,20 @@ const FIELDS: [(&str, &str); 112] = [
     (" END A, x|X\n               B x", "[] [END] [A,];"),
     (" &OP A, x|X\n               B x", "[] [&OP] [A,];"),
     (" A&B A, x|X\n               B x", "[] [A&B] [A,];"),
+];
+
+#[test]
+fn fields_go_on_over_lines(rt: HostRuntime) -> Result<(), Fail> {
+    for (short, want) in ENTRIES_AND_CONTINUATIONS {
+        let text = text_of(rt.alloc(), short)?;
+        let seen = fields(rt.alloc(), text.as_str())?;
+        assert_eq!(rt; seen.as_str(), want, "at {short:?}");
+    }
+    Ok(())
+}
+
+/// The alternate format: the fields of statements, worked out by hand and by a program that knows nothing of this one.
+const ALTERNATE_FORMAT: [(&str, &str); 28] = [
     (" CALL A, x|X\n               B x", "[] [CALL] [A,B];"),
     (" GBLA A, x|X\n               B x", "[] [GBLA] [A,B];"),
     (" AIF A, x|X\n               B x", "[] [AIF] [A,B];"),
@@ -351,8 +393,8 @@ const FIELDS: [(&str, &str); 112] = [
 ];
 
 #[test]
-fn fields_are_those_worked_out_by_hand(rt: HostRuntime) -> Result<(), Fail> {
-    for (short, want) in FIELDS {
+fn remarks_may_stand_behind_a_comma(rt: HostRuntime) -> Result<(), Fail> {
+    for (short, want) in ALTERNATE_FORMAT {
         let text = text_of(rt.alloc(), short)?;
         let seen = fields(rt.alloc(), text.as_str())?;
         assert_eq!(rt; seen.as_str(), want, "at {short:?}");

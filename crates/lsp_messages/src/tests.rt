@@ -119,8 +119,14 @@ fn told(alloc: Global, read: &Result<LspIn, Refusal>) -> Result<String, AllocErr
     }
 }
 
+/// Whether a body is read so, in words.
+fn is_read_as(alloc: Global, body: &str, wanted: &str) -> Result<bool, Fail> {
+    let read = read_lsp(alloc, &parse(alloc, body.as_bytes())?);
+    Ok(told(alloc, &read)?.as_str() == wanted)
+}
+
 /// Bodies, each with what it is, in words.
-const BODIES: [(&str, &str); 52] = [
+const BODIES: [(&str, &str); 26] = [
     (
         r#"{"id":1,"jsonrpc":"2.0","method":"initialize","params":{}}"#,
         "initialize 1 -",
@@ -159,7 +165,6 @@ const BODIES: [(&str, &str); 52] = [
         r#"{"jsonrpc":"2.0","method":"workspace/didChangeConfiguration","params":null}"#,
         "configuration",
     ),
-    // The last of two members of one name counts.
     (
         r#"{"id":1,"jsonrpc":"1.0","method":"exit","id":2,"method":"shutdown","jsonrpc":"2.0"}"#,
         "shutdown 2",
@@ -168,7 +173,6 @@ const BODIES: [(&str, &str); 52] = [
         r#"{"id":1,"jsonrpc":"2.0","method":"shutdown","id":null}"#,
         "NotRequest",
     ),
-    // Ids that are none.
     (
         r#"{"id":null,"jsonrpc":"2.0","method":"initialize"}"#,
         "NotRequest",
@@ -217,8 +221,19 @@ const BODIES: [(&str, &str); 52] = [
         r#"{"id":{},"jsonrpc":"2.0","method":"foo/bar"}"#,
         "NotRequest",
     ),
-    // No request and no notification.
     (r#"{"id":6,"method":"initialize"}"#, "NotRequest"),
+];
+
+#[test]
+fn reads_bodies(rt: HostRuntime) -> Result<(), Fail> {
+    for (body, wanted) in BODIES {
+        assert!(rt; is_read_as(rt.alloc(), body, wanted)?, "{body}");
+    }
+    Ok(())
+}
+
+/// Further bodies, each with what it is, in words.
+const MORE_BODIES: [(&str, &str); 26] = [
     (
         r#"{"id":6,"jsonrpc":2.0,"method":"initialize"}"#,
         "NotRequest",
@@ -245,7 +260,6 @@ const BODIES: [(&str, &str); 52] = [
     ("null", "NotRequest"),
     ("\"exit\"", "NotRequest"),
     ("1", "NotRequest"),
-    // Methods that are not known, or not in this form.
     (
         r#"{"id":"x","jsonrpc":"2.0","method":"foo/bar"}"#,
         "foo/bar 'x': UnknownMethod",
@@ -291,11 +305,9 @@ const BODIES: [(&str, &str); 52] = [
 ];
 
 #[test]
-fn reads_bodies(rt: HostRuntime) -> Result<(), Fail> {
-    let alloc = rt.alloc();
-    for (body, wanted) in BODIES {
-        let read = read_lsp(alloc, &parse(alloc, body.as_bytes())?);
-        assert!(rt; told(alloc, &read)?.as_str() == wanted, "{body}");
+fn reads_further_bodies(rt: HostRuntime) -> Result<(), Fail> {
+    for (body, wanted) in MORE_BODIES {
+        assert!(rt; is_read_as(rt.alloc(), body, wanted)?, "{body}");
     }
     Ok(())
 }
@@ -375,279 +387,283 @@ fn reads_the_root(rt: HostRuntime) -> Result<(), Fail> {
     Ok(())
 }
 
-/// Methods and parameters, each with what the notification is, in words, or the parameter that is named.
-const NOTIFICATIONS: [(&str, &str, &str); 60] = [
+/// Whether a notification with these parameters is read so, in words; `?` names the parameter that is bad.
+fn notification_is(alloc: Global, method: &str, params: &str, wanted: &str) -> Result<bool, Fail> {
+    let body = format!(in alloc;
+        "{{\"jsonrpc\":\"2.0\",\"method\":\"textDocument/{method}\",\"params\":{params}}}"
+    )?;
+    let wanted = match wanted.strip_prefix("?") {
+        Some(name) => format!(in alloc; "textDocument/{method}: BadParams({name})")?,
+        None => String::from_str(alloc, wanted)?,
+    };
+    is_read_as(alloc, body.as_str(), wanted.as_str())
+}
+
+/// Parameters of didOpen, each with what is read, in words, or the parameter that is named.
+const OPENINGS: [(&str, &str); 21] = [
     (
-        "didOpen",
         r#"{"textDocument":{"languageId":"hlasm","text":" END\n","uri":"file:///w/a","version":1}}"#,
         "open file:///w/a hlasm 1 ' END\n'",
     ),
     (
-        "didOpen",
         r#"{"textDocument":{"version":-2147483648,"x":{},"uri":"untitled:x","text":"","languageId":""}}"#,
         "open untitled:x  -2147483648 ''",
     ),
     (
-        "didOpen",
         r#"{"textDocument":{"languageId":"hlasm","text":"\u0000\ud83d\ude00","uri":"","version":2147483647,"version":2}}"#,
         "open  hlasm 2 '\0😀'",
     ),
-    ("didOpen", "null", "?params"),
-    ("didOpen", "[]", "?params"),
-    ("didOpen", "{}", "?textDocument"),
-    ("didOpen", r#"{"textDocument":null}"#, "?textDocument"),
-    ("didOpen", r#"{"textDocument":[]}"#, "?textDocument"),
-    ("didOpen", r#"{"textDocument":{}}"#, "?uri"),
-    ("didOpen", r#"{"textDocument":{"uri":null}}"#, "?uri"),
+    ("null", "?params"),
+    ("[]", "?params"),
+    ("{}", "?textDocument"),
+    (r#"{"textDocument":null}"#, "?textDocument"),
+    (r#"{"textDocument":[]}"#, "?textDocument"),
+    (r#"{"textDocument":{}}"#, "?uri"),
+    (r#"{"textDocument":{"uri":null}}"#, "?uri"),
     (
-        "didOpen",
         r#"{"textDocument":{"uri":7,"languageId":7,"version":"1"}}"#,
         "?uri",
     ),
     (
-        "didOpen",
         r#"{"textDocument":{"uri":"x","version":"1"}}"#,
         "?languageId",
     ),
     (
-        "didOpen",
         r#"{"textDocument":{"uri":"x","languageId":false,"version":1}}"#,
         "?languageId",
     ),
     (
-        "didOpen",
         r#"{"textDocument":{"uri":"x","languageId":"y","text":5}}"#,
         "?version",
     ),
     (
-        "didOpen",
         r#"{"textDocument":{"uri":"x","languageId":"y","version":null,"text":""}}"#,
         "?version",
     ),
     (
-        "didOpen",
         r#"{"textDocument":{"uri":"x","languageId":"y","version":1.0,"text":""}}"#,
         "?version",
     ),
     (
-        "didOpen",
         r#"{"textDocument":{"uri":"x","languageId":"y","version":1e2,"text":""}}"#,
         "?version",
     ),
     (
-        "didOpen",
         r#"{"textDocument":{"uri":"x","languageId":"y","version":-0,"text":""}}"#,
         "?version",
     ),
     (
-        "didOpen",
         r#"{"textDocument":{"uri":"x","languageId":"y","version":2147483648,"text":""}}"#,
         "?version",
     ),
     (
-        "didOpen",
         r#"{"textDocument":{"uri":"x","languageId":"y","version":1}}"#,
         "?text",
     ),
     (
-        "didOpen",
         r#"{"textDocument":{"uri":"x","languageId":"y","version":1,"text":null}}"#,
         "?text",
-    ),
-    (
-        "didChange",
-        r#"{"textDocument":{"uri":"x","version":2},"contentChanges":[]}"#,
-        "change x 2",
-    ),
-    (
-        "didChange",
-        r#"{"textDocument":{"uri":"x","version":2},"contentChanges":[{"text":"all"}]}"#,
-        "change x 2 *-*'all'",
-    ),
-    (
-        "didChange",
-        r#"{"textDocument":{"uri":"x","version":2},"contentChanges":[{"range":{"end":{"line":3,"character":4},"start":{"line":1,"character":2}},"rangeLength":9,"text":"é"},{"text":""}]}"#,
-        "change x 2 1.2-3.4'é' *-*''",
-    ),
-    (
-        "didChange",
-        r#"{"textDocument":{"uri":"x","version":2},"contentChanges":[{"range":{"end":{"line":0,"character":0},"start":{"line":2147483647,"character":2147483647}},"text":""}]}"#,
-        "change x 2 2147483647.2147483647-0.0''",
-    ),
-    ("didChange", "5", "?params"),
-    ("didChange", r#"{"contentChanges":[]}"#, "?textDocument"),
-    (
-        "didChange",
-        r#"{"textDocument":{"version":null},"contentChanges":[]}"#,
-        "?uri",
-    ),
-    (
-        "didChange",
-        r#"{"textDocument":{"uri":"x"},"contentChanges":5}"#,
-        "?version",
-    ),
-    (
-        "didChange",
-        r#"{"textDocument":{"uri":"x","version":null},"contentChanges":[]}"#,
-        "?version",
-    ),
-    (
-        "didChange",
-        r#"{"textDocument":{"uri":"x","version":2}}"#,
-        "?contentChanges",
-    ),
-    (
-        "didChange",
-        r#"{"textDocument":{"uri":"x","version":2},"contentChanges":null}"#,
-        "?contentChanges",
-    ),
-    (
-        "didChange",
-        r#"{"textDocument":{"uri":"x","version":2},"contentChanges":{"text":""}}"#,
-        "?contentChanges",
-    ),
-    (
-        "didChange",
-        r#"{"textDocument":{"uri":"x","version":2},"contentChanges":["text"]}"#,
-        "?contentChanges",
-    ),
-    (
-        "didChange",
-        r#"{"textDocument":{"uri":"x","version":2},"contentChanges":[{"text":""},null]}"#,
-        "?contentChanges",
-    ),
-    (
-        "didChange",
-        r#"{"textDocument":{"uri":"x","version":2},"contentChanges":[{}]}"#,
-        "?text",
-    ),
-    (
-        "didChange",
-        r#"{"textDocument":{"uri":"x","version":2},"contentChanges":[{"text":1,"range":1},5]}"#,
-        "?text",
-    ),
-    (
-        "didChange",
-        r#"{"textDocument":{"uri":"x","version":2},"contentChanges":[{"text":"","range":null}]}"#,
-        "?range",
-    ),
-    (
-        "didChange",
-        r#"{"textDocument":{"uri":"x","version":2},"contentChanges":[{"text":"","range":[]},{}]}"#,
-        "?range",
-    ),
-    (
-        "didChange",
-        r#"{"textDocument":{"uri":"x","version":2},"contentChanges":[{"text":"","range":{}}]}"#,
-        "?start",
-    ),
-    (
-        "didChange",
-        r#"{"textDocument":{"uri":"x","version":2},"contentChanges":[{"text":"","range":{"start":null,"end":{}}}]}"#,
-        "?start",
-    ),
-    (
-        "didChange",
-        r#"{"textDocument":{"uri":"x","version":2},"contentChanges":[{"text":"","range":{"start":{"line":0,"character":0}}}]}"#,
-        "?end",
-    ),
-    (
-        "didChange",
-        r#"{"textDocument":{"uri":"x","version":2},"contentChanges":[{"text":"","range":{"start":{"line":0,"character":0},"end":0}}]}"#,
-        "?end",
-    ),
-    (
-        "didChange",
-        r#"{"textDocument":{"uri":"x","version":2},"contentChanges":[{"text":"","range":{"start":{"character":0},"end":{}}}]}"#,
-        "?line",
-    ),
-    (
-        "didChange",
-        r#"{"textDocument":{"uri":"x","version":2},"contentChanges":[{"text":"","range":{"start":{"line":"0","character":"0"},"end":{}}}]}"#,
-        "?line",
-    ),
-    (
-        "didChange",
-        r#"{"textDocument":{"uri":"x","version":2},"contentChanges":[{"text":"","range":{"start":{"line":0,"character":0},"end":{"line":-1,"character":0}}}]}"#,
-        "?line",
-    ),
-    (
-        "didChange",
-        r#"{"textDocument":{"uri":"x","version":2},"contentChanges":[{"text":"","range":{"start":{"line":0,"character":0},"end":{"line":2147483648,"character":0}}}]}"#,
-        "?line",
-    ),
-    (
-        "didChange",
-        r#"{"textDocument":{"uri":"x","version":2},"contentChanges":[{"text":"","range":{"start":{"line":0},"end":{"line":0,"character":0}}}]}"#,
-        "?character",
-    ),
-    (
-        "didChange",
-        r#"{"textDocument":{"uri":"x","version":2},"contentChanges":[{"text":"","range":{"start":{"line":0,"character":-0},"end":{}}}]}"#,
-        "?character",
-    ),
-    (
-        "didChange",
-        r#"{"textDocument":{"uri":"x","version":2},"contentChanges":[{"text":"","range":{"start":{"line":0,"character":1.0},"end":{}}}]}"#,
-        "?character",
-    ),
-    (
-        "didChange",
-        r#"{"textDocument":{"uri":"x","version":2},"contentChanges":[{"text":""},{"text":"","range":{"start":{"line":0,"character":0},"end":{"line":0,"character":4294967296}}}]}"#,
-        "?character",
-    ),
-    (
-        "didChange",
-        r#"{"textDocument":{"uri":"x","version":2},"contentChanges":[{"text":"","range":{"end":{"line":0,"character":0}}},5]}"#,
-        "?start",
-    ),
-    (
-        "didClose",
-        r#"{"textDocument":{"uri":"file:///a%ff","version":"x"}}"#,
-        "close file:///a%ff",
-    ),
-    ("didClose", "false", "?params"),
-    ("didClose", "{}", "?textDocument"),
-    ("didClose", r#"{"textDocument":"x"}"#, "?textDocument"),
-    ("didClose", r#"{"textDocument":{}}"#, "?uri"),
-    ("didClose", r#"{"textDocument":{"uri":{}}}"#, "?uri"),
-    (
-        "didClose",
-        r#"{"textDocument":{"uri":"x"},"textDocument":{}}"#,
-        "?uri",
-    ),
-    (
-        "didClose",
-        r#"{"uri":"x","textDocument":{"Uri":"x"}}"#,
-        "?uri",
     ),
 ];
 
 #[test]
-fn reads_notifications(rt: HostRuntime) -> Result<(), Fail> {
-    let alloc = rt.alloc();
-    for (method, params, wanted) in NOTIFICATIONS {
-        let body = format!(in alloc;
-            "{{\"jsonrpc\":\"2.0\",\"method\":\"textDocument/{method}\",\"params\":{params}}}"
-        )?;
-        let read = read_lsp(alloc, &parse(alloc, body.as_bytes())?);
-        let wanted = match wanted.strip_prefix("?") {
-            Some(name) => format!(in alloc; "textDocument/{method}: BadParams({name})")?,
-            None => String::from_str(alloc, wanted)?,
-        };
-        assert!(rt; told(alloc, &read)?.as_str() == wanted.as_str(), "{params}");
+fn reads_openings(rt: HostRuntime) -> Result<(), Fail> {
+    for (params, wanted) in OPENINGS {
+        assert!(rt;
+            notification_is(rt.alloc(), "didOpen", params, wanted)?,
+            "{params}"
+        );
     }
-    for (method, name) in [
-        ("didOpen", "textDocument"),
-        ("didChange", "textDocument"),
-        ("didClose", "textDocument"),
-    ] {
+    Ok(())
+}
+
+/// Parameters of didChange, the same.
+const CHANGES: [(&str, &str); 16] = [
+    (
+        r#"{"textDocument":{"uri":"x","version":2},"contentChanges":[]}"#,
+        "change x 2",
+    ),
+    (
+        r#"{"textDocument":{"uri":"x","version":2},"contentChanges":[{"text":"all"}]}"#,
+        "change x 2 *-*'all'",
+    ),
+    (
+        r#"{"textDocument":{"uri":"x","version":2},"contentChanges":[{"range":{"end":{"line":3,"character":4},"start":{"line":1,"character":2}},"rangeLength":9,"text":"é"},{"text":""}]}"#,
+        "change x 2 1.2-3.4'é' *-*''",
+    ),
+    (
+        r#"{"textDocument":{"uri":"x","version":2},"contentChanges":[{"range":{"end":{"line":0,"character":0},"start":{"line":2147483647,"character":2147483647}},"text":""}]}"#,
+        "change x 2 2147483647.2147483647-0.0''",
+    ),
+    ("5", "?params"),
+    (r#"{"contentChanges":[]}"#, "?textDocument"),
+    (
+        r#"{"textDocument":{"version":null},"contentChanges":[]}"#,
+        "?uri",
+    ),
+    (
+        r#"{"textDocument":{"uri":"x"},"contentChanges":5}"#,
+        "?version",
+    ),
+    (
+        r#"{"textDocument":{"uri":"x","version":null},"contentChanges":[]}"#,
+        "?version",
+    ),
+    (
+        r#"{"textDocument":{"uri":"x","version":2}}"#,
+        "?contentChanges",
+    ),
+    (
+        r#"{"textDocument":{"uri":"x","version":2},"contentChanges":null}"#,
+        "?contentChanges",
+    ),
+    (
+        r#"{"textDocument":{"uri":"x","version":2},"contentChanges":{"text":""}}"#,
+        "?contentChanges",
+    ),
+    (
+        r#"{"textDocument":{"uri":"x","version":2},"contentChanges":["text"]}"#,
+        "?contentChanges",
+    ),
+    (
+        r#"{"textDocument":{"uri":"x","version":2},"contentChanges":[{"text":""},null]}"#,
+        "?contentChanges",
+    ),
+    (
+        r#"{"textDocument":{"uri":"x","version":2},"contentChanges":[{}]}"#,
+        "?text",
+    ),
+    (
+        r#"{"textDocument":{"uri":"x","version":2},"contentChanges":[{"text":1,"range":1},5]}"#,
+        "?text",
+    ),
+];
+
+#[test]
+fn reads_changes(rt: HostRuntime) -> Result<(), Fail> {
+    for (params, wanted) in CHANGES {
+        assert!(rt;
+            notification_is(rt.alloc(), "didChange", params, wanted)?,
+            "{params}"
+        );
+    }
+    Ok(())
+}
+
+/// Further parameters of didChange, the same.
+const RANGES: [(&str, &str); 15] = [
+    (
+        r#"{"textDocument":{"uri":"x","version":2},"contentChanges":[{"text":"","range":null}]}"#,
+        "?range",
+    ),
+    (
+        r#"{"textDocument":{"uri":"x","version":2},"contentChanges":[{"text":"","range":[]},{}]}"#,
+        "?range",
+    ),
+    (
+        r#"{"textDocument":{"uri":"x","version":2},"contentChanges":[{"text":"","range":{}}]}"#,
+        "?start",
+    ),
+    (
+        r#"{"textDocument":{"uri":"x","version":2},"contentChanges":[{"text":"","range":{"start":null,"end":{}}}]}"#,
+        "?start",
+    ),
+    (
+        r#"{"textDocument":{"uri":"x","version":2},"contentChanges":[{"text":"","range":{"start":{"line":0,"character":0}}}]}"#,
+        "?end",
+    ),
+    (
+        r#"{"textDocument":{"uri":"x","version":2},"contentChanges":[{"text":"","range":{"start":{"line":0,"character":0},"end":0}}]}"#,
+        "?end",
+    ),
+    (
+        r#"{"textDocument":{"uri":"x","version":2},"contentChanges":[{"text":"","range":{"start":{"character":0},"end":{}}}]}"#,
+        "?line",
+    ),
+    (
+        r#"{"textDocument":{"uri":"x","version":2},"contentChanges":[{"text":"","range":{"start":{"line":"0","character":"0"},"end":{}}}]}"#,
+        "?line",
+    ),
+    (
+        r#"{"textDocument":{"uri":"x","version":2},"contentChanges":[{"text":"","range":{"start":{"line":0,"character":0},"end":{"line":-1,"character":0}}}]}"#,
+        "?line",
+    ),
+    (
+        r#"{"textDocument":{"uri":"x","version":2},"contentChanges":[{"text":"","range":{"start":{"line":0,"character":0},"end":{"line":2147483648,"character":0}}}]}"#,
+        "?line",
+    ),
+    (
+        r#"{"textDocument":{"uri":"x","version":2},"contentChanges":[{"text":"","range":{"start":{"line":0},"end":{"line":0,"character":0}}}]}"#,
+        "?character",
+    ),
+    (
+        r#"{"textDocument":{"uri":"x","version":2},"contentChanges":[{"text":"","range":{"start":{"line":0,"character":-0},"end":{}}}]}"#,
+        "?character",
+    ),
+    (
+        r#"{"textDocument":{"uri":"x","version":2},"contentChanges":[{"text":"","range":{"start":{"line":0,"character":1.0},"end":{}}}]}"#,
+        "?character",
+    ),
+    (
+        r#"{"textDocument":{"uri":"x","version":2},"contentChanges":[{"text":""},{"text":"","range":{"start":{"line":0,"character":0},"end":{"line":0,"character":4294967296}}}]}"#,
+        "?character",
+    ),
+    (
+        r#"{"textDocument":{"uri":"x","version":2},"contentChanges":[{"text":"","range":{"end":{"line":0,"character":0}}},5]}"#,
+        "?start",
+    ),
+];
+
+#[test]
+fn reads_ranges(rt: HostRuntime) -> Result<(), Fail> {
+    for (params, wanted) in RANGES {
+        assert!(rt;
+            notification_is(rt.alloc(), "didChange", params, wanted)?,
+            "{params}"
+        );
+    }
+    Ok(())
+}
+
+/// Parameters of didClose, the same.
+const CLOSINGS: [(&str, &str); 8] = [
+    (
+        r#"{"textDocument":{"uri":"file:///a%ff","version":"x"}}"#,
+        "close file:///a%ff",
+    ),
+    ("false", "?params"),
+    ("{}", "?textDocument"),
+    (r#"{"textDocument":"x"}"#, "?textDocument"),
+    (r#"{"textDocument":{}}"#, "?uri"),
+    (r#"{"textDocument":{"uri":{}}}"#, "?uri"),
+    (r#"{"textDocument":{"uri":"x"},"textDocument":{}}"#, "?uri"),
+    (r#"{"uri":"x","textDocument":{"Uri":"x"}}"#, "?uri"),
+];
+
+#[test]
+fn reads_closings(rt: HostRuntime) -> Result<(), Fail> {
+    for (params, wanted) in CLOSINGS {
+        assert!(rt;
+            notification_is(rt.alloc(), "didClose", params, wanted)?,
+            "{params}"
+        );
+    }
+    Ok(())
+}
+
+/// A notification without parameters lacks the first that is needed.
+#[test]
+fn reads_notifications_without_parameters(rt: HostRuntime) -> Result<(), Fail> {
+    let alloc = rt.alloc();
+    for method in ["didOpen", "didChange", "didClose"] {
         let body = format!(in alloc;
             "{{\"jsonrpc\":\"2.0\",\"method\":\"textDocument/{method}\"}}"
         )?;
-        let read = read_lsp(alloc, &parse(alloc, body.as_bytes())?);
-        let wanted = format!(in alloc; "textDocument/{method}: BadParams({name})")?;
-        assert!(rt; told(alloc, &read)?.as_str() == wanted.as_str(), "{method}");
+        let wanted = format!(in alloc; "textDocument/{method}: BadParams(textDocument)")?;
+        assert!(rt;
+            is_read_as(alloc, body.as_str(), wanted.as_str())?,
+            "{method}"
+        );
     }
     Ok(())
 }
