@@ -10,17 +10,19 @@ for name in hl_base file_uri text_pool document_store; do
     grep "^$name:" "$top/crates.txt" >> "$work/crates.txt"
 done
 cp "$top/HANDLES" "$work/"
-echo 'edits_bench: hl_base text_pool document_store' >> "$work/crates.txt"
+echo 'edits_bench: hl_base document_store' >> "$work/crates.txt"
 cat > "$work/crates/edits_bench/src/main.rt" <<'PROGRAM'
 //! Times edits of the text that its argument names, and copies of that text.
 #![tactic(auto)]
 
-use document_store::{StoreFault, after_edits};
+use document_store::{DocumentStore, StoreFault};
 use hl_base::{Edit, Edits, Position, Text};
 use std::alloc::Global;
 use std::time::Instant;
 use std::{env, fs, io};
-use text_pool::LONGEST_TEXT;
+
+/// The URI of the one document.
+const NAME: &str = "file:///long.hlasm";
 
 /// The next of a row of numbers that look drawn by lot.
 fn drawn(last: u64) -> u64 {
@@ -37,33 +39,33 @@ fn place(drawn: u64) -> Position {
     }
 }
 
-/// The text after a character is typed at a place.
-fn typed(alloc: Global, text: &str, at: Position) -> Result<String, StoreFault> {
-    if text.len() > LONGEST_TEXT {
-        return Err(StoreFault::TextTooLong);
-    }
+/// Types a character at a place of the document.
+fn type_at(alloc: Global, store: &mut DocumentStore, at: Position) -> Result<(), StoreFault> {
     let mut edits = Edits::new(alloc);
     edits.push(Edit {
         from: Some(at),
         to: Some(at),
         text: Text::of(alloc, "x")?,
     })?;
-    after_edits(alloc, text, edits.as_slice())
+    store.change(alloc, NAME, 1, edits.as_slice())
 }
 
-/// The nanoseconds of 1,000 edits, and how many bytes the text has after them.
+/// The nanoseconds of 1,000 edits of an open document, and how many were taken.
 fn edits(rt: &HostRuntime, text: &str) -> io::Result<(u128, usize)> {
-    let mut text = String::from_str(rt.alloc(), text)?;
+    let mut store = DocumentStore::new(rt.alloc());
+    let mut taken = 0usize;
+    if store.open_text(rt.alloc(), NAME, "hlasm", 0, text).is_err() {
+        return Ok((0, taken));
+    }
     let mut number = 1u64;
     let start = Instant::now(rt)?;
     for _ in 0..1000 {
         number = drawn(number);
-        match typed(rt.alloc(), text.as_str(), place(number)) {
-            Ok(next) => text = next,
-            Err(_) => return Ok((0, 0)),
+        if type_at(rt.alloc(), &mut store, place(number)).is_ok() {
+            taken = taken.wrapping_add(1);
         }
     }
-    Ok((start.elapsed(rt)?.as_nanos(), text.len()))
+    Ok((start.elapsed(rt)?.as_nanos(), taken))
 }
 
 /// The nanoseconds of 1,000 copies into memory that is there.
@@ -81,8 +83,8 @@ fn main(rt: HostRuntime) -> io::Result<()> {
     for path in env::args(&rt)?.skip(1) {
         let text = fs::read_to_string(&rt, path.as_str())?;
         for _ in 0..5 {
-            let (time, length) = edits(&rt, text.as_str())?;
-            println!(&rt; "edits {length} {time}")?;
+            let (time, taken) = edits(&rt, text.as_str())?;
+            println!(&rt; "edits {taken} {time}")?;
             let (time, length) = copies(&rt, text.as_str())?;
             println!(&rt; "copies {length} {time}")?;
         }
@@ -104,8 +106,8 @@ import sys
 best = {}
 size = 4 * 1024 * 1024
 for words in map(str.split, open(sys.argv[1])):
-    if words and words[0] == "edits" and int(words[1]) != size:
-        sys.exit(f"an edit was refused: {words[1]} bytes")
+    if words and words[0] == "edits" and int(words[1]) != 1000:
+        sys.exit(f"an edit was refused: {words[1]} of 1000 were taken")
     if len(words) == 3 and words[0] in ("edits", "copies"):
         best[words[0]] = min(best.get(words[0], 1 << 80), int(words[2]))
 for kind in ("edits", "copies"):

@@ -8,3 +8,5 @@ pub mod DocumentLemmas
 pub mod StoreLemmas
 pub mod CallLemmas
 pub mod ShowLemmas
+pub mod HoldLemmas
+pub mod BlockLemmas

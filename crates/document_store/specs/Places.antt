@@ -1,10 +1,10 @@
 -- What the search for a place has left of a text, and how places are counted in bytes. No public clause cites this file.
 -- This project.
-use Rattle.std.specs.Prelude.{◌≡◌, ◌⊎◌, ℕ, List, [], Option, None, Some, Result, Ok, Err, length, take, encode_utf8_all, chars}
+use Rattle.std.specs.Prelude.{◌≡◌, ◌⊎◌, ℕ, zero, suc, ◌+◌, if◌then◌else◌, List, [], ◌∷◌, Option, None, Some, Result, Ok, Err, length, take, encode_utf8_all, chars}
 use Rattle.std.specs.declared.string.String.{String}
 use Rattle.std.specs.String.{string_bytes}
 use Rattle.std.specs.Borrow.{Bor}
-use Rattle.document_store.specs.Positions.{whole_lines}
+use Rattle.document_store.specs.Positions.{whole_lines, ends_line}
 use Rattle.document_store.specs.declared.fault.StoreFault.{StoreFault}
 use Rattle.document_store.specs.declared.fault.StoreFault.TheVariants.{BadRange, OutOfMemory}
 use Rattle.std.specs.declared.alloc.Global.{Global}
@@ -13,6 +13,12 @@ use Rattle.std.specs.declared.alloc.Global.{Global}
 abbrev pub lines_behind : Option (Bor (List ℕ)) → List (List ℕ)
 lines_behind None = []
 lines_behind (Some text) = whole_lines (chars text.now)
+
+-- how many lines end in the first so many of a text's characters or bytes
+abbrev pub line_ends : ℕ → List ℕ → ℕ
+line_ends zero text = 0
+line_ends (suc n) [] = 0
+line_ends (suc n) (c ∷ rest) = (if ends_line c rest then 1 else 0) + line_ends n rest
 
 -- how many bytes the first characters of a text take in UTF-8
 abbrev pub bytes_before : List ℕ → ℕ → ℕ

@@ -1,5 +1,5 @@
 -- What the store shows of what it holds (this project).
-use Rattle.std.specs.Prelude.{◌≡◌, ℕ, List, Option, None, Some, Contains, count_by, slice_get, chars}
+use Rattle.std.specs.Prelude.{◌≡◌, ℕ, ◌<◌, List, Option, None, Some, Contains, count_by, slice_get, chars}
 use Rattle.std.specs.Str.{bytes_eq}
 use Rattle.text_pool.specs.Pool.{Pool, IsLive, text_of, owners_of}
 use Rattle.document_store.specs.Store.{OpenDocument, File, Readable, Unreadable, number_of}
@@ -44,3 +44,8 @@ HasTexts holdings = (document : OpenDocument) → Contains holdings.store.docume
 abbrev pub IsOwnedByDocuments : Holdings → Type 0
 IsOwnedByDocuments holdings = (id : ℕ) → IsLive holdings.pool id →
     owners_of holdings.pool id ≡ count_by (λ (d : OpenDocument). bytes_eq d.text (text_of holdings.pool id)) holdings.store.documents
+
+-- each text of the pool is that of an open document: it is gone with the last of them
+abbrev pub HasNoOtherTexts : Holdings → Type 0
+HasNoOtherTexts holdings = (id : ℕ) → IsLive holdings.pool id →
+    0 < count_by (λ (d : OpenDocument). bytes_eq d.text (text_of holdings.pool id)) holdings.store.documents

@@ -27,7 +27,7 @@ pub use fault::StoreFault;
 pub use laws::{columns_are_found_again, positions_are_found_again};
 pub use limits::MOST_DOCUMENTS;
 pub use place::{column, position};
-pub use store::DocumentStore;
+pub use store::{DocumentStore, documents_own_their_texts};
 
 #[cfg(test)]
 mod tests;

@@ -1,10 +1,10 @@
 //! The lines of a text, reached from its front.
-ghost use Rattle.std.specs.Prelude.{◌≡◌, ◌↔◌, ◌<◌, ◌-◌, ℕ, length, drop, min, slice_index, IsTrue, position};
-ghost use Rattle.std.specs.Str.{chars};
+ghost use Rattle.std.specs.Prelude.{◌≡◌, ◌<◌, ◌≤◌, ◌==◌, ◌||◌, ◌&&◌, not, length, drop, min, slice_index, IsTrue, IfSome, position};
+ghost use Rattle.std.specs.Str.{chars, IsCharBoundary};
 ghost use Rattle.hl_base.specs.Texts as texts;
 ghost use Rattle.hl_base.specs.Remaining.{ends_line};
 ghost use Rattle.document_store.specs.Positions.{whole_lines, line_of, last_line};
-ghost use Rattle.document_store.specs.Places.{lines_behind};
+ghost use Rattle.document_store.specs.Places.{lines_behind, line_ends};
 
 use memchr::memchr2;
 
@@ -13,6 +13,86 @@ use memchr::memchr2;
 pub(crate) struct NumberedLine<'a> {
     pub(crate) number: u32,
     pub(crate) text: &'a str,
+}
+
+/// What is left of a text, and how many line ends stand in it before the line that is looked for.
+#[derive(Clone, Copy)]
+struct Ahead<'a> {
+    text: &'a str,
+    ends: u32,
+}
+
+/// The most bytes that are looked through at once. So few that their line ends are counted in a byte, which is fast.
+const BLOCK: usize = 224;
+
+/// Whether a line ends at a byte that stands before another.
+fn ends_at(byte: u8, next: u8) -> bool
+    ensures { result ≡ ((byte == 10 || byte == 13) && not (byte == 13 && next == 10)) }
+{
+    (byte == b'\n' || byte == b'\r') && !(byte == b'\r' && next == b'\n')
+}
+
+/// How many lines end in the first bytes, behind which is another.
+fn ends_in(bytes: &[u8], first: usize) -> u8
+    requires within { first < length bytes.now }
+    requires few { first ≤ BLOCK }
+    ensures { result ≡ line_ends first bytes.now }
+{
+    let mut count = 0;
+    for at in 0..first {
+        if ends_at(bytes[at], bytes[at + 1]) {
+            count += 1;
+        }
+    }
+    count
+}
+
+/// Where a block at the front of a text ends, before a character; nothing where the text is no longer.
+fn end_of_block(text: &str) -> Option<usize>
+    ensures cut { IfSome result (λ at. IsCharBoundary text.now at) }
+    ensures within { IfSome result (λ at. at < length text.now) }
+    ensures few { IfSome result (λ at. at ≤ BLOCK) }
+{
+    let bytes = text.as_bytes();
+    if bytes.len() <= BLOCK {
+        return None;
+    }
+    for at in BLOCK - 3..BLOCK + 1 {
+        if bytes[at] < 128 || bytes[at] >= 192 {
+            return Some(at);
+        }
+    }
+    None
+}
+
+/// Passes a block that has fewer line ends than are looked for; nothing where none comes.
+fn behind_block(ahead: Ahead<'_>) -> Option<Ahead<'_>>
+    ensures { IfSome result (λ next. drop next.ends (whole_lines (chars next.text.now)) ≡ drop ahead.entry.ends (whole_lines (chars ahead.entry.text.now))) }
+{
+    let at = end_of_block(ahead.text)?;
+    let ends = u32::from(ends_in(ahead.text.as_bytes(), at));
+    if ends >= ahead.ends {
+        return None;
+    }
+    let (_, text) = ahead.text.split_at(at);
+    Some(Ahead {
+        text,
+        ends: ahead.ends - ends,
+    })
+}
+
+/// Passes blocks of a text until a line is near.
+fn near_line(text: &str, line: u32) -> Ahead<'_>
+    ensures { drop result.ends (whole_lines (chars result.text.now)) ≡ drop line (whole_lines (chars text.now)) }
+{
+    let mut ahead = Ahead { text, ends: line };
+    for _ in 0..text.len() {
+        match behind_block(ahead) {
+            Some(next) => ahead = next,
+            None => return ahead,
+        }
+    }
+    ahead
 }
 
 /// Where the first line end of a text begins, in bytes.
@@ -63,15 +143,23 @@ pub(crate) fn first_line(text: &str) -> &str
     }
 }
 
+/// What stands in a text behind so many line ends; nothing where it has fewer.
+fn behind_ends(text: &str, ends: u32) -> Option<&str>
+    ensures { lines_behind result ≡ drop ends (whole_lines (chars text.now)) }
+{
+    let mut rest = text;
+    for _ in 0..ends {
+        rest = behind_first_line(rest)?;
+    }
+    Some(rest)
+}
+
 /// What stands in a text from a line on; nothing where there is no such line.
 pub(crate) fn from_line(text: &str, line: u32) -> Option<&str>
     ensures { lines_behind result ≡ drop line (whole_lines (chars text.now)) }
 {
-    let mut rest = text;
-    for _ in 0..line {
-        rest = behind_first_line(rest)?;
-    }
-    Some(rest)
+    let near = near_line(text, line);
+    behind_ends(near.text, near.ends)
 }
 
 /// The line of a number, or the last line where there is none.

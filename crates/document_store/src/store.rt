@@ -5,8 +5,9 @@ ghost use Rattle.std.specs.Str.{chars};
 ghost use Rattle.document_store.specs.Store as store;
 ghost use Rattle.document_store.specs.Changes.{opened, changed, closed, with_document, with_text, Answers, MayOpen};
 ghost use Rattle.document_store.specs.Holdings as holdings;
-ghost use Rattle.document_store.specs.Shown.{IsShown, IsPresent};
+ghost use Rattle.document_store.specs.Shown.{IsShown, IsPresent, HasTexts, HasNoOtherTexts, IsOwnedByDocuments};
 ghost use Rattle.document_store.specs.Positions as positions;
+ghost use Rattle.text_pool.specs.Pool.{TextsDiffer};
 
 use crate::changes::after_edits;
 use crate::kept::{KeptDocument, append, place_in};
@@ -17,7 +18,7 @@ use file_uri::file_path;
 use hl_base::{Edit, PathId, Position, Text};
 use std::alloc::Global;
 use std::marker::Model;
-use text_pool::{LONGEST_TEXT, TextPool};
+use text_pool::{LONGEST_TEXT, TextPool, live_texts_differ};
 
 /// The open documents in order of opening, and the numbers of paths. Contracts see its `Store` and its pool.
 #[derive(Drop)]
@@ -268,4 +269,15 @@ impl DocumentStore {
         self.pool.release(document.text);
         Ok(())
     }
+}
+
+/// Each open document's text is in the pool, and each text there has as many owners as open documents have it, at least
+/// one: it is gone with the last. Equal texts have equal numbers. It does nothing; its contract is the claim.
+pub fn documents_own_their_texts(store: &DocumentStore)
+    ensures texts { HasTexts store.now }
+    ensures owners { IsOwnedByDocuments store.now }
+    ensures others { HasNoOtherTexts store.now }
+    ensures differ { TextsDiffer store.now.pool }
+{
+    live_texts_differ(&store.pool);
 }

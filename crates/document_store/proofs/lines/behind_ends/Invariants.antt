@@ -1,6 +1,6 @@
 use Rattle.std.specs.Prelude.{chars}
 use Rattle.document_store.proofs.FromLemmas.{IsFrom}
-use Rattle.document_store.proofs.lines.from_line.Given as goal
+use Rattle.document_store.proofs.lines.behind_ends.Given as goal
 use denote.Shadow.{shadow}
 use denote.Text.{Utf8}
 
