@@ -13,6 +13,9 @@ use std::marker::Model;
 /// How many columns of a line have text; the next one has the mark.
 const TEXT_COLUMNS: usize = 71;
 
+/// How many bytes a line of a usual text has, with its end: no statement is moved while the statements of one are read.
+const LINE_WIDTH: usize = 81;
+
 /// What kind of statement some lines are.
 #[derive(Clone, Copy, Debug, PartialEq, Eq)]
 pub enum Shape {
@@ -91,6 +94,15 @@ impl Statements {
         }
     }
 
+    /// No statement, with room for so many.
+    fn with_room(alloc: Global, count: usize) -> Result<Statements, OutOfMemory>
+        ensures { IfOk result (λ s. s ≡ []) }
+    {
+        Ok(Statements {
+            statements: Vec::with_capacity(alloc, count)?,
+        })
+    }
+
     /// Adds a statement behind those that are there. An `Err` changes nothing.
     pub fn push(&mut self, statement: Statement) -> Result<(), OutOfMemory>
         ensures ok { OnOk result (self.new ≡ self.old ++ statement ∷ []) }
@@ -112,7 +124,7 @@ impl Statements {
 pub fn read_statements(alloc: Global, text: &str) -> Result<Statements, OutOfMemory>
     ensures { IfOk result (λ s. s ≡ statements_of (chars text.now)) }
 {
-    let mut statements = Statements::new(alloc);
+    let mut statements = Statements::with_room(alloc, text.len() / LINE_WIDTH + 1)?;
     let mut number = 0;
     let mut bodies = Vec::new(alloc);
     for line in lines(text) {
