@@ -95,10 +95,16 @@ length_all p xs o is none = elim (cases_Bool (nat_lt (position_or_len p xs) (len
       omega (arith, far, prefix_len-le-length (λ x. not (p x)) xs)
 ]
 
--- what is not ink is blank
-pub prefix_len-ink : (xs : List ℕ) → position_or_len is_ink xs ≡ prefix_len is_blank xs
-prefix_len-ink [] = refl
-prefix_len-ink (x ∷ xs) = elim (cases_Bool (is_blank x)) [
-  | inl blank ↦ rw blank (ap (λ n. 1 + n) (prefix_len-ink xs))
-  | inr ink ↦ rw ink refl
+-- what does not fail passes
+pub prefix_len-twice : {X : Type 0} (p : X → Bool) (xs : List X) → prefix_len (λ x. not (not (p x))) xs ≡ prefix_len p xs
+prefix_len-twice p [] = refl
+prefix_len-twice p (x ∷ xs) = elim (cases_Bool (p x)) [
+  | inl passes ↦ rw passes (ap (λ n. 1 + n) (prefix_len-twice p xs))
+  | inr stops ↦ rw stops refl
 ]
+
+pub prefix_len-pass : {X : Type 0} (p : X → Bool) (x : X) (xs : List X) → p x ≡ true → prefix_len p (x ∷ xs) ≡ suc (prefix_len p xs)
+prefix_len-pass p x xs passes = rw (passes, one_more (prefix_len p xs)) refl
+
+pub prefix_len-stop : {X : Type 0} (p : X → Bool) (x : X) (xs : List X) → p x ≡ false → prefix_len p (x ∷ xs) ≡ 0
+prefix_len-stop p x xs stops = rw stops refl

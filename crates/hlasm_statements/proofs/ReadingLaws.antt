@@ -15,7 +15,7 @@ use Rattle.hlasm_statements.specs.Columns.{Placed, placed, is_blank, is_ink, tex
 use Rattle.hlasm_statements.specs.Places.{side_by_side}
 use Rattle.hlasm_statements.specs.Shape.{skip_while, label_of, operation_of}
 use Rattle.hlasm_statements.specs.Fields.{keeps_groups, ends_field, is_remark, operand_field, behind_operation, operands_of}
-use Rattle.hlasm_statements.specs.Reading.{word, behind_word, behind_blanks, stage_behind_blanks, precedes, is_before_operands, is_past, label_after, op_after, rest_after, backwards, IsRead, ReadsOn, Passes, EndsAt, IsScan, stage_scanned}
+use Rattle.hlasm_statements.specs.Reading.{word, behind_word, behind_blanks, stage_behind_blanks, precedes, is_before_operands, is_past, label_after, op_after, rest_after, backwards, IsRead, ReadsOn, is_done, Passes, EndsAt, IsScan, Scans, stage_scanned}
 use Rattle.hlasm_statements.proofs.SourceLaws.{placed-append}
 use Rattle.hlasm_statements.proofs.ListLaws.{take_while-pass, take_while-stop, skip_while-pass, skip_while-stop}
 
@@ -108,7 +108,7 @@ behind_blanks-all line column (c ∷ cs) tail all =
 pub read-on : (old new : Reader) (alternate : Bool) (source more label op operands : List Placed) (read : IsRead old alternate source)
     → new.label ≡ text_of label → new.op ≡ text_of op → new.operands ≡ text_of operands
     → new.label_places ≡ places_of label → new.op_places ≡ places_of op → new.operand_places ≡ places_of operands
-    → IsBehind new.nesting (backwards operands) → new.ends_in_comma ≡ (slice_index (backwards operands) 0 == 44)
+    → (is_done new.stage ≡ false → IsBehind new.nesting (backwards operands)) → new.ends_in_comma ≡ (slice_index (backwards operands) 0 == 44)
     → ((tail : List Placed) → label_after new.stage label tail ≡ label_after old.stage read.label (more ++ tail))
     → ((tail : List Placed) → op_after new.stage op tail ≡ op_after old.stage read.op (more ++ tail))
     → ((tail : List Placed) → (let keeps = keeps_groups (text_of (op_after old.stage read.op (more ++ tail))) in
@@ -190,6 +190,16 @@ blank-rest alternate keeps before Operands line column c cs tail at all = absurd
 blank-rest alternate keeps before (Remarks remarks) line column c cs tail at all = absurd (true≢false (sym at))
 blank-rest alternate keeps before Done line column c cs tail at all = absurd (true≢false (sym at))
 
+-- before the operands the fields are not done
+precedes_open : (s : Stage) (blank : Bool) → precedes s blank ≡ true → is_done s ≡ false
+precedes_open Label blank h = refl
+precedes_open Gap blank h = refl
+precedes_open Operation blank h = refl
+precedes_open OperandGap blank h = refl
+precedes_open Operands blank h = absurd (true≢false (sym h))
+precedes_open (Remarks remarks) blank h = absurd (true≢false (sym h))
+precedes_open Done blank h = absurd (true≢false (sym h))
+
 -- the reader with another stage
 pub record Staged (old new : Reader) (told : Stage) : Type 0 where
   pub stage : new.stage ≡ told
@@ -205,10 +215,11 @@ pub record Staged (old new : Reader) (told : Stage) : Type 0 where
 blanks-on : (old new : Reader) (alternate : Bool) (line column c : ℕ) (cs : List ℕ) → Staged old new (stage_behind_blanks old.stage) → precedes old.stage true ≡ true → list_all is_blank (c ∷ cs) ≡ true
     → ReadsOn old new alternate (placed line column (c ∷ cs))
 blanks-on old new alternate line column c cs is at all source read =
+    let N : Nesting → Type 0 = λ n. IsBehind n (backwards read.operands) in
     read-on old new alternate source (placed line column (c ∷ cs)) read.label read.op read.operands read
     (is.label ∙ read.label_text) (is.op ∙ read.op_text) (is.operands ∙ read.operands_text)
     (is.label_places ∙ read.label_places) (is.op_places ∙ read.op_places) (is.operand_places ∙ read.operand_places)
-    (rw is.nesting read.nesting) (is.comma ∙ read.comma)
+    (λ going. subst N (sym is.nesting) (read.nesting (precedes_open old.stage true at))) (is.comma ∙ read.comma)
     (λ tail. ap (λ s. label_after s read.label tail) is.stage ∙ blank-label old.stage read.label line column c cs tail at all)
     (λ tail. ap (λ s. op_after s read.op tail) is.stage ∙ blank-op old.stage read.op line column c cs tail at all)
     (λ tail.
@@ -245,12 +256,13 @@ pub record Labelled (old new : Reader) (line column : ℕ) (cs : List ℕ) : Typ
 
 pub label-on : (old new : Reader) (alternate : Bool) (line column : ℕ) (cs : List ℕ) → Labelled old new line column cs → old.stage ≡ Label → list_all is_ink cs ≡ true → ReadsOn old new alternate (placed line column cs)
 label-on old new alternate line column cs is at all source read =
+    let N : Nesting → Type 0 = λ n. IsBehind n (backwards read.operands) in
     let more = placed line column cs in
     let now : new.stage ≡ Label = is.stage ∙ at in
     read-on old new alternate source more (read.label ++ more) read.op read.operands read
     (text-more old.label new.label read.label line column cs is.label read.label_text) (is.op ∙ read.op_text) (is.operands ∙ read.operands_text)
     (places-more old.label_places new.label_places read.label line column cs is.label_places read.label_places) (is.op_places ∙ read.op_places) (is.operand_places ∙ read.operand_places)
-    (rw is.nesting read.nesting) (is.comma ∙ read.comma)
+    (λ going. subst N (sym is.nesting) (read.nesting (ap is_done at))) (is.comma ∙ read.comma)
     (λ tail.
     ap (λ s. label_after s (read.label ++ more) tail) now
     ∙ append_assoc read.label more (word tail)
@@ -323,11 +335,12 @@ word-rest alternate keeps before Done line column c cs tail at other all = absur
 op-on : (old new : Reader) (alternate : Bool) (line column c : ℕ) (cs : List ℕ) → Operated old new line column (c ∷ cs) → precedes old.stage false ≡ true → (old.stage ≡ Label → ⊥) → list_all is_ink (c ∷ cs) ≡ true
     → ReadsOn old new alternate (placed line column (c ∷ cs))
 op-on old new alternate line column c cs is at other all source read =
+    let N : Nesting → Type 0 = λ n. IsBehind n (backwards read.operands) in
     let more = placed line column (c ∷ cs) in
     read-on old new alternate source more read.label (read.op ++ more) read.operands read
     (is.label ∙ read.label_text) (text-more old.op new.op read.op line column (c ∷ cs) is.op read.op_text) (is.operands ∙ read.operands_text)
     (is.label_places ∙ read.label_places) (places-more old.op_places new.op_places read.op line column (c ∷ cs) is.op_places read.op_places) (is.operand_places ∙ read.operand_places)
-    (rw is.nesting read.nesting) (is.comma ∙ read.comma)
+    (λ going. subst N (sym is.nesting) (read.nesting (precedes_open old.stage false at))) (is.comma ∙ read.comma)
     (λ tail. ap (λ s. label_after s read.label tail) is.stage ∙ word-label old.stage read.label tail more at other)
     (λ tail. ap (λ s. op_after s (read.op ++ more) tail) is.stage ∙ word-op old.stage read.op line column c cs tail at other all)
     (λ tail.
@@ -387,7 +400,7 @@ operand_field-here : (alternate keeps : Bool) (remarks : Option ℕ) (before : L
 operand_field-here alternate keeps remarks before p tail other =
     ap (λ b. cond b (operand_field alternate keeps remarks before tail) (cond (is_blank p.char && ends_field keeps p.char before) (cond (alternate && (slice_index before 0 == 44)) (operand_field alternate keeps (Some p.line) before tail) []) (p ∷ operand_field alternate keeps None (p.char ∷ before) tail))) other
 
-behind-cons : (c : ℕ) (cs before : List ℕ) → reverse (c ∷ cs) ++ before ≡ reverse cs ++ (c ∷ before)
+pub behind-cons : (c : ℕ) (cs before : List ℕ) → reverse (c ∷ cs) ++ before ≡ reverse cs ++ (c ∷ before)
 behind-cons c cs before = ap (λ r. r ++ before) (reverse-append (c ∷ []) cs) ∙ append_assoc (reverse cs) (c ∷ []) before
 
 -- a character that goes on with the field
@@ -520,9 +533,21 @@ pub record Scanned (old new : Reader) (alternate : Bool) (line column : ℕ) (te
   pub nesting : new.nesting ≡ scan.nesting
   pub comma : new.ends_in_comma ≡ scan.ends_in_comma
 
--- what a scan says of a reader
-abbrev pub Scans : Reader → List ℕ → Scan → Type 0
-Scans reader text scan = (before : List ℕ) → IsBehind reader.nesting before → reader.ends_in_comma ≡ (slice_index before 0 == 44) → IsScan (keeps_groups reader.op) before text scan
+-- a scan that is not over leaves a stage that is not done
+over_done : (alternate ended comma more : Bool) (s : Stage) (line : ℕ) → is_done (cond ended (cond (alternate && comma) (Remarks line) Done) (cond more Operands s)) ≡ false → (ended && not comma) ≡ false
+over_done alternate false comma more s line h = refl
+over_done alternate true true more s line h = refl
+over_done true true false more s line h = absurd (true≢false h)
+over_done false true false more s line h = absurd (true≢false h)
+
+past_open : (s : Stage) (line : ℕ) → is_past s line ≡ false → is_done s ≡ false
+past_open Label line h = refl
+past_open Gap line h = refl
+past_open Operation line h = refl
+past_open OperandGap line h = refl
+past_open Operands line h = refl
+past_open (Remarks remarks) line h = refl
+past_open Done line h = absurd (true≢false h)
 
 operands-on : (old new : Reader) (alternate : Bool) (line column c : ℕ) (cs : List ℕ) (scan : Scan) → precedes old.stage (is_blank c) ≡ false → is_past old.stage line ≡ false → Scans old (c ∷ cs) scan → Scanned old new alternate line column (c ∷ cs) scan
     → ReadsOn old new alternate (placed line column (c ∷ cs))
@@ -531,18 +556,23 @@ operands-on old new alternate line column c cs scan at past scans is source read
     let more = placed line column text in
     let front = take scan.count text in
     let before = backwards read.operands in
-    let scanned : IsScan (keeps_groups old.op) before text scan = scans before read.nesting read.comma in
+    let before_is : backwards read.operands ≡ reverse old.operands = ap reverse (sym read.operands_text) in
+    let B : List ℕ → Type 0 = λ b. IsBehind old.nesting b in
+    let S : List ℕ → Type 0 = λ b. IsScan (keeps_groups old.op) b text scan in
+    let scanned : IsScan (keeps_groups old.op) before text scan =
+    subst S (sym before_is) (scans (subst B before_is (read.nesting (past_open old.stage line past))) (read.comma ∙ ap (λ b. slice_index b 0 == 44) before_is)) in
     let field : in_field old.stage ≡ true = (enters alternate true before old.stage line column c cs [] at past).2 in
     let other = (enters alternate true before old.stage line column c cs [] at past).1 in
     let now : in_field new.stage ≡ true = ap in_field is.stage ∙ scanned_in scan.is_ended (alternate && scan.ends_in_comma) (nat_lt 0 scan.count) old.stage line field in
     let count : scan.count ≡ length front = sym (length-take-le scan.count text scanned.fits) in
     let behind : backwards (read.operands ++ placed line column front) ≡ reverse front ++ before = backwards-append read.operands line column front in
+    let M : Nesting → Type 0 = λ n. IsBehind n (reverse front ++ before) in
     let N : List ℕ → Type 0 = λ b. IsBehind new.nesting b in
     read-on old new alternate source more read.label read.op (read.operands ++ placed line column front) read
     (is.label ∙ read.label_text) (is.op ∙ read.op_text) (text-more old.operands new.operands read.operands line column front is.operands read.operands_text)
     (is.label_places ∙ read.label_places) (is.op_places ∙ read.op_places)
     (places-more old.operand_places new.operand_places read.operands line column front (is.operand_places ∙ ap (λ n. old.operand_places ++ side_by_side line column n) count) read.operand_places)
-    (subst N (sym behind) (rw is.nesting scanned.nesting))
+    (λ going. subst N (sym behind) (subst M (sym is.nesting) (scanned.nesting (over_done alternate scan.is_ended scan.ends_in_comma (nat_lt 0 scan.count) old.stage line (ap is_done (sym is.stage) ∙ going)))))
     (is.comma ∙ scanned.comma ∙ ap (λ b. slice_index b 0 == 44) (sym behind))
     (λ tail. label-field new.stage read.label tail now ∙ sym (label-field old.stage read.label (more ++ tail) field))
     (λ tail. op-field new.stage read.op tail now ∙ sym (op-field old.stage read.op (more ++ tail) field))
@@ -612,7 +642,7 @@ pub record IsScanning (keeps : Bool) (before text : List ℕ) (left : Nesting) (
   pub nesting : IsBehind left (reverse text ++ before)
   pub comma : ends ≡ (slice_index (reverse text ++ before) 0 == 44)
 
-behind-push : (before cs : List ℕ) (c : ℕ) → reverse (cs ++ c ∷ []) ++ before ≡ c ∷ (reverse cs ++ before)
+pub behind-push : (before cs : List ℕ) (c : ℕ) → reverse (cs ++ c ∷ []) ++ before ≡ c ∷ (reverse cs ++ before)
 behind-push before cs c = ap (λ r. r ++ before) (reverse-append cs (c ∷ []))
 
 pub scanning-none : (keeps : Bool) (before : List ℕ) (nesting : Nesting) (comma : Bool) → IsBehind nesting before → comma ≡ (slice_index before 0 == 44) → IsScanning keeps before [] nesting comma
@@ -637,7 +667,7 @@ scanned-whole keeps before text scan is count ended =
       passes = subst P (sym whole) is.passes;
       fits = omega (arith, count);
       ends = subst R (sym ended) count;
-      nesting = subst Q (sym whole) is.nesting;
+      nesting = λ over. subst Q (sym whole) is.nesting;
       comma = is.comma ∙ ap (λ front. slice_index (reverse front ++ before) 0 == 44) (sym whole);
     }
 
@@ -651,7 +681,7 @@ scanned-ended keeps before text front c scan is whole ended within item ends =
       passes = subst P whole is.passes;
       fits = omega arith;
       ends = subst R (sym ended) (c, within, item, subst E whole ends);
-      nesting = subst Q whole is.nesting;
+      nesting = λ over. subst Q whole is.nesting;
       comma = is.comma ∙ ap (λ front. slice_index (reverse front ++ before) 0 == 44) whole;
     }
 
@@ -716,7 +746,7 @@ read-new reader alternate stage nesting comma label op operands label_at op_at o
   label_places = label_at;
   op_places = op_at;
   operand_places = operands_at;
-  nesting = nesting;
+  nesting = λ going. nesting;
   comma = comma;
   label_goes = λ tail. ap (λ s. label_after s [] tail) stage;
   op_goes = λ tail. ap (λ s. op_after s [] tail) stage;

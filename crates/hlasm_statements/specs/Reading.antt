@@ -1,5 +1,6 @@
 -- What the reader of a source keeps of the characters so far. This project.
-use Rattle.std.specs.Prelude.{◌≡◌, ℕ, ◌+◌, ◌<◌, ◌≤◌, ⊤, Bool, true, false, ◌&&◌, ◌==◌, List, [], ◌∷◌, ◌++◌, Option, Some, None, take, take_while, nat_lt, length, slice_index, slice_index_or, reverse, map, chars, if◌then◌else◌}
+use Rattle.std.specs.Prelude.{◌≡◌, ℕ, ◌+◌, ◌-◌, not, ◌<◌, ◌≤◌, ⊤, Bool, true, false, ◌&&◌, ◌==◌, List, [], ◌∷◌, ◌++◌, Option, Some, None, take, take_while, nat_lt, length, slice_index, slice_index_or, reverse, map, chars, if◌then◌else◌}
+use Rattle.std.specs.List.{prefix_len}
 use Rattle.std.specs.Borrow.{Bor}
 use Rattle.hl_base.specs.Quoting.{IsBehind}
 use Rattle.hlasm_statements.specs.declared.statement.Shape.{Shape}
@@ -87,6 +88,16 @@ rest_after alternate keeps before Operands tail = operand_field alternate keeps 
 rest_after alternate keeps before (Remarks remarks) tail = operand_field alternate keeps (Some remarks) before tail
 rest_after alternate keeps before Done tail = []
 
+-- whether nothing more is read
+abbrev pub is_done : Stage → Bool
+is_done Label = false
+is_done Gap = false
+is_done Operation = false
+is_done OperandGap = false
+is_done Operands = false
+is_done (Remarks remarks) = false
+is_done Done = true
+
 -- the characters of a field, the nearest first
 abbrev pub backwards : List Placed → List ℕ
 backwards field = reverse (text_of field)
@@ -102,12 +113,32 @@ pub record IsRead (reader : Reader) (alternate : Bool) (source : List Placed) : 
   pub label_places : reader.label_places ≡ places_of label
   pub op_places : reader.op_places ≡ places_of op
   pub operand_places : reader.operand_places ≡ places_of operands
-  pub nesting : IsBehind reader.nesting (backwards operands)
+  pub nesting : is_done reader.stage ≡ false → IsBehind reader.nesting (backwards operands)
   pub comma : reader.ends_in_comma ≡ (slice_index (backwards operands) 0 == 44)
   pub label_goes : (tail : List Placed) → label_after reader.stage label tail ≡ label_of (source ++ tail)
   pub op_goes : (tail : List Placed) → op_after reader.stage op tail ≡ operation_of (source ++ tail)
   pub operands_go : (tail : List Placed) →
       operands ++ rest_after alternate (keeps_groups (text_of (op_after reader.stage op tail))) (backwards operands) reader.stage tail ≡ operands_of alternate (source ++ tail)
+
+-- whether a byte is ASCII and no blank
+abbrev pub is_ascii_ink : ℕ → Bool
+is_ascii_ink b = nat_lt b 128 && not (is_blank b)
+
+-- and no apostrophe
+abbrev pub is_simple : ℕ → Bool
+is_simple b = is_ascii_ink b && not (b == 39)
+
+-- a blank stands behind so many bytes, of which the last is no comma
+abbrev pub EndsSimply : List ℕ → ℕ → Type 0
+EndsSimply bytes count =
+    (0 < count) × (count < length bytes) × (is_blank (slice_index bytes count) ≡ true) × ((slice_index bytes (count - 1) == 44) ≡ false)
+
+-- the operand field begins and ends with so many bytes of these
+pub record IsSimpleScan (reader : Reader) (bytes : List ℕ) (count : ℕ) : Type 0 where
+  pub first : reader.operands ≡ []
+  pub groups : keeps_groups reader.op ≡ false
+  pub simple : count ≡ prefix_len is_simple bytes
+  pub ends : EndsSimply bytes count
 
 -- these characters are read on from any source
 abbrev pub ReadsOn : (old new : Reader) (alternate : Bool) (more : List Placed) → Type 0
@@ -128,8 +159,14 @@ pub record IsScan (keeps : Bool) (before text : List ℕ) (scan : Scan) : Type 0
   pub passes : Passes keeps before (take scan.count text)
   pub fits : scan.count ≤ length text
   pub ends : EndsAt scan.is_ended keeps scan.count (reverse (take scan.count text) ++ before) text
-  pub nesting : IsBehind scan.nesting (reverse (take scan.count text) ++ before)
+  pub nesting : (scan.is_ended && not scan.ends_in_comma) ≡ false → IsBehind scan.nesting (reverse (take scan.count text) ++ before)
   pub comma : scan.ends_in_comma ≡ (slice_index (reverse (take scan.count text) ++ before) 0 == 44)
+
+-- what a scan says of the characters behind those that a reader has read
+abbrev pub Scans : Reader → List ℕ → Scan → Type 0
+Scans reader text scan =
+    IsBehind reader.nesting (reverse reader.operands) → reader.ends_in_comma ≡ (slice_index (reverse reader.operands) 0 == 44)
+    → IsScan (keeps_groups reader.op) (reverse reader.operands) text scan
 
 -- the stage that they leave, with a blank that ends the field
 abbrev pub stage_scanned : (alternate : Bool) → Stage → Scan → (line : ℕ) → Stage

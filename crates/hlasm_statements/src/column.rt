@@ -1,8 +1,9 @@
 //! Columns of a line, counted in characters.
-ghost use Rattle.std.specs.Prelude.{◌≡◌, ◌==◌, ◌≤◌, IsTrue, length, take, drop, slice_index_or, encode_utf8_all};
+ghost use Rattle.std.specs.Prelude.{◌≡◌, ◌==◌, ◌≤◌, ◌<◌, not, IsTrue, length, take, drop, slice_index, slice_index_or, encode_utf8_all};
 ghost use Rattle.std.specs.List.{list_all, prefix_len, position};
 ghost use Rattle.std.specs.Str.{chars, IsAscii};
 ghost use Rattle.hlasm_statements.specs.Columns as columns;
+ghost use Rattle.hlasm_statements.specs.Reading as reading;
 
 /// Whether a character is a blank or a tab.
 #[inline(always)]
@@ -10,14 +11,6 @@ pub fn is_blank(c: char) -> bool
     ensures { result ≡ columns.is_blank c }
 {
     c == ' ' || c == '\t'
-}
-
-/// Whether a character is neither.
-#[inline(always)]
-fn is_ink(c: char) -> bool
-    ensures { result ≡ columns.is_ink c }
-{
-    !is_blank(c)
 }
 
 /// Whether a text has nothing but blanks and tabs.
@@ -74,21 +67,71 @@ fn behind_columns(text: &str, count: usize) -> &str
     rest.as_str()
 }
 
-/// How many characters of a text stand before its first blank.
+/// How many characters of a text stand before its first blank. Where they are ASCII, each is a byte.
 pub fn word_length(text: &str) -> usize
     ensures { result ≡ prefix_len columns.is_ink (chars text.now) }
 {
-    match first_blank(text) {
-        Some(count) => count,
-        None => character_count(text),
+    let bytes = text.as_bytes();
+    let count = ascii_length(bytes);
+    if is_ascii_at(bytes, count) {
+        return count;
     }
+    character_length(text)
 }
 
-/// How many blanks stand at the front of a text.
+/// How many blanks stand at the front of a text. They are ASCII, so each is a byte.
 pub fn blanks_length(text: &str) -> usize
     ensures { result ≡ prefix_len columns.is_blank (chars text.now) }
 {
-    match first_ink(text) {
+    let bytes = text.as_bytes();
+    match first_other(bytes) {
+        Some(count) => count,
+        None => bytes.len(),
+    }
+}
+
+fn first_other(bytes: &[u8]) -> Option<usize>
+    ensures { result ≡ position columns.is_ink bytes.now }
+{
+    bytes
+        .iter()
+        .position(|byte| !(*byte == b' ' || *byte == b'\t'))
+}
+
+/// How many bytes at the front are ASCII and no blanks.
+fn ascii_length(bytes: &[u8]) -> usize
+    ensures { result ≡ prefix_len reading.is_ascii_ink bytes.now }
+{
+    match first_beyond(bytes) {
+        Some(count) => count,
+        None => bytes.len(),
+    }
+}
+
+fn first_beyond(bytes: &[u8]) -> Option<usize>
+    ensures { result ≡ position (λ b. not (reading.is_ascii_ink b)) bytes.now }
+{
+    bytes.iter().position(|byte| !is_ascii_ink(*byte))
+}
+
+#[inline(always)]
+fn is_ascii_ink(byte: u8) -> bool
+    ensures { result ≡ reading.is_ascii_ink byte }
+{
+    byte < 128 && !(byte == b' ' || byte == b'\t')
+}
+
+/// Whether there is no byte in this place but an ASCII one.
+fn is_ascii_at(bytes: &[u8], at: usize) -> bool
+    ensures { IsTrue result → slice_index bytes.now at < 128 }
+{
+    at >= bytes.len() || bytes[at] < 128
+}
+
+fn character_length(text: &str) -> usize
+    ensures { result ≡ prefix_len columns.is_ink (chars text.now) }
+{
+    match first_blank(text) {
         Some(count) => count,
         None => character_count(text),
     }
@@ -100,14 +143,31 @@ fn first_blank(text: &str) -> Option<usize>
     text.chars().position(is_blank)
 }
 
-fn first_ink(text: &str) -> Option<usize>
-    ensures { result ≡ position columns.is_ink (chars text.now) }
-{
-    text.chars().position(is_ink)
-}
-
 fn character_count(text: &str) -> usize
     ensures { result ≡ length (chars text.now) }
 {
     text.chars().count()
+}
+
+/// How many bytes at the front are ASCII, and neither blanks nor apostrophes.
+pub fn simple_length(bytes: &[u8]) -> usize
+    ensures { result ≡ prefix_len reading.is_simple bytes.now }
+{
+    match first_unlike(bytes) {
+        Some(count) => count,
+        None => bytes.len(),
+    }
+}
+
+fn first_unlike(bytes: &[u8]) -> Option<usize>
+    ensures { result ≡ position (λ b. not (reading.is_simple b)) bytes.now }
+{
+    bytes.iter().position(|byte| !is_simple(*byte))
+}
+
+#[inline(always)]
+fn is_simple(byte: u8) -> bool
+    ensures { result ≡ reading.is_simple byte }
+{
+    is_ascii_ink(byte) && byte != b'\''
 }

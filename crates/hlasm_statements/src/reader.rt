@@ -1,5 +1,5 @@
 //! The fields of a statement, read in words from its source.
-ghost use Rattle.std.specs.Prelude.{◌≡◌, ◌<◌, ◌≤◌, ◌++◌, ◌&&◌, ◌==◌, ℕ, Bool, false, List, [], IfOk, IsTrue, length, take, slice_index, OnOk};
+ghost use Rattle.std.specs.Prelude.{◌≡◌, ◌<◌, ◌≤◌, ◌++◌, ◌&&◌, ◌==◌, ℕ, Bool, false, List, [], IfOk, IfSome, IsTrue, length, take, slice_index, OnOk};
 ghost use Rattle.std.specs.List.{prefix_len};
 ghost use Rattle.std.specs.Str.{chars};
 ghost use Rattle.hl_base.specs.Quoting.{IsBehind};
@@ -7,9 +7,10 @@ ghost use Rattle.hlasm_statements.specs.Columns as columns;
 ghost use Rattle.hlasm_statements.specs.Fields as fields;
 ghost use Rattle.hlasm_statements.specs.Places.{side_by_side};
 ghost use Rattle.hlasm_statements.specs.Reading as reading;
+ghost use Rattle.hlasm_statements.specs.Reading.{EndsSimply};
 
 use crate::build::count_on;
-use crate::column::{blanks_length, is_blank, split_columns, word_length};
+use crate::column::{blanks_length, is_blank, simple_length, split_columns, word_length};
 use crate::places::Places;
 use hl_base::{Nesting, OutOfMemory, Text};
 use std::alloc::Global;
@@ -52,6 +53,16 @@ struct Scan {
     is_ended: bool,
     nesting: Nesting,
     ends_in_comma: bool,
+}
+
+/// Whether a blank stands behind so many bytes, of which the last is no comma.
+fn ends_simply(bytes: &[u8], count: usize) -> bool
+    ensures { IsTrue result → EndsSimply bytes.now count }
+{
+    if count == 0 || count >= bytes.len() {
+        return false;
+    }
+    (bytes[count] == b' ' || bytes[count] == b'\t') && bytes[count - 1] != b','
 }
 
 /// Adds so many characters, which stand side by side in a line, behind a field. What an `Err` leaves is of no use.
@@ -109,7 +120,7 @@ fn precedes(stage: Stage, is_blank: bool) -> bool
 
 impl Reader {
     ghost use Rattle.hlasm_statements.specs.Columns.{placed};
-    ghost use Rattle.hlasm_statements.specs.Reading.{IsRead, ReadsOn, IsScan, is_before_operands, is_past, stage_scanned};
+    ghost use Rattle.hlasm_statements.specs.Reading.{IsRead, ReadsOn, Scans, IsSimpleScan, is_before_operands, is_past, stage_scanned};
 
     /// Nothing read so far.
     pub fn new(alloc: Global) -> Reader
@@ -260,9 +271,37 @@ impl Reader {
 
     /// How far the operand field goes in a text, where it is not past.
     fn scan(&self, text: &str) -> Result<Scan, OutOfMemory>
-        ensures { IfOk result (λ scan. (before : List ℕ) → IsBehind self.now.nesting before
-            → self.now.ends_in_comma ≡ (slice_index before 0 == 44)
-            → IsScan (fields.keeps_groups self.now.op) before (chars text.now) scan) }
+        ensures { IfOk result (λ scan. Scans self.now (chars text.now) scan) }
+    {
+        match self.simple_scan(text) {
+            Some(count) => Ok(Scan {
+                count,
+                is_ended: true,
+                nesting: self.nesting,
+                ends_in_comma: false,
+            }),
+            None => self.scan_characters(text),
+        }
+    }
+
+    /// How far it goes where that is easy to see: a blank ends its first part, in which nothing is quoted, and no comma
+    /// is last.
+    fn simple_scan(&self, text: &str) -> Option<usize>
+        ensures { IfSome result (λ count. IsSimpleScan self.now text.now count) }
+    {
+        if !self.operands.is_empty() || keeps_groups(&self.op) {
+            return None;
+        }
+        let count = simple_length(text.as_bytes());
+        if !ends_simply(text.as_bytes(), count) {
+            return None;
+        }
+        Some(count)
+    }
+
+    /// How far it goes, character by character.
+    fn scan_characters(&self, text: &str) -> Result<Scan, OutOfMemory>
+        ensures { IfOk result (λ scan. Scans self.now (chars text.now) scan) }
     {
         let mut nesting = self.nesting;
         let mut ends_in_comma = self.ends_in_comma;

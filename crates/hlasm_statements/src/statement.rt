@@ -3,9 +3,10 @@ ghost use Rattle.std.specs.Prelude.{◌≡◌, List, [], ◌∷◌, ◌++◌, If
 ghost use Rattle.std.specs.Str.{chars};
 ghost use Rattle.hlasm_statements.specs.Statements.{statements_of};
 
+use crate::Faults;
 use crate::build::{count_on, statement_of_lines};
 use crate::column::{begins_marked, split_columns};
-use crate::{Faults, Places};
+use crate::places::Places;
 use hl_base::{OutOfMemory, Text, lines};
 use std::alloc::Global;
 use std::marker::Model;
@@ -47,9 +48,10 @@ pub struct Statement {
     pub op: Text,
     pub operands: Text,
     pub faults: Faults,
-    pub label_places: Places,
-    pub op_places: Places,
-    pub operand_places: Places,
+    /// Where the characters of each field stand; `place` answers from them.
+    pub(crate) label_places: Places,
+    pub(crate) op_places: Places,
+    pub(crate) operand_places: Places,
 }
 
 impl Statement {

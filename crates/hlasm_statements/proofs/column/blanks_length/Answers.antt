@@ -1,10 +1,10 @@
 use Rattle.std.proofs.Common.{◌∙◌}
-use Rattle.std.specs.Prelude.{chars}
-use Rattle.hlasm_statements.specs.Columns as columns
-use Rattle.hlasm_statements.proofs.ListLaws.{length_found, length_all, prefix_len-ink}
+use Rattle.hlasm_statements.specs.Columns.{is_blank, is_ink}
+use Rattle.hlasm_statements.proofs.ByteLaws.{blanks-at, found-twice, all-twice}
 use Rattle.hlasm_statements.proofs.column.blanks_length.Goals as goal
 
+pub returns-in-Some : goal.returns-in-Some
+returns-in-Some c = blanks-at c.args.text.now c.as_bytes-bytes.result.now _ c.utf8.text (cc) (found-twice is_blank c.as_bytes-bytes.result.now c.first_other.result c.in-Some.count c.first_other.ensures c.in-Some.is)
+
 pub returns-in-None : goal.returns-in-None
-returns-in-None c =
-    c.character_count.ensures ∙ length_all columns.is_ink (chars c.args.text.now) c.first_ink.result c.first_ink.ensures c.in-None.is
-    ∙ prefix_len-ink (chars c.args.text.now)
+returns-in-None c = blanks-at c.args.text.now c.as_bytes-bytes.result.now _ c.utf8.text (cc) (all-twice is_blank c.as_bytes-bytes.result.now c.first_other.result c.first_other.ensures c.in-None.is)

@@ -1,8 +1,5 @@
-use Rattle.std.proofs.Common.{◌∙◌}
-use Rattle.std.specs.Prelude.{chars}
-use Rattle.hlasm_statements.specs.Columns as columns
-use Rattle.hlasm_statements.proofs.ListLaws.{length_all}
+use Rattle.hlasm_statements.proofs.ByteLaws.{word-at}
 use Rattle.hlasm_statements.proofs.column.word_length.Goals as goal
 
-pub returns-in-None : goal.returns-in-None
-returns-in-None c = c.character_count.ensures ∙ length_all columns.is_blank (chars c.args.text.now) c.first_blank.result c.first_blank.ensures c.in-None.is
+pub returns-then-is_ascii_at : goal.returns-then-is_ascii_at
+returns-then-is_ascii_at c = word-at c.args.text.now c.as_bytes-bytes.result.now c.ascii_length-count.result c.utf8.text (cc) c.ascii_length-count.ensures (c.is_ascii_at.ensures c.if-is_ascii_at.true)
