@@ -1,5 +1,5 @@
 //! Columns of a line, counted in characters.
-ghost use Rattle.std.specs.Prelude.{◌≡◌, ◌==◌, ◌≤◌, ◌<◌, not, IsTrue, length, take, drop, slice_index, slice_index_or, encode_utf8_all};
+ghost use Rattle.std.specs.Prelude.{◌≡◌, ◌≤◌, ◌<◌, not, IsTrue, length, take, drop, slice_index, slice_index_or, encode_utf8_all};
 ghost use Rattle.std.specs.List.{list_all, prefix_len, position};
 ghost use Rattle.std.specs.Str.{chars, IsAscii};
 ghost use Rattle.hlasm_statements.specs.Columns as columns;
@@ -18,13 +18,6 @@ pub fn is_all_blank(text: &str) -> bool
     ensures { result ≡ list_all columns.is_blank (chars text.now) }
 {
     text.chars().all(is_blank)
-}
-
-/// Whether a text has no character.
-pub fn is_nothing(text: &str) -> bool
-    ensures { result ≡ (length (chars text.now) == 0) }
-{
-    text.is_empty()
 }
 
 /// Whether a text begins with a character other than a blank.
