@@ -1,8 +1,9 @@
 -- The bytes and the characters at the front of a text.
-use Rattle.std.proofs.Common.{◌≡◌, ◌∙◌, ℕ, ◌+◌, ◌-◌, ◌<◌, ◌≤◌, true, false, Option, List, [], ◌∷◌, ◌++◌, length, take, drop, get_or, refl, sym, ap, subst, inl, inr, arith, lit<, take-append-drop, length-append, length-drop, drop-drop}
-use Rattle.std.specs.Prelude.{◌==◌, ◌&&◌, slice_index, encode_utf8, encode_utf8_all, chars, IsUtf8, IsCharBoundary, MatchOption, is_some, Some, None}
-use Rattle.std.proofs.lemmas.Bool.{eqb-true, eq-eqb, true≢false, both_ways, and_parts, and_from, ne_eqb, false_from_ne_true, cases_Bool}
-use Rattle.std.proofs.lemmas.Str.{chars_past_char, chars-encodes, encode_ascii, encodes-append, encodes-chars, scalars-chars, IsUtf8-past_char, IsCharBoundary-at_seam, cons_from_encodes, char_from_byte, length-le-encodes}
+use Rattle.std.proofs.Common.{◌≡◌, ◌∙◌, ℕ, ◌+◌, ◌-◌, ◌<◌, ◌≤◌, true, false, Option, List, [], ◌∷◌, ◌++◌, length, take, drop, get_or, refl, sym, ap, subst, inl, inr, arith, lit<, take_all, take-append-drop, length-append, length-drop, length-take-le, drop-drop}
+use Rattle.std.specs.Prelude.{◌==◌, ◌&&◌, min, slice_index, encode_utf8, encode_utf8_all, chars, IsUtf8, IsCharBoundary, MatchOption, is_some, Some, None}
+use Rattle.std.proofs.lemmas.Bool.{eqb-true, eq-eqb, true≢false, both_ways, and_parts, and_from, ne_eqb, false_from_ne_true, cases_Bool, cases_lt}
+use Rattle.std.specs.Str.{IsAscii}
+use Rattle.std.proofs.lemmas.Str.{chars_past_char, chars-encodes, encode_ascii, encodes-append, encodes-chars, scalars-chars, IsUtf8-past_char, IsCharBoundary-at_seam, cons_from_encodes, char_from_byte, length-le-encodes, chars-append, chars-IsAscii, chars-nil, IsUtf8-from_ascii, IsCharBoundary-from_take}
 use Rattle.std.proofs.Math.Utf8.{scalars, scalar}
 use Rattle.std.proofs.Math.Seq.{take-append_seam, drop-append_seam}
 use Rattle.std.proofs.Math.ListN.{drop_of_length-le}
@@ -127,3 +128,48 @@ none_of (c ∷ cs) =
 
 pub none-chars : (bs : List ℕ) → IsUtf8 bs → (length bs == 0) ≡ (length (chars bs) == 0)
 none-chars bs u = ap (λ xs. length xs == 0) (sym (encodes-chars bs u)) ∙ none_of (chars bs)
+
+-- ---- where the first characters are ASCII, each is a byte
+
+ascii-parts : (bs : List ℕ) (i : ℕ) → IsUtf8 bs → i ≤ length bs → IsAscii (take i bs) → chars bs ≡ take i bs ++ chars (drop i bs)
+ascii-parts bs i u within ascii =
+    ap chars (sym (take-append-drop i bs))
+    ∙ chars-append (take i bs) (drop i bs) (IsUtf8-from_ascii (take i bs) ascii)
+    ∙ ap (λ front. front ++ chars (drop i bs)) (chars-IsAscii (take i bs) ascii)
+
+pub ascii-cut : (bs : List ℕ) (i : ℕ) → IsUtf8 bs → i ≤ length bs → IsAscii (take i bs) → IsCharBoundary bs i
+ascii-cut bs i u within ascii = IsCharBoundary-from_take bs i u within (IsUtf8-from_ascii (take i bs) ascii)
+
+-- a text of fewer bytes is ASCII as a whole
+ascii-whole : (bs : List ℕ) (i count : ℕ) → i ≡ min count (length bs) → length bs < count → IsAscii (take i bs) → (take i bs ≡ bs) × (chars bs ≡ bs)
+ascii-whole bs i count is short ascii =
+    let all : take i bs ≡ bs = take_all i bs (omega arith) in
+    (all, chars-IsAscii bs (subst IsAscii all ascii))
+
+ascii-length : (bs : List ℕ) (i count : ℕ) → i ≡ min count (length bs) → count ≤ length bs → length (take i bs) ≡ count
+ascii-length bs i count is fits = let within : i ≤ length bs = omega arith in omega (arith, length-take-le i bs within)
+
+pub ascii-front : (bs : List ℕ) (i count : ℕ) → IsUtf8 bs → i ≡ min count (length bs) → IsAscii (take i bs) → chars (take i bs) ≡ take count (chars bs)
+ascii-front bs i count u is ascii = elim (cases_lt (length bs) count) [
+  | inl short ↦
+      let whole = ascii-whole bs i count is short ascii in
+      ap chars whole.0 ∙ sym (take_all count (chars bs) (omega (arith, ap length whole.1)))
+  | inr fits ↦
+      chars-IsAscii (take i bs) ascii
+      ∙ sym (take-append_seam (take i bs) (chars (drop i bs)))
+      ∙ ap (λ n. take n (take i bs ++ chars (drop i bs))) (ascii-length bs i count is fits)
+      ∙ ap (take count) (sym (ascii-parts bs i u (omega arith) ascii))
+]
+
+pub ascii-back : (bs : List ℕ) (i count : ℕ) → IsUtf8 bs → i ≡ min count (length bs) → IsAscii (take i bs) → chars (drop i bs) ≡ drop count (chars bs)
+ascii-back bs i count u is ascii = elim (cases_lt (length bs) count) [
+  | inl short ↦
+      let whole = ascii-whole bs i count is short ascii in
+      ap chars (drop_of_length-le bs (omega arith))
+      ∙ chars-nil
+      ∙ sym (drop_of_length-le (chars bs) (omega (arith, ap length whole.1)))
+  | inr fits ↦
+      sym (drop-append_seam (take i bs) (chars (drop i bs)))
+      ∙ ap (λ n. drop n (take i bs ++ chars (drop i bs))) (ascii-length bs i count is fits)
+      ∙ ap (drop count) (sym (ascii-parts bs i u (omega arith) ascii))
+]

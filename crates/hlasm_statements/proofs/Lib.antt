@@ -3,6 +3,7 @@ pub mod ListLaws
 pub mod ResultLaws
 pub mod PlacesLaws
 pub mod ReadingLaws
+pub mod ByteLaws
 pub mod SourceLaws
 pub mod BuildLaws
 pub mod StatementLaws

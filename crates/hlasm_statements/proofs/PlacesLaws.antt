@@ -6,12 +6,6 @@ use Rattle.std.proofs.lemmas.List.{at_drop_more, get_or-append_right}
 use Rattle.hlasm_statements.specs.declared.run.Run.{Run}
 use Rattle.hlasm_statements.specs.Places.{side_by_side, run_places, places_in}
 
-side_by_side-push : (line column count : ℕ) → side_by_side line column (suc count) ≡ side_by_side line column count ++ (line, column + count) ∷ []
-side_by_side-push line column zero = ap (λ k. (line, k) ∷ []) (let e : column ≡ column + 0 = omega arith in e)
-side_by_side-push line column (suc count) =
-    ap (λ back. (line, column) ∷ back) (side_by_side-push line (column + 1) count
-    ∙ ap (λ k. side_by_side line (column + 1) count ++ (line, k) ∷ []) (let e : (column + 1) + count ≡ column + suc count = omega arith in e))
-
 length-side_by_side : (line column count : ℕ) → length (side_by_side line column count) ≡ count
 length-side_by_side line column zero = refl
 length-side_by_side line column (suc count) = omega (arith, length-side_by_side line (column + 1) count)
@@ -22,34 +16,32 @@ get_or-side_by_side line column (suc count) zero d below = ap (λ n. (line, n)) 
 get_or-side_by_side line column (suc count) (suc k) d below =
     get_or-side_by_side line (column + 1) count k d (omega arith) ∙ ap (λ n. (line, n)) (let e : (column + 1) + k ≡ column + suc k = omega arith in e)
 
--- a run with one column more
-longer : (line from to next : ℕ) → from ≤ to → next ≡ to + 1 → side_by_side line from (next - from) ≡ side_by_side line from (to - from) ++ (line, to) ∷ []
-longer line from to next ordered is =
-    ap (side_by_side line from) (let e : next - from ≡ suc (to - from) = omega arith in e)
-    ∙ side_by_side-push line from (to - from)
-    ∙ ap (λ k. side_by_side line from (to - from) ++ (line, k) ∷ []) (let e : from + (to - from) ≡ to = omega arith in e)
-
-pub places-grow : (full : List Run) (last : Run) (line column next : ℕ) → last.from ≤ last.to → last.line ≡ line → last.to ≡ column → next ≡ column + 1
-    → flat_map run_places full ++ side_by_side last.line last.from (next - last.from) ≡ places_in full last ++ (line, column) ∷ []
-places-grow full last line column next ordered at end is =
-    ap (λ r. flat_map run_places full ++ r) (longer last.line last.from last.to next ordered (omega arith))
-    ∙ ap (λ l. flat_map run_places full ++ (side_by_side last.line last.from (last.to - last.from) ++ (l, last.to) ∷ [])) at
-    ∙ ap (λ t. flat_map run_places full ++ (side_by_side last.line last.from (last.to - last.from) ++ (line, t) ∷ [])) end
-    ∙ sym (append_assoc (flat_map run_places full) (run_places last) ((line, column) ∷ []))
-
 flat_map-push : (full : List Run) (last : Run) → flat_map run_places (full ++ last ∷ []) ≡ flat_map run_places full ++ run_places last
 flat_map-push [] last = append-nil (run_places last)
 flat_map-push (run ∷ full) last = ap (λ back. run_places run ++ back) (flat_map-push full last) ∙ sym (append_assoc (run_places run) (flat_map run_places full) (run_places last))
 
-pub places-new : (full grown : List Run) (last fresh : Run) (line column next : ℕ) → grown ≡ full ++ last ∷ [] → fresh.line ≡ line → fresh.from ≡ column → fresh.to ≡ next → next ≡ column + 1
-    → places_in grown fresh ≡ places_in full last ++ (line, column) ∷ []
-places-new full grown last fresh line column next grows line_is from_is to_is is =
+run-is : (line column count to : ℕ) → to ≡ column + count → side_by_side line column (to - column) ≡ side_by_side line column count
+run-is line column count to is = ap (side_by_side line column) (let e : to - column ≡ count = omega arith in e)
+
+-- a run behind another
+pub places-more : (full grown : List Run) (last fresh : Run) (line column count : ℕ) → grown ≡ full ++ last ∷ [] → fresh.line ≡ line → fresh.from ≡ column → fresh.to ≡ column + count
+    → places_in grown fresh ≡ places_in full last ++ side_by_side line column count
+places-more full grown last fresh line column count grows line_is from_is to_is =
     ap (λ f. flat_map run_places f ++ run_places fresh) grows
     ∙ ap (λ f. f ++ run_places fresh) (flat_map-push full last)
     ∙ ap (λ l. places_in full last ++ side_by_side l fresh.from (fresh.to - fresh.from)) line_is
     ∙ ap (λ k. places_in full last ++ side_by_side line k (fresh.to - k)) from_is
-    ∙ ap (λ t. places_in full last ++ side_by_side line column (t - column)) to_is
-    ∙ ap (λ n. places_in full last ++ side_by_side line column n) (let e : next - column ≡ suc zero = omega arith in e)
+    ∙ ap (λ r. places_in full last ++ r) (run-is line column count fresh.to to_is)
+
+-- a run in the place of one that has no column
+pub places-first : (full : List Run) (last fresh : Run) (line column count : ℕ) → last.to ≤ last.from → fresh.line ≡ line → fresh.from ≡ column → fresh.to ≡ column + count
+    → places_in full fresh ≡ places_in full last ++ side_by_side line column count
+places-first full last fresh line column count none line_is from_is to_is =
+    let empty : last.to - last.from ≡ zero = omega arith in
+    ap (λ l. flat_map run_places full ++ side_by_side l fresh.from (fresh.to - fresh.from)) line_is
+    ∙ ap (λ k. flat_map run_places full ++ side_by_side line k (fresh.to - k)) from_is
+    ∙ ap (λ r. flat_map run_places full ++ r) (run-is line column count fresh.to to_is)
+    ∙ ap (λ front. front ++ side_by_side line column count) (sym (append-nil (flat_map run_places full)) ∙ ap (λ n. flat_map run_places full ++ side_by_side last.line last.from n) (sym empty))
 
 -- what is left of the places, and which of them is wanted
 pub record IsLeft (items : List Run) (last : Run) (at left index : ℕ) : Type 0 where

@@ -33,11 +33,12 @@ ends_marked (line ∷ next ∷ rest) = ends_marked (next ∷ rest)
 abbrev pub where_met : Bool → ColumnFault → List ColumnFault
 where_met met fault = if met then (fault ∷ []) else []
 
+-- the faults that are met, in the order of their codes
+abbrev pub faults_met : (margin surplus missing : Bool) → List ColumnFault
+faults_met margin surplus missing = where_met margin MarginText ++ where_met surplus SurplusLines ++ where_met missing MissingLine
+
 -- the faults of a statement, in the order of their codes: text in columns 1 to 15 of a continuation line that is read, a
 -- line that is not read, and a mark on the text's last line
 abbrev pub faults_of : (read : ℕ) (marked : Bool) → List (List ℕ) → List ColumnFault
 faults_of read marked [] = []
-faults_of read marked (body ∷ rest) =
-    where_met (list_any has_margin_text (take read rest)) MarginText
-    ++ where_met (nat_lt read (length rest)) SurplusLines
-    ++ where_met marked MissingLine
+faults_of read marked (body ∷ rest) = faults_met (list_any has_margin_text (take read rest)) (nat_lt read (length rest)) marked

@@ -1,5 +1,6 @@
 -- What the reader of a source keeps of the characters so far. This project.
-use Rattle.std.specs.Prelude.{◌≡◌, ℕ, ◌+◌, Bool, true, false, ◌&&◌, ◌==◌, List, [], ◌∷◌, ◌++◌, Option, Some, None, take_while, slice_index, reverse, map, chars, if◌then◌else◌}
+use Rattle.std.specs.Prelude.{◌≡◌, ℕ, ◌+◌, ◌-◌, not, ◌<◌, ◌≤◌, ⊤, Bool, true, false, ◌&&◌, ◌==◌, List, [], ◌∷◌, ◌++◌, Option, Some, None, take, take_while, nat_lt, length, slice_index, slice_index_or, reverse, map, chars, if◌then◌else◌}
+use Rattle.std.specs.List.{prefix_len}
 use Rattle.std.specs.Borrow.{Bor}
 use Rattle.hl_base.specs.Quoting.{IsBehind}
 use Rattle.hlasm_statements.specs.declared.statement.Shape.{Shape}
@@ -7,6 +8,7 @@ use Rattle.hlasm_statements.specs.declared.statement.Shape.TheVariants.{Plain, C
 use Rattle.hlasm_statements.specs.declared.reader.Stage.{Stage}
 use Rattle.hlasm_statements.specs.declared.reader.Stage.TheVariants.{Label, Gap, Operation, OperandGap, Operands, Remarks, Done}
 use Rattle.hlasm_statements.specs.declared.reader.Reader.{Reader}
+use Rattle.hlasm_statements.specs.declared.reader.Scan.{Scan}
 use Rattle.hlasm_statements.specs.Columns.{Placed, placed, continued, is_blank, is_ink, text_of, places_of}
 use Rattle.hlasm_statements.specs.Shape.{skip_while, label_of, operation_of}
 use Rattle.hlasm_statements.specs.Fields.{keeps_groups, ends_field, operand_field, behind_operation, operands_of}
@@ -21,49 +23,40 @@ behind_word source = skip_while (λ p. is_ink p.char) source
 abbrev pub behind_blanks : List Placed → List Placed
 behind_blanks source = skip_while (λ p. is_blank p.char) source
 
--- the stage that a character of the operands leaves
-abbrev pub stage_in_operands : (alternate keeps : Bool) (before : List ℕ) (c line : ℕ) → Stage
-stage_in_operands alternate keeps before c line =
-    if is_blank c && ends_field keeps c before then (if alternate && (slice_index before 0 == 44) then Remarks line else Done) else Operands
+-- the stage that blanks leave before the operands
+abbrev pub stage_behind_blanks : Stage → Stage
+stage_behind_blanks Label = Gap
+stage_behind_blanks Gap = Gap
+stage_behind_blanks Operation = OperandGap
+stage_behind_blanks OperandGap = OperandGap
+stage_behind_blanks Operands = Operands
+stage_behind_blanks (Remarks remarks) = Remarks remarks
+stage_behind_blanks Done = Done
 
--- the stage that a character leaves
-abbrev pub stage_behind : (alternate keeps : Bool) (before : List ℕ) → Stage → (c line : ℕ) → Stage
-stage_behind alternate keeps before Label c line = if is_blank c then Gap else Label
-stage_behind alternate keeps before Gap c line = if is_blank c then Gap else Operation
-stage_behind alternate keeps before Operation c line = if is_blank c then OperandGap else Operation
-stage_behind alternate keeps before OperandGap c line = if is_blank c then OperandGap else Operands
-stage_behind alternate keeps before Operands c line = stage_in_operands alternate keeps before c line
-stage_behind alternate keeps before (Remarks remarks) c line =
-    if line == remarks then Remarks remarks else stage_in_operands alternate keeps before c line
-stage_behind alternate keeps before Done c line = Done
+-- whether a character that is a blank or is none stands before the operands
+abbrev pub precedes : Stage → Bool → Bool
+precedes Label blank = true
+precedes Gap blank = true
+precedes Operation blank = true
+precedes OperandGap blank = blank
+precedes Operands blank = false
+precedes (Remarks remarks) blank = false
+precedes Done blank = false
 
--- the fields with a character that leaves this stage
-abbrev pub label_with : Stage → Placed → List Placed → List Placed
-label_with Label p label = label ++ p ∷ []
-label_with Gap p label = label
-label_with Operation p label = label
-label_with OperandGap p label = label
-label_with Operands p label = label
-label_with (Remarks remarks) p label = label
-label_with Done p label = label
+-- whether characters begin before the operands
+abbrev pub is_before_operands : Stage → List ℕ → Bool
+is_before_operands stage [] = false
+is_before_operands stage (c ∷ rest) = precedes stage (is_blank c)
 
-abbrev pub op_with : Stage → Placed → List Placed → List Placed
-op_with Label p op = op
-op_with Gap p op = op
-op_with Operation p op = op ++ p ∷ []
-op_with OperandGap p op = op
-op_with Operands p op = op
-op_with (Remarks remarks) p op = op
-op_with Done p op = op
-
-abbrev pub operands_with : Stage → Placed → List Placed → List Placed
-operands_with Label p operands = operands
-operands_with Gap p operands = operands
-operands_with Operation p operands = operands
-operands_with OperandGap p operands = operands
-operands_with Operands p operands = operands ++ p ∷ []
-operands_with (Remarks remarks) p operands = operands
-operands_with Done p operands = operands
+-- whether the rest of a line is no part of the fields
+abbrev pub is_past : Stage → (line : ℕ) → Bool
+is_past Label line = false
+is_past Gap line = false
+is_past Operation line = false
+is_past OperandGap line = false
+is_past Operands line = false
+is_past (Remarks remarks) line = line == remarks
+is_past Done line = true
 
 -- the name entry, where this much of it was read and this comes behind the stage that was reached
 abbrev pub label_after : Stage → List Placed → List Placed → List Placed
@@ -95,6 +88,16 @@ rest_after alternate keeps before Operands tail = operand_field alternate keeps 
 rest_after alternate keeps before (Remarks remarks) tail = operand_field alternate keeps (Some remarks) before tail
 rest_after alternate keeps before Done tail = []
 
+-- whether nothing more is read
+abbrev pub is_done : Stage → Bool
+is_done Label = false
+is_done Gap = false
+is_done Operation = false
+is_done OperandGap = false
+is_done Operands = false
+is_done (Remarks remarks) = false
+is_done Done = true
+
 -- the characters of a field, the nearest first
 abbrev pub backwards : List Placed → List ℕ
 backwards field = reverse (text_of field)
@@ -110,22 +113,66 @@ pub record IsRead (reader : Reader) (alternate : Bool) (source : List Placed) : 
   pub label_places : reader.label_places ≡ places_of label
   pub op_places : reader.op_places ≡ places_of op
   pub operand_places : reader.operand_places ≡ places_of operands
-  pub nesting : IsBehind reader.nesting (backwards operands)
+  pub nesting : is_done reader.stage ≡ false → IsBehind reader.nesting (backwards operands)
   pub comma : reader.ends_in_comma ≡ (slice_index (backwards operands) 0 == 44)
   pub label_goes : (tail : List Placed) → label_after reader.stage label tail ≡ label_of (source ++ tail)
   pub op_goes : (tail : List Placed) → op_after reader.stage op tail ≡ operation_of (source ++ tail)
   pub operands_go : (tail : List Placed) →
       operands ++ rest_after alternate (keeps_groups (text_of (op_after reader.stage op tail))) (backwards operands) reader.stage tail ≡ operands_of alternate (source ++ tail)
 
--- whether nothing more is read
-abbrev pub is_done : Stage → Bool
-is_done Label = false
-is_done Gap = false
-is_done Operation = false
-is_done OperandGap = false
-is_done Operands = false
-is_done (Remarks remarks) = false
-is_done Done = true
+-- whether a byte is ASCII and no blank
+abbrev pub is_ascii_ink : ℕ → Bool
+is_ascii_ink b = nat_lt b 128 && not (is_blank b)
+
+-- and no apostrophe
+abbrev pub is_simple : ℕ → Bool
+is_simple b = is_ascii_ink b && not (b == 39)
+
+-- a blank stands behind so many bytes, of which the last is no comma
+abbrev pub EndsSimply : List ℕ → ℕ → Type 0
+EndsSimply bytes count =
+    (0 < count) × (count < length bytes) × (is_blank (slice_index bytes count) ≡ true) × ((slice_index bytes (count - 1) == 44) ≡ false)
+
+-- the operand field begins and ends with so many bytes of these
+pub record IsSimpleScan (reader : Reader) (bytes : List ℕ) (count : ℕ) : Type 0 where
+  pub first : reader.operands ≡ []
+  pub groups : keeps_groups reader.op ≡ false
+  pub simple : count ≡ prefix_len is_simple bytes
+  pub ends : EndsSimply bytes count
+
+-- these characters are read on from any source
+abbrev pub ReadsOn : (old new : Reader) (alternate : Bool) (more : List Placed) → Type 0
+ReadsOn old new alternate more = (source : List Placed) → IsRead old alternate source → IsRead new alternate (source ++ more)
+
+-- each of these characters goes on with the operand field, behind those before it
+abbrev pub Passes : (keeps : Bool) (before : List ℕ) → List ℕ → Type 0
+Passes keeps before [] = ⊤
+Passes keeps before (c ∷ rest) = ((is_blank c && ends_field keeps c before) ≡ false) × Passes keeps (c ∷ before) rest
+
+-- these are all the characters, or a blank that ends the field comes behind them
+abbrev pub EndsAt : (ended keeps : Bool) (count : ℕ) (before : List ℕ) → List ℕ → Type 0
+EndsAt false keeps count before text = count ≡ length text
+EndsAt true keeps count before text = (c : ℕ) × (count < length text) × (c ≡ slice_index_or text count c) × ((is_blank c && ends_field keeps c before) ≡ true)
+
+-- so many characters go on with the operand field, and this is what they leave
+pub record IsScan (keeps : Bool) (before text : List ℕ) (scan : Scan) : Type 0 where
+  pub passes : Passes keeps before (take scan.count text)
+  pub fits : scan.count ≤ length text
+  pub ends : EndsAt scan.is_ended keeps scan.count (reverse (take scan.count text) ++ before) text
+  pub nesting : (scan.is_ended && not scan.ends_in_comma) ≡ false → IsBehind scan.nesting (reverse (take scan.count text) ++ before)
+  pub comma : scan.ends_in_comma ≡ (slice_index (reverse (take scan.count text) ++ before) 0 == 44)
+
+-- what a scan says of the characters behind those that a reader has read
+abbrev pub Scans : Reader → List ℕ → Scan → Type 0
+Scans reader text scan =
+    IsBehind reader.nesting (reverse reader.operands) → reader.ends_in_comma ≡ (slice_index (reverse reader.operands) 0 == 44)
+    → IsScan (keeps_groups reader.op) (reverse reader.operands) text scan
+
+-- the stage that they leave, with a blank that ends the field
+abbrev pub stage_scanned : (alternate : Bool) → Stage → Scan → (line : ℕ) → Stage
+stage_scanned alternate stage scan line =
+    if scan.is_ended then (if alternate && scan.ends_in_comma then Remarks line else Done)
+    else (if nat_lt 0 scan.count then Operands else stage)
 
 -- the shape by the first line alone: plain where it is no comment
 abbrev pub opening_of : List ℕ → Shape

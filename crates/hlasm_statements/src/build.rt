@@ -188,12 +188,7 @@ fn statement(
 {
     let last = count_on(number, rest.len())?;
     let read = lines_read(rest);
-    let faults = Faults::of(
-        alloc,
-        have_margin_text(read),
-        rest.len() > LINES_READ,
-        is_marked,
-    )?;
+    let faults = Faults::of(have_margin_text(read), rest.len() > LINES_READ, is_marked);
     let shape = opening(first);
     if !is_plain(shape) {
         return Ok(without_fields(alloc, number, last, shape, faults));
@@ -206,7 +201,7 @@ fn statement(
         return Ok(with_fields(number, last, standard, faults));
     }
     let whole = read_fields(alloc, true, number, first, rest)?;
-    let faults = Faults::of(alloc, have_margin_text(rest), false, is_marked)?;
+    let faults = Faults::of(have_margin_text(rest), false, is_marked);
     Ok(with_fields(number, last, whole, faults))
 }
 

@@ -1,8 +1,9 @@
 //! Columns of a line, counted in characters.
-ghost use Rattle.std.specs.Prelude.{◌≡◌, ◌==◌, length, take, drop, slice_index_or, encode_utf8_all};
-ghost use Rattle.std.specs.List.{list_all};
-ghost use Rattle.std.specs.Str.{chars};
+ghost use Rattle.std.specs.Prelude.{◌≡◌, ◌≤◌, ◌<◌, not, IsTrue, length, take, drop, slice_index, slice_index_or, encode_utf8_all};
+ghost use Rattle.std.specs.List.{list_all, prefix_len, position};
+ghost use Rattle.std.specs.Str.{chars, IsAscii};
 ghost use Rattle.hlasm_statements.specs.Columns as columns;
+ghost use Rattle.hlasm_statements.specs.Reading as reading;
 
 /// Whether a character is a blank or a tab.
 #[inline(always)]
@@ -19,13 +20,6 @@ pub fn is_all_blank(text: &str) -> bool
     text.chars().all(is_blank)
 }
 
-/// Whether a text has no character.
-pub fn is_nothing(text: &str) -> bool
-    ensures { result ≡ (length (chars text.now) == 0) }
-{
-    text.is_empty()
-}
-
 /// Whether a text begins with a character other than a blank.
 pub fn begins_marked(text: &str) -> bool
     ensures { result ≡ columns.is_ink (slice_index_or (chars text.now) 0 32) }
@@ -38,8 +32,20 @@ pub fn split_columns(text: &str, count: usize) -> (&str, &str)
     ensures front { chars result.0.now ≡ take count (chars text.now) }
     ensures back { chars result.1.now ≡ drop count (chars text.now) }
 {
+    let end = count.min(text.len());
+    if begins_ascii(text, end) {
+        return text.split_at(end);
+    }
     let rest = behind_columns(text, count);
     text.split_at(text.len() - rest.len())
+}
+
+/// Whether so many bytes at the front of a text are ASCII, so that each is a column.
+fn begins_ascii(text: &str, count: usize) -> bool
+    requires { count ≤ length text.now }
+    ensures { IsTrue result → IsAscii (take count text.now) }
+{
+    text.as_bytes()[..count].is_ascii()
 }
 
 fn behind_columns(text: &str, count: usize) -> &str
@@ -52,4 +58,109 @@ fn behind_columns(text: &str, count: usize) -> &str
         }
     }
     rest.as_str()
+}
+
+/// How many characters of a text stand before its first blank. Where they are ASCII, each is a byte.
+pub fn word_length(text: &str) -> usize
+    ensures { result ≡ prefix_len columns.is_ink (chars text.now) }
+{
+    let bytes = text.as_bytes();
+    let count = ascii_length(bytes);
+    if is_ascii_at(bytes, count) {
+        return count;
+    }
+    character_length(text)
+}
+
+/// How many blanks stand at the front of a text. They are ASCII, so each is a byte.
+pub fn blanks_length(text: &str) -> usize
+    ensures { result ≡ prefix_len columns.is_blank (chars text.now) }
+{
+    let bytes = text.as_bytes();
+    match first_other(bytes) {
+        Some(count) => count,
+        None => bytes.len(),
+    }
+}
+
+fn first_other(bytes: &[u8]) -> Option<usize>
+    ensures { result ≡ position columns.is_ink bytes.now }
+{
+    bytes
+        .iter()
+        .position(|byte| !(*byte == b' ' || *byte == b'\t'))
+}
+
+/// How many bytes at the front are ASCII and no blanks.
+fn ascii_length(bytes: &[u8]) -> usize
+    ensures { result ≡ prefix_len reading.is_ascii_ink bytes.now }
+{
+    match first_beyond(bytes) {
+        Some(count) => count,
+        None => bytes.len(),
+    }
+}
+
+fn first_beyond(bytes: &[u8]) -> Option<usize>
+    ensures { result ≡ position (λ b. not (reading.is_ascii_ink b)) bytes.now }
+{
+    bytes.iter().position(|byte| !is_ascii_ink(*byte))
+}
+
+#[inline(always)]
+fn is_ascii_ink(byte: u8) -> bool
+    ensures { result ≡ reading.is_ascii_ink byte }
+{
+    byte < 128 && !(byte == b' ' || byte == b'\t')
+}
+
+/// Whether there is no byte in this place but an ASCII one.
+fn is_ascii_at(bytes: &[u8], at: usize) -> bool
+    ensures { IsTrue result → slice_index bytes.now at < 128 }
+{
+    at >= bytes.len() || bytes[at] < 128
+}
+
+fn character_length(text: &str) -> usize
+    ensures { result ≡ prefix_len columns.is_ink (chars text.now) }
+{
+    match first_blank(text) {
+        Some(count) => count,
+        None => character_count(text),
+    }
+}
+
+fn first_blank(text: &str) -> Option<usize>
+    ensures { result ≡ position columns.is_blank (chars text.now) }
+{
+    text.chars().position(is_blank)
+}
+
+fn character_count(text: &str) -> usize
+    ensures { result ≡ length (chars text.now) }
+{
+    text.chars().count()
+}
+
+/// How many bytes at the front are ASCII, and neither blanks nor apostrophes.
+pub fn simple_length(bytes: &[u8]) -> usize
+    ensures { result ≡ prefix_len reading.is_simple bytes.now }
+{
+    match first_unlike(bytes) {
+        Some(count) => count,
+        None => bytes.len(),
+    }
+}
+
+fn first_unlike(bytes: &[u8]) -> Option<usize>
+    ensures { result ≡ position (λ b. not (reading.is_simple b)) bytes.now }
+{
+    bytes.iter().position(|byte| !is_simple(*byte))
+}
+
+#[inline(always)]
+fn is_simple(byte: u8) -> bool
+    ensures { result ≡ reading.is_simple byte }
+{
+    is_ascii_ink(byte) && byte != b'\''
 }

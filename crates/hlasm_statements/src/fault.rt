@@ -1,9 +1,8 @@
 //! Faults of the columns of a statement.
-ghost use Rattle.std.specs.Prelude.{◌≡◌, List, [], ◌∷◌, ◌++◌, IfOk};
-ghost use Rattle.hlasm_statements.specs.Faults.{where_met};
+ghost use Rattle.std.specs.Prelude.{◌≡◌};
+ghost use Rattle.hlasm_statements.specs.Faults.{faults_met};
 
-use hl_base::{OutOfMemory, Severity};
-use std::alloc::Global;
+use hl_base::Severity;
 use std::marker::Model;
 
 /// What is wrong with the columns of a statement.
@@ -45,46 +44,50 @@ impl ColumnFault {
 /// Faults of one statement, each at most once, in the order of their codes. Contracts see the list.
 #[derive(Drop)]
 pub struct Faults {
-    faults: Vec<ColumnFault>,
+    has_margin_text: bool,
+    has_surplus: bool,
+    is_missing: bool,
 }
 
 impl Model for Faults {
     ghost use Rattle.std.specs.Prelude.{List};
     ghost use Rattle.hlasm_statements.specs.declared.fault.ColumnFault.{ColumnFault};
+    ghost use Rattle.hlasm_statements.specs.Faults.{faults_met};
 
     ghost Value = { List ColumnFault };
 
-    ghost view = { λ s. s.faults.items };
+    ghost view = { λ s. faults_met s.has_margin_text s.has_surplus s.is_missing };
 }
 
 impl Faults {
     /// The faults that were met.
-    pub fn of(
-        alloc: Global,
-        has_margin_text: bool,
-        has_surplus: bool,
-        is_missing: bool,
-    ) -> Result<Faults, OutOfMemory>
-        ensures { IfOk result (λ s. s ≡ where_met has_margin_text ColumnFault.MarginText
-            ++ where_met has_surplus ColumnFault.SurplusLines ++ where_met is_missing ColumnFault.MissingLine) }
+    pub fn of(has_margin_text: bool, has_surplus: bool, is_missing: bool) -> Faults
+        ensures { result ≡ faults_met has_margin_text has_surplus is_missing }
     {
-        let mut faults = Vec::new(alloc);
-        if has_margin_text {
-            faults.push(ColumnFault::MarginText)?;
+        Faults {
+            has_margin_text,
+            has_surplus,
+            is_missing,
         }
-        if has_surplus {
-            faults.push(ColumnFault::SurplusLines)?;
-        }
-        if is_missing {
-            faults.push(ColumnFault::MissingLine)?;
-        }
-        Ok(Faults { faults })
     }
 
     /// The faults in order.
     pub fn as_slice(&self) -> &[ColumnFault]
         ensures { result.now ≡ self.now }
     {
-        self.faults.as_slice()
+        match (self.has_margin_text, self.has_surplus, self.is_missing) {
+            (false, false, false) => &[],
+            (false, false, true) => &[ColumnFault::MissingLine],
+            (false, true, false) => &[ColumnFault::SurplusLines],
+            (false, true, true) => &[ColumnFault::SurplusLines, ColumnFault::MissingLine],
+            (true, false, false) => &[ColumnFault::MarginText],
+            (true, false, true) => &[ColumnFault::MarginText, ColumnFault::MissingLine],
+            (true, true, false) => &[ColumnFault::MarginText, ColumnFault::SurplusLines],
+            (true, true, true) => &[
+                ColumnFault::MarginText,
+                ColumnFault::SurplusLines,
+                ColumnFault::MissingLine,
+            ],
+        }
     }
 }

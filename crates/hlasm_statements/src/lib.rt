@@ -20,7 +20,6 @@ mod statement;
 
 pub use column::split_columns;
 pub use fault::{ColumnFault, Faults};
-pub use places::Places;
 pub use quotes::ends_quoted;
 pub use statement::{Field, Shape, Statement, Statements, read_statements};
 

@@ -1,5 +1,5 @@
 //! Where the characters of a field stand.
-ghost use Rattle.std.specs.Prelude.{◌≡◌, ◌<◌, [], ◌∷◌, ◌++◌, length, slice_index_or, OnOk};
+ghost use Rattle.std.specs.Prelude.{◌≡◌, ◌<◌, [], ◌++◌, length, slice_index_or, OnOk};
 
 use crate::run::Run;
 use hl_base::OutOfMemory;
@@ -24,6 +24,8 @@ impl Model for Places {
 }
 
 impl Places {
+    ghost use Rattle.hlasm_statements.specs.Places.{side_by_side};
+
     /// No place.
     pub fn new(alloc: Global) -> Places
         ensures { result ≡ [] }
@@ -34,23 +36,19 @@ impl Places {
         }
     }
 
-    /// Adds a place behind those that are there. What an `Err` leaves is of no use.
-    #[inline(always)]
-    pub fn push(&mut self, line: u32, column: u32) -> Result<(), OutOfMemory>
-        ensures { OnOk result (self.new ≡ self.old ++ (line, column) ∷ []) }
+    /// Adds places side by side in a line, from a column on, behind those that are there. What an `Err` leaves is of no use.
+    pub fn push(&mut self, line: u32, column: u32, count: u32) -> Result<(), OutOfMemory>
+        ensures { OnOk result (self.new ≡ self.old ++ side_by_side line column count) }
     {
-        let next = column.checked_add(1).ok_or(OutOfMemory)?;
-        if self.last.line == line && self.last.to == column {
-            self.last.to = next;
-            return Ok(());
-        }
-        let last = Run {
+        let run = Run {
             line,
             from: column,
-            to: next,
+            to: column.checked_add(count).ok_or(OutOfMemory)?,
         };
-        let full = mem::replace(&mut self.last, last);
-        self.full.push(full)?;
+        let last = mem::replace(&mut self.last, run);
+        if last.from < last.to {
+            self.full.push(last)?;
+        }
         Ok(())
     }
 

@@ -1,10 +1,16 @@
-//! The fields of a statement, read character by character from its source.
-ghost use Rattle.std.specs.Prelude.{◌≡◌, ◌∷◌, ◌++◌, ◌&&◌, ◌==◌, ℕ, Bool, List, [], length, slice_index, OnOk, OnErr};
+//! The fields of a statement, read in words from its source.
+ghost use Rattle.std.specs.Prelude.{◌≡◌, ◌<◌, ◌≤◌, ◌++◌, ◌&&◌, ◌==◌, ℕ, Bool, false, List, [], IfOk, IfSome, IsTrue, length, take, OnOk};
+ghost use Rattle.std.specs.List.{prefix_len};
 ghost use Rattle.std.specs.Str.{chars};
 ghost use Rattle.hl_base.specs.Quoting.{IsBehind};
+ghost use Rattle.hlasm_statements.specs.Columns as columns;
 ghost use Rattle.hlasm_statements.specs.Fields as fields;
+ghost use Rattle.hlasm_statements.specs.Places.{side_by_side};
+ghost use Rattle.hlasm_statements.specs.Reading as reading;
+ghost use Rattle.hlasm_statements.specs.Reading.{EndsSimply};
 
-use crate::column::is_blank;
+use crate::build::count_on;
+use crate::column::{blanks_length, is_blank, simple_length, split_columns, word_length};
 use crate::places::Places;
 use hl_base::{Nesting, OutOfMemory, Text};
 use std::alloc::Global;
@@ -39,13 +45,43 @@ pub struct Reader {
     pub operand_places: Places,
 }
 
-/// Adds a character behind a text. An `Err` changes nothing.
-#[inline(always)]
-fn push(text: &mut Text, c: char) -> Result<(), OutOfMemory>
-    ensures ok { OnOk result (text.new ≡ text.old ++ c ∷ []) }
-    ensures err { OnErr result (text.new ≡ text.old) }
+/// The characters up to a blank that ends the operand field, and what they leave.
+#[derive(Clone, Copy)]
+struct Scan {
+    count: usize,
+    /// Whether there is such a blank.
+    is_ended: bool,
+    nesting: Nesting,
+    ends_in_comma: bool,
+}
+
+/// Whether a blank stands behind so many bytes, of which the last is no comma.
+fn ends_simply(bytes: &[u8], count: usize) -> bool
+    ensures { IsTrue result → EndsSimply bytes.now count }
 {
-    text.push_str(c.encode_utf8(&mut [0; 4]))
+    if count == 0 || count >= bytes.len() {
+        return false;
+    }
+    (bytes[count] == b' ' || bytes[count] == b'\t') && bytes[count - 1] != b','
+}
+
+/// Adds so many characters, which stand side by side in a line, behind a field. What an `Err` leaves is of no use.
+fn add(
+    field: &mut Text,
+    places: &mut Places,
+    part: &str,
+    count: usize,
+    line: u32,
+    column: u32,
+) -> Result<(), OutOfMemory>
+    ensures text { OnOk result (field.new ≡ field.old ++ take count (chars part.now)) }
+    ensures places { OnOk result (places.new ≡ places.old ++ side_by_side line column count) }
+{
+    let (taken, _) = split_columns(part, count);
+    field.push_str(taken)?;
+    let count = count_on(0, count)?;
+    places.push(line, column, count)?;
+    Ok(())
 }
 
 /// Whether blanks within parentheses belong to the operands of this operation.
@@ -60,9 +96,31 @@ fn keeps_groups(operation: &Text) -> bool
         || name.eq_ignore_ascii_case("SETC")
 }
 
+/// The stage that blanks leave.
+fn behind_blanks(stage: Stage) -> Stage
+    ensures { result ≡ reading.stage_behind_blanks stage }
+{
+    match stage {
+        Stage::Label => Stage::Gap,
+        Stage::Operation => Stage::OperandGap,
+        other => other,
+    }
+}
+
+/// Whether a character of this kind stands before the operands.
+fn precedes(stage: Stage, is_blank: bool) -> bool
+    ensures { result ≡ reading.precedes stage is_blank }
+{
+    match stage {
+        Stage::Label | Stage::Gap | Stage::Operation => true,
+        Stage::OperandGap => is_blank,
+        Stage::Operands | Stage::Remarks(_) | Stage::Done => false,
+    }
+}
+
 impl Reader {
-    ghost use Rattle.hlasm_statements.specs.Columns.{Placed, placed};
-    ghost use Rattle.hlasm_statements.specs.Reading.{IsRead, is_done, stage_behind, stage_in_operands};
+    ghost use Rattle.hlasm_statements.specs.Columns.{placed};
+    ghost use Rattle.hlasm_statements.specs.Reading.{IsRead, ReadsOn, Scans, IsSimpleScan, is_before_operands, is_past, stage_scanned};
 
     /// Nothing read so far.
     pub fn new(alloc: Global) -> Reader
@@ -88,17 +146,6 @@ impl Reader {
         self.label.is_empty() && self.op.is_empty()
     }
 
-    /// Whether the rest of the source is of no use.
-    #[inline(always)]
-    fn is_done(&self) -> bool
-        ensures { result ≡ is_done self.now.stage }
-    {
-        match self.stage {
-            Stage::Done => true,
-            _ => false,
-        }
-    }
-
     /// Reads the next characters, which stand side by side in a line from a column on. What an `Err` leaves is of no use.
     pub fn read_part(
         &mut self,
@@ -107,85 +154,208 @@ impl Reader {
         line: u32,
         column: u32,
     ) -> Result<(), OutOfMemory>
-        ensures { OnOk result ((source : List Placed) → IsRead self.old alternate source
-            → IsRead self.new alternate (source ++ placed line column (chars part.now))) }
+        ensures { OnOk result (ReadsOn self.old self.new alternate (placed line column (chars part.now))) }
     {
+        let mut rest = part;
         let mut at = column;
-        for c in part.chars() {
-            if self.is_done() {
-                return Ok(());
+        while self.is_before_operands(rest) {
+            let count = self.read_run(rest, line, at)?;
+            let (_, behind) = split_columns(rest, count);
+            rest = behind;
+            at = count_on(at, count)?;
+        }
+        self.read_operands(alternate, rest, line, at)
+    }
+
+    /// Whether a text begins before the operands.
+    fn is_before_operands(&self, text: &str) -> bool
+        ensures { result ≡ is_before_operands self.now.stage (chars text.now) }
+    {
+        match text.chars().next() {
+            Some(c) => precedes(self.stage, is_blank(c)),
+            None => false,
+        }
+    }
+
+    /// Reads the blanks at the front of a text, or else what stands before its first blank: how many characters that is.
+    fn read_run(&mut self, text: &str, line: u32, column: u32) -> Result<usize, OutOfMemory>
+        requires { IsTrue (is_before_operands self.old.stage (chars text.now)) }
+        ensures some { IfOk result (λ count. 0 < count) }
+        ensures fits { IfOk result (λ count. count ≤ length (chars text.now)) }
+        ensures read { IfOk result (λ count. (alternate : Bool)
+            → ReadsOn self.old self.new alternate (placed line column (take count (chars text.now)))) }
+    {
+        let blanks = blanks_length(text);
+        if blanks > 0 {
+            self.stage = behind_blanks(self.stage);
+            return Ok(blanks);
+        }
+        let count = word_length(text);
+        self.read_word(text, count, line, column)?;
+        Ok(count)
+    }
+
+    /// Reads what stands before the first blank of a text, in the name entry or the operation.
+    fn read_word(
+        &mut self,
+        text: &str,
+        count: usize,
+        line: u32,
+        column: u32,
+    ) -> Result<(), OutOfMemory>
+        requires count { count ≡ prefix_len columns.is_ink (chars text.now) }
+        requires some { 0 < count }
+        requires before { IsTrue (reading.precedes self.old.stage false) }
+        ensures { OnOk result ((alternate : Bool)
+            → ReadsOn self.old self.new alternate (placed line column (take count (chars text.now)))) }
+    {
+        match self.stage {
+            Stage::Label => add(
+                &mut self.label,
+                &mut self.label_places,
+                text,
+                count,
+                line,
+                column,
+            )?,
+            _ => {
+                self.stage = Stage::Operation;
+                add(&mut self.op, &mut self.op_places, text, count, line, column)?
             }
-            self.read(alternate, c, line, at)?;
-            at = at.checked_add(1).ok_or(OutOfMemory)?;
         }
         Ok(())
     }
 
-    /// Reads the next character.
-    #[inline(always)]
-    fn read(&mut self, alternate: bool, c: char, line: u32, column: u32) -> Result<(), OutOfMemory>
-        ensures { OnOk result ((source : List Placed) → IsRead self.old alternate source
-            → IsRead self.new alternate (source ++ record { char = c; line = line; column = column } ∷ [])) }
+    /// Reads the next characters, of which none stands before the operands.
+    fn read_operands(
+        &mut self,
+        alternate: bool,
+        part: &str,
+        line: u32,
+        column: u32,
+    ) -> Result<(), OutOfMemory>
+        requires { is_before_operands self.old.stage (chars part.now) ≡ false }
+        ensures { OnOk result (ReadsOn self.old self.new alternate (placed line column (chars part.now))) }
     {
-        self.stage = self.stage_behind(alternate, c, line);
+        if part.is_empty() {
+            return Ok(());
+        }
+        if self.is_past(line) {
+            return Ok(());
+        }
+        let scan = self.scan(part)?;
+        self.stage = self.stage_scanned(alternate, &scan, line);
+        self.nesting = scan.nesting;
+        self.ends_in_comma = scan.ends_in_comma;
+        add(
+            &mut self.operands,
+            &mut self.operand_places,
+            part,
+            scan.count,
+            line,
+            column,
+        )?;
+        Ok(())
+    }
+
+    /// Whether nothing more of this line is read.
+    fn is_past(&self, line: u32) -> bool
+        ensures { result ≡ is_past self.now.stage line }
+    {
         match self.stage {
-            Stage::Label => {
-                push(&mut self.label, c)?;
-                self.label_places.push(line, column)
-            }
-            Stage::Operation => {
-                push(&mut self.op, c)?;
-                self.op_places.push(line, column)
-            }
-            Stage::Operands => {
-                self.nesting.read(c)?;
-                self.ends_in_comma = c == ',';
-                push(&mut self.operands, c)?;
-                self.operand_places.push(line, column)
-            }
-            _ => Ok(()),
+            Stage::Done => true,
+            Stage::Remarks(remarks) => line == remarks,
+            _ => false,
         }
     }
 
-    /// The stage that a character leaves.
-    #[inline(always)]
-    fn stage_behind(&self, alternate: bool, c: char, line: u32) -> Stage
-        ensures { (before : List ℕ) → IsBehind self.now.nesting before → self.now.ends_in_comma ≡ (slice_index before 0 == 44)
-            → result ≡ stage_behind alternate (fields.keeps_groups self.now.op) before self.now.stage c line }
+    /// How far the operand field goes in a text, where it is not past.
+    fn scan(&self, text: &str) -> Result<Scan, OutOfMemory>
+        ensures { IfOk result (λ scan. Scans self.now (chars text.now) scan) }
     {
-        match self.stage {
-            Stage::Label if is_blank(c) => Stage::Gap,
-            Stage::Label => Stage::Label,
-            Stage::Gap if is_blank(c) => Stage::Gap,
-            Stage::Gap => Stage::Operation,
-            Stage::Operation if is_blank(c) => Stage::OperandGap,
-            Stage::Operation => Stage::Operation,
-            Stage::OperandGap if is_blank(c) => Stage::OperandGap,
-            Stage::OperandGap => Stage::Operands,
-            Stage::Remarks(remarks) if line == remarks => Stage::Remarks(remarks),
-            Stage::Operands | Stage::Remarks(_) => self.stage_in_operands(alternate, c, line),
-            Stage::Done => Stage::Done,
+        match self.simple_scan(text) {
+            Some(count) => Ok(Scan {
+                count,
+                is_ended: true,
+                nesting: self.nesting,
+                ends_in_comma: false,
+            }),
+            None => self.scan_characters(text),
         }
     }
 
-    #[inline(always)]
-    fn stage_in_operands(&self, alternate: bool, c: char, line: u32) -> Stage
-        ensures { (before : List ℕ) → IsBehind self.now.nesting before → self.now.ends_in_comma ≡ (slice_index before 0 == 44)
-            → result ≡ stage_in_operands alternate (fields.keeps_groups self.now.op) before c line }
+    /// How far it goes where that is easy to see: a blank ends its first part, in which nothing is quoted, and no comma
+    /// is last.
+    fn simple_scan(&self, text: &str) -> Option<usize>
+        ensures { IfSome result (λ count. IsSimpleScan self.now text.now count) }
     {
-        if !(is_blank(c) && self.ends_field(c)) {
+        if !self.operands.is_empty() || keeps_groups(&self.op) {
+            return None;
+        }
+        let count = simple_length(text.as_bytes());
+        if !ends_simply(text.as_bytes(), count) {
+            return None;
+        }
+        Some(count)
+    }
+
+    /// How far it goes, character by character.
+    fn scan_characters(&self, text: &str) -> Result<Scan, OutOfMemory>
+        ensures { IfOk result (λ scan. Scans self.now (chars text.now) scan) }
+    {
+        let mut nesting = self.nesting;
+        let mut ends_in_comma = self.ends_in_comma;
+        let mut count = 0usize;
+        for c in text.chars() {
+            if self.is_end(nesting, c) {
+                return Ok(Scan {
+                    count,
+                    is_ended: true,
+                    nesting,
+                    ends_in_comma,
+                });
+            }
+            nesting.read(c)?;
+            ends_in_comma = c == ',';
+            count = count.checked_add(1).ok_or(OutOfMemory)?;
+        }
+        Ok(Scan {
+            count,
+            is_ended: false,
+            nesting,
+            ends_in_comma,
+        })
+    }
+
+    /// The stage behind characters of the operand field, and behind the blank that ends it.
+    fn stage_scanned(&self, alternate: bool, scan: &Scan, line: u32) -> Stage
+        ensures { result ≡ stage_scanned alternate self.now.stage scan.now line }
+    {
+        if scan.is_ended {
+            if alternate && scan.ends_in_comma {
+                Stage::Remarks(line)
+            } else {
+                Stage::Done
+            }
+        } else if scan.count > 0 {
             Stage::Operands
-        } else if alternate && self.ends_in_comma {
-            Stage::Remarks(line)
         } else {
-            Stage::Done
+            self.stage
         }
+    }
+
+    /// Whether a character is a blank that ends the operand field.
+    fn is_end(&self, nesting: Nesting, c: char) -> bool
+        ensures { (before : List ℕ) → IsBehind nesting before
+            → result ≡ (columns.is_blank c && fields.ends_field (fields.keeps_groups self.now.op) c before) }
+    {
+        is_blank(c) && self.ends_field(nesting, c)
     }
 
     /// Whether a blank ends the operand field.
-    fn ends_field(&self, blank: char) -> bool
-        ensures { (before : List ℕ) → IsBehind self.now.nesting before → result ≡ fields.ends_field (fields.keeps_groups self.now.op) blank before }
+    fn ends_field(&self, nesting: Nesting, blank: char) -> bool
+        ensures { (before : List ℕ) → IsBehind nesting before → result ≡ fields.ends_field (fields.keeps_groups self.now.op) blank before }
     {
-        !(self.nesting.is_quoted(blank) || self.nesting.depth() > 0 && keeps_groups(&self.op))
+        !(nesting.is_quoted(blank) || nesting.depth() > 0 && keeps_groups(&self.op))
     }
 }

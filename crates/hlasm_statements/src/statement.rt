@@ -3,15 +3,19 @@ ghost use Rattle.std.specs.Prelude.{◌≡◌, List, [], ◌∷◌, ◌++◌, If
 ghost use Rattle.std.specs.Str.{chars};
 ghost use Rattle.hlasm_statements.specs.Statements.{statements_of};
 
+use crate::Faults;
 use crate::build::{count_on, statement_of_lines};
 use crate::column::{begins_marked, split_columns};
-use crate::{Faults, Places};
+use crate::places::Places;
 use hl_base::{OutOfMemory, Text, lines};
 use std::alloc::Global;
 use std::marker::Model;
 
 /// How many columns of a line have text; the next one has the mark.
 const TEXT_COLUMNS: usize = 71;
+
+/// How many bytes a line of a usual text has, with its end: no statement is moved while the statements of one are read.
+const LINE_WIDTH: usize = 81;
 
 /// What kind of statement some lines are.
 #[derive(Clone, Copy, Debug, PartialEq, Eq)]
@@ -44,9 +48,10 @@ pub struct Statement {
     pub op: Text,
     pub operands: Text,
     pub faults: Faults,
-    pub label_places: Places,
-    pub op_places: Places,
-    pub operand_places: Places,
+    /// Where the characters of each field stand; `place` answers from them.
+    pub(crate) label_places: Places,
+    pub(crate) op_places: Places,
+    pub(crate) operand_places: Places,
 }
 
 impl Statement {
@@ -91,6 +96,15 @@ impl Statements {
         }
     }
 
+    /// No statement, with room for so many.
+    fn with_room(alloc: Global, count: usize) -> Result<Statements, OutOfMemory>
+        ensures { IfOk result (λ s. s ≡ []) }
+    {
+        Ok(Statements {
+            statements: Vec::with_capacity(alloc, count)?,
+        })
+    }
+
     /// Adds a statement behind those that are there. An `Err` changes nothing.
     pub fn push(&mut self, statement: Statement) -> Result<(), OutOfMemory>
         ensures ok { OnOk result (self.new ≡ self.old ++ statement ∷ []) }
@@ -112,7 +126,7 @@ impl Statements {
 pub fn read_statements(alloc: Global, text: &str) -> Result<Statements, OutOfMemory>
     ensures { IfOk result (λ s. s ≡ statements_of (chars text.now)) }
 {
-    let mut statements = Statements::new(alloc);
+    let mut statements = Statements::with_room(alloc, text.len() / LINE_WIDTH + 1)?;
     let mut number = 0;
     let mut bodies = Vec::new(alloc);
     for line in lines(text) {

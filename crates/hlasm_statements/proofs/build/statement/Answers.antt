@@ -23,9 +23,9 @@ returns-then-not-is_plain c =
     let rest = bodies_of c.args.rest.now in
     let other = plain-not c.opening-shape.result (sym c.is_plain.ensures ∙ c.if-not-is_plain.true) in
     c.without_fields.ensures
-    ∙ empty-made c.args.number c.in_ok-last.last c.args.is_marked first rest c.opening-shape.result c.in_ok-faults.faults (count c.args.rest.now c.args.number c.in_ok-last.last c.in_ok-last.ensures)
+    ∙ empty-made c.args.number c.in_ok-last.last c.args.is_marked first rest c.opening-shape.result c.of-faults.result (count c.args.rest.now c.args.number c.in_ok-last.last c.in_ok-last.ensures)
     (shape-comment first (text_of (source_of lines_read c.args.number (first ∷ rest))) c.opening-shape.result c.opening-shape.ensures other) other
-    (faults-first c.args.is_marked first rest (bodies_of c.lines_read-read.result.now) c.have_margin_text.result _ c.in_ok-faults.faults c.lines_read-read.ensures c.have_margin_text.ensures (surplus c.args.rest.now) c.in_ok-faults.ensures)
+    (faults-first c.args.is_marked first rest (bodies_of c.lines_read-read.result.now) c.have_margin_text.result _ c.of-faults.result c.lines_read-read.ensures c.have_margin_text.ensures (surplus c.args.rest.now) c.of-faults.ensures)
 
 pub returns-then-is_blank : goal.returns-then-is_blank
 returns-then-is_blank c =
@@ -36,9 +36,9 @@ returns-then-is_blank c =
     let read : IsRead c.in_ok-standard.standard false source = read-first c.in_ok-standard.standard false c.args.number first (bodies_of c.lines_read-read.result.now) rest c.lines_read-read.ensures c.in_ok-standard.ensures in
     let blank : list_all is_blank (text_of source) ≡ true = sym (blank-whole c.in_ok-standard.standard false source read) ∙ sym c.is_blank.ensures ∙ c.if-is_blank.true in
     c.without_fields-then-is_blank.ensures
-    ∙ empty-made c.args.number c.in_ok-last.last c.args.is_marked first rest Blank c.in_ok-faults.faults (count c.args.rest.now c.args.number c.in_ok-last.last c.in_ok-last.ensures)
+    ∙ empty-made c.args.number c.in_ok-last.last c.args.is_marked first rest Blank c.of-faults.result (count c.args.rest.now c.args.number c.in_ok-last.last c.in_ok-last.ensures)
     (shape-plain first (text_of source) c.opening-shape.result true c.opening-shape.ensures plain blank) blank-not
-    (faults-first c.args.is_marked first rest (bodies_of c.lines_read-read.result.now) c.have_margin_text.result _ c.in_ok-faults.faults c.lines_read-read.ensures c.have_margin_text.ensures (surplus c.args.rest.now) c.in_ok-faults.ensures)
+    (faults-first c.args.is_marked first rest (bodies_of c.lines_read-read.result.now) c.have_margin_text.result _ c.of-faults.result c.lines_read-read.ensures c.have_margin_text.ensures (surplus c.args.rest.now) c.of-faults.ensures)
 
 pub returns-then-not-goes_on_with : goal.returns-then-not-goes_on_with
 returns-then-not-goes_on_with c =
@@ -50,9 +50,9 @@ returns-then-not-goes_on_with c =
     let some : list_all is_blank (text_of source) ≡ false = sym (blank-whole c.in_ok-standard.standard false source read) ∙ sym c.is_blank.ensures ∙ c.if-is_blank.false in
     let shape : shape_of first (text_of source) ≡ Plain = shape-plain first (text_of source) c.opening-shape.result false c.opening-shape.ensures plain some in
     c.with_fields.ensures
-    ∙ filled-made c.args.number c.in_ok-last.last c.args.is_marked false first rest c.in_ok-standard.standard c.in_ok-faults.faults (count c.args.rest.now c.args.number c.in_ok-last.last c.in_ok-last.ensures) shape
+    ∙ filled-made c.args.number c.in_ok-last.last c.args.is_marked false first rest c.in_ok-standard.standard c.of-faults.result (count c.args.rest.now c.args.number c.in_ok-last.last c.in_ok-last.ensures) shape
     (alternate-is c.args.number first rest c.in_ok-standard.standard read shape ∙ sym c.goes_on_with.ensures ∙ c.if-not-goes_on_with.true) read
-    (faults-first c.args.is_marked first rest (bodies_of c.lines_read-read.result.now) c.have_margin_text.result _ c.in_ok-faults.faults c.lines_read-read.ensures c.have_margin_text.ensures (surplus c.args.rest.now) c.in_ok-faults.ensures)
+    (faults-first c.args.is_marked first rest (bodies_of c.lines_read-read.result.now) c.have_margin_text.result _ c.of-faults.result c.lines_read-read.ensures c.have_margin_text.ensures (surplus c.args.rest.now) c.of-faults.ensures)
 
 pub returns : goal.returns
 returns c =
@@ -65,8 +65,8 @@ returns c =
     let shape : shape_of first (text_of source) ≡ Plain = shape-plain first (text_of source) c.opening-shape.result false c.opening-shape.ensures plain some in
     let all = source_of (length (first ∷ rest)) c.args.number (first ∷ rest) in
     c.with_fields-2.ensures
-    ∙ filled-made c.args.number c.in_ok-last.last c.args.is_marked true first rest c.in_ok-whole.whole c.in_ok-faults-2.faults (count c.args.rest.now c.args.number c.in_ok-last.last c.in_ok-last.ensures)
+    ∙ filled-made c.args.number c.in_ok-last.last c.args.is_marked true first rest c.in_ok-whole.whole c.of-faults-2.result (count c.args.rest.now c.args.number c.in_ok-last.last c.in_ok-last.ensures)
     (shape-plain first (text_of all) c.opening-shape.result false c.opening-shape.ensures plain (all_not_blank c.args.number first rest some))
     (alternate-is c.args.number first rest c.in_ok-standard.standard read shape ∙ sym c.goes_on_with.ensures ∙ c.if-not-goes_on_with.false)
     (read-all c.in_ok-whole.whole true c.args.number first rest c.in_ok-whole.ensures)
-    (faults-all c.args.is_marked first rest c.have_margin_text-2.result c.in_ok-faults-2.faults c.have_margin_text-2.ensures c.in_ok-faults-2.ensures)
+    (faults-all c.args.is_marked first rest c.have_margin_text-2.result c.of-faults-2.result c.have_margin_text-2.ensures c.of-faults-2.ensures)

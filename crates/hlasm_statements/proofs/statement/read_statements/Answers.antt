@@ -8,7 +8,7 @@ use Rattle.hlasm_statements.proofs.statement.read_statements.Goals as goal
 
 pub loop-line-init : goal.loop-line-init
 loop-line-init c =
-    reads-init c.new-statements.result c.new-bodies.result.items c.into_iter-line-iterator.result (chars c.args.text.now) c.new-statements.ensures c.new-bodies.ensures.items
+    reads-init c.in_ok-statements.statements c.new-bodies.result.items c.into_iter-line-iterator.result (chars c.args.text.now) c.in_ok-statements.ensures c.new-bodies.ensures.items
     (c.into_iter-line-iterator.ensures.into_iter_gives ∙ c.lines-line-items.ensures)
 
 pub loop-line-preserved : goal.loop-line-preserved

@@ -1,8 +1,13 @@
-use Rattle.std.proofs.Common.{◌≡◌, ◌+◌, length}
-use Rattle.hlasm_statements.specs.Columns.{placed}
-use Rattle.hlasm_statements.proofs.ReadingLaws.{ReadsOn}
+use denote.Shadow.{shadow}
+use denote.Text.{Utf8}
+use Rattle.std.proofs.Common.{length}
+use Rattle.std.specs.Prelude.{chars}
+use Rattle.hlasm_statements.proofs.ReadingLaws.{HasReadOn}
 use Rattle.hlasm_statements.proofs.reader.Reader.read_part.Given as goal
 
--- the characters so far are read on, and the next one stands behind them
-abbrev pub invariant-loop-c : goal.invariant-loop-c
-invariant-loop-c l = ReadsOn l.initial.self l.self l.alternate (placed l.line l.column l.yielded) × (l.at ≡ l.column + length l.yielded)
+-- what stands before the rest is read on
+abbrev pub invariant-loop-self : goal.invariant-loop-self
+invariant-loop-self l = HasReadOn l.initial.self l.self l.line l.column l.at (chars l.part) (chars l.rest) × shadow (Utf8 l.rest)
+
+abbrev pub decreases-loop-self : goal.decreases-loop-self
+decreases-loop-self l = length (chars l.rest)
