@@ -11,16 +11,21 @@ cat > "$work/crates/expressions_bench/src/main.rt" <<'PROGRAM'
 //! Times the reading of the lines of its arguments as expressions, and a pass over their characters.
 #![tactic(auto)]
 
-use operand_grammar::parse_arith;
+use operand_grammar::{parse_arith, parse_char};
 use std::time::Instant;
 use std::{env, fs, io};
 
-/// The nanoseconds of reading each line, and how many are expressions.
-fn expressions(rt: &HostRuntime, text: &str) -> io::Result<(u128, usize)> {
+/// The nanoseconds of reading each line, as a character expression or an arithmetic one, and how many are expressions.
+fn expressions(rt: &HostRuntime, text: &str, is_char: bool) -> io::Result<(u128, usize)> {
     let start = Instant::now(rt)?;
     let mut count = 0usize;
     for line in text.lines() {
-        if parse_arith(rt.alloc(), line).is_ok() {
+        let is_read = if is_char {
+            parse_char(rt.alloc(), line).is_ok()
+        } else {
+            parse_arith(rt.alloc(), line).is_ok()
+        };
+        if is_read {
             count = count.saturating_add(1);
         }
     }
@@ -45,8 +50,10 @@ fn main(rt: HostRuntime) -> io::Result<()> {
     for path in env::args(&rt)?.skip(1) {
         let text = fs::read_to_string(&rt, path.as_str())?;
         for _ in 0..21 {
-            let (time, count) = expressions(&rt, text.as_str())?;
-            println!(&rt; "expressions {} {count} {time}", text.len())?;
+            let is_char = text.as_str().starts_with('\'');
+            let kind = if is_char { "texts" } else { "expressions" };
+            let (time, count) = expressions(&rt, text.as_str(), is_char)?;
+            println!(&rt; "{kind} {} {count} {time}", text.len())?;
             let (time, count) = plain(&rt, text.as_str())?;
             println!(&rt; "characters {} {count} {time}", text.len())?;
         }
@@ -56,24 +63,25 @@ fn main(rt: HostRuntime) -> io::Result<()> {
 PROGRAM
 python3 - "$work" <<'TEXTS'
 import sys
-lines = ["&COUNT+1", "(&A(1)-K'&NAME)*2", "X'1F'/3 + &LONGER_NAME(&I,2)", " 4 * ( N'&SYSLIST - 1 ) ", "+".join(["(&V*12)"] * 120)]
-def text(count):
-    return "".join(lines[n % 5] + "\n" for n in range(count))
-for name, count in (("once", 5500), ("twice", 11000)):
-    with open(f"{sys.argv[1]}/{name}.txt", "w") as out:
-        out.write(text(count))
+arithmetic = ["&COUNT+1", "(&A(1)-K'&NAME)*2", "X'1F'/3 + &LONGER_NAME(&I,2)", " 4 * ( N'&SYSLIST - 1 ) ", "+".join(["(&V*12)"] * 120)]
+texts = ["'&NAME'.'_1'", "(&N+1)'AB'.T'&X", "'ABC&X..(''&Y(1,&I)'')'(2,*)", "T'&SYSLIST(&I)", ".".join(["'some text &V. and more of it'"] * 30)]
+for name, lines, count in (("arithmetic", arithmetic, 5500), ("texts", texts, 5500)):
+    for times in (1, 2):
+        with open(f"{sys.argv[1]}/{name}{times}.txt", "w") as out:
+            out.write("".join(lines[n % 5] + "\n" for n in range(count * times)))
 TEXTS
 cd "$work/crates/expressions_bench"
-rt try -- "$work/once.txt" "$work/twice.txt" > "$work/times" 2> "$work/log" || { tail -20 "$work/times" "$work/log" >&2; exit 1; }
+rt try -- "$work/arithmetic1.txt" "$work/arithmetic2.txt" "$work/texts1.txt" "$work/texts2.txt" > "$work/times" 2> "$work/log" || { tail -n 20 "$work/times" "$work/log" >&2; exit 1; }
 python3 - "$work/times" <<'RESULT'
 import sys
 best = {}
 for words in map(str.split, open(sys.argv[1])):
-    if len(words) == 4 and words[0] in ("expressions", "characters"):
+    if len(words) == 4 and words[0] in ("expressions", "texts", "characters"):
         key = (words[0], int(words[1]))
         best[key] = min(best.get(key, 1 << 80), int(words[3]))
-once, twice = sorted({size for _, size in best})
-for kind in ("expressions", "characters"):
-    print(f"{kind}: {once} bytes in {best[kind, once] / 1e6:.2f} ms, {once * 1000 / best[kind, once]:.0f} MB/s")
-print(f"twice the text: {best['expressions', twice] / best['expressions', once]:.2f} times the time (at most 2.2)")
+for kind in ("expressions", "texts"):
+    once, twice = sorted(size for k, size in best if k == kind)
+    for what, name in ((kind, kind), ("characters", f"the characters of these {kind}")):
+        print(f"{name}: {once} bytes in {best[what, once] / 1e6:.2f} ms, {once * 1000 / best[what, once]:.0f} MB/s")
+    print(f"twice the text: {best[kind, twice] / best[kind, once]:.2f} times the time (at most 2.2)")
 RESULT

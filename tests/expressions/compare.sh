@@ -1,35 +1,44 @@
 #!/bin/sh
-# Compares what the built parser answers with the recognizer of grammar.py, on random texts: compare.sh [COUNT [SEED]].
+# Compares what the built parser answers with the recognizer of grammar.py, on random texts: compare.sh [COUNT [SEED [GRAMMAR]]],
+# where a grammar is arith, ordinary or char, and all where none is named.
 # The program stands in a copy of this repository, built by rt there; nothing here is proved.
 set -eu
 top=$(cd "$(dirname "$0")/../.." && pwd)
 count=${1:-100000}
 seed=${2:-1}
+grammars=${3:-arith ordinary char}
 work=$(mktemp -d)
 trap 'rm -rf "$work"' EXIT
 cp -r "$top/crates" "$top/crates.txt" "$top/HANDLES" "$work/"
 mkdir -p "$work/crates/expressions_compare/src"
 echo 'expressions_compare: hl_base operand_grammar' >> "$work/crates.txt"
 cat > "$work/crates/expressions_compare/src/main.rt" <<'PROGRAM'
-//! Answers for each line of a file, which begins with `a` or `o` for its grammar: `read`, or how far some expression
+//! Answers for each line of a file, which begins with `a`, `o` or `c` for its grammar: `read`, or how far some expression
 //! begins so.
 #![tactic(auto)]
 
-use operand_grammar::{SyntaxFault, parse_arith, parse_ordinary};
+use operand_grammar::{Expr, SyntaxFault, parse_arith, parse_char, parse_ordinary};
+use std::alloc::Global;
 use std::{env, fs, io};
+
+fn read(alloc: Global, line: &str) -> Result<Expr, SyntaxFault> {
+    if let Some(text) = line.strip_prefix('a') {
+        return parse_arith(alloc, text);
+    }
+    if let Some(text) = line.strip_prefix('o') {
+        return parse_ordinary(alloc, text);
+    }
+    match line.strip_prefix('c') {
+        Some(text) => parse_char(alloc, text),
+        None => Err(SyntaxFault::OutOfMemory),
+    }
+}
 
 fn main(rt: HostRuntime) -> io::Result<()> {
     for path in env::args(&rt)?.skip(1) {
         let lines = fs::read_to_string(&rt, path.as_str())?;
         for line in lines.as_str().lines() {
-            let read = match line.strip_prefix('a') {
-                Some(text) => parse_arith(rt.alloc(), text),
-                None => match line.strip_prefix('o') {
-                    Some(text) => parse_ordinary(rt.alloc(), text),
-                    None => Err(SyntaxFault::OutOfMemory),
-                },
-            };
-            match read {
+            match read(rt.alloc(), line) {
                 Ok(_) => println!(&rt; "read")?,
                 Err(SyntaxFault::At(count)) => println!(&rt; "{count}")?,
                 Err(SyntaxFault::OutOfMemory) => println!(&rt; "out of memory")?,
@@ -44,11 +53,11 @@ python3 -c '
 import sys
 from texts import texts
 with open(sys.argv[3], "w") as out:
-    for grammar, text in texts(int(sys.argv[1]), int(sys.argv[2])):
+    for grammar, text in texts(int(sys.argv[1]), int(sys.argv[2]), sys.argv[4].split()):
         out.write(grammar[0] + text + "\n")
-' "$count" "$seed" "$work/texts"
+' "$count" "$seed" "$work/texts" "$grammars"
 cd "$work/crates/expressions_compare"
-rt try -- "$work/texts" > "$work/answers" 2> "$work/log" || { tail -20 "$work/answers" "$work/log" >&2; exit 1; }
+rt try --seconds 600 -- "$work/texts" > "$work/answers" 2> "$work/log" || { tail -n 20 "$work/answers" "$work/log" >&2; exit 1; }
 cd "$top/tests/expressions"
 python3 -c '
 import sys
@@ -59,7 +68,7 @@ if len(answers) != len(texts):
     sys.exit(f"{len(texts)} texts, but {len(answers)} answers")
 read = wrong = 0
 for text, answer in zip(texts, answers):
-    place = GRAMMARS["arith" if text[0] == "a" else "ordinary"].read(text[1:])
+    place = {name[0]: g for name, g in GRAMMARS.items()}[text[0]].read(text[1:])
     read += place is None
     if answer != ("read" if place is None else str(place)):
         wrong += 1

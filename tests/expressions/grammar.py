@@ -99,6 +99,30 @@ def ordinary():
     return g
 
 
+def character():
+    """The arithmetic expressions in it have gaps; it has none of its own."""
+    g = arithmetic()
+    g.start = "character"
+    g.add("arithmetic", ("gap", "sum", "gap"))
+    g.add("character", ("part",), ("character", Chars("."), "part"))
+    g.add("part", ("text",), (Chars("("), "arithmetic", Chars(")"), "text"))
+    g.add("part", only("T'") + ["variable"], only("T'") + ["name"])
+    g.add("text", ("quoted",))
+    g.add("text", ("quoted", Chars("("), "arithmetic", Chars(","), "arithmetic", Chars(")")))
+    g.add("text", ("quoted", Chars("("), "arithmetic", Chars(","), Chars("*"), Chars(")")))
+    # what stands within apostrophes, by what stands before: nothing of note, the name of a symbol, or its subscripts
+    quote, ampersand = Chars("'"), Chars("&")
+    g.add("quoted", (quote, "free", quote), (quote, "named", quote), (quote, "closed", quote), (quote, "lone", quote))
+    g.add("lone", ("free", ampersand), ("named", ampersand), ("closed", ampersand))
+    g.add("free", (), ("lone", ampersand), ("lone", Chars("'&" + LETTERS, negated=True)), ("lone", quote, quote))
+    for before, taken in (("free", ""), ("named", ".(" + LETTERS + DIGITS), ("closed", ".")):
+        g.add("free", (before, Chars("'&" + taken, negated=True)), (before, quote, quote))
+    g.add("free", ("named", Chars(".")), ("closed", Chars(".")))
+    g.add("named", ("lone", "name"))
+    g.add("closed", ("lone", "name", Chars("("), "list", Chars(")")))
+    return g
+
+
 class Recognizer:
     def __init__(self, grammar):
         self.rules = [(name, body) for name, bodies in grammar.rules.items() for body in bodies]
@@ -154,4 +178,4 @@ class Recognizer:
         return None if whole else len(text)
 
 
-GRAMMARS = {"arith": Recognizer(arithmetic()), "ordinary": Recognizer(ordinary())}
+GRAMMARS = {"arith": Recognizer(arithmetic()), "ordinary": Recognizer(ordinary()), "char": Recognizer(character())}

@@ -44,6 +44,37 @@ def expression(r, grammar, depth):
     return text + gap_of(r, grammar)
 
 
+def quoted(r, depth):
+    text = "'"
+    for _ in range(r.choice([0, 1, 1, 2, 3])):
+        k = r.randrange(10)
+        if k < 4:
+            text += r.choice(["A", "b1", " ", "(", ")", ".", "é", "1", ",", "*"])
+        elif k < 6:
+            text += r.choice(["''", "&&", "&", "&&&"])
+        else:
+            text += "&" + name(r)
+            if depth > 0 and r.randrange(3) == 0:
+                text += "(" + ",".join(expression(r, "arith", depth - 1) for _ in range(r.choice([1, 1, 2]))) + ")"
+            text += r.choice(["", "", ".", ".."])
+    return text + "'"
+
+
+def part(r, depth):
+    if r.randrange(5) == 0:
+        text = r.choice(["T'", "t'"]) + r.choice(["&", "&", ""]) + name(r)
+        return text + ("(" + expression(r, "arith", 0) + ")" if r.randrange(4) == 0 else "")
+    text = "(" + expression(r, "arith", depth) + ")" if r.randrange(4) == 0 else ""
+    text += quoted(r, depth)
+    if r.randrange(4) == 0:
+        text += "(" + expression(r, "arith", depth) + "," + r.choice(["*", expression(r, "arith", 0), "*"]) + ")"
+    return text
+
+
+def character(r, depth):
+    return ".".join(part(r, depth) for _ in range(r.choice([1, 1, 2, 3])))
+
+
 def changed(r, text):
     for _ in range(r.choice([0, 1, 1, 2])):
         at = r.randrange(len(text) + 1)
@@ -58,8 +89,10 @@ def changed(r, text):
     return text
 
 
-def texts(count, seed):
+def texts(count, seed, grammars=("arith", "ordinary", "char")):
     r = random.Random(seed)
     for _ in range(count):
-        grammar = r.choice(["arith", "ordinary"])
-        yield grammar, changed(r, expression(r, grammar, r.choice([0, 1, 1, 2])))[:48]
+        grammar = r.choice(grammars)
+        depth = r.choice([0, 1, 1, 2])
+        text = character(r, depth) if grammar == "char" else expression(r, grammar, depth)
+        yield grammar, changed(r, text)[:48]

@@ -31,6 +31,10 @@ pub kind-ampersand : (c : ℕ) → kind_of c ≡ kind.Ampersand → c ≡ 38
 unfolding kind_of
 kind-ampersand c e = grind (arith, nat_tests)
 
+pub kind-open : (c : ℕ) → kind_of c ≡ kind.Open → c ≡ 40
+unfolding kind_of
+kind-open c e = grind (arith, nat_tests)
+
 pub upper-letter : (c u : ℕ) → to_ascii_uppercase c ≡ u → is_letter u ≡ true → is_letter c ≡ true
 upper-letter c u e l = grind (arith, nat_tests)
 

@@ -30,7 +30,7 @@ run-append g (p ∷ ps) qs state next e = run-append-of g ps qs next (step g sta
 reached-holds : (g : Grammar) (text : List ℕ) (state : State) → run g (Want []) (placed 0 text) ≡ Some state → Holds g state (placed 0 text)
 reached-holds g text state e = subst (λ (s : Option State). AllHold g s (placed 0 text)) e (runs g (placed 0 text) (Want []) [] (starts g))
 
-pub reaches-viable : (g : Grammar) (limit : ℕ) (text : List ℕ) (state : State) → Reaches g limit text state → IsViable g limit text
+pub reaches-viable : (g : Grammar) (limit : ℕ) (text : List ℕ) (state : State) → Reaches g limit text state → IsViable (Spells g) limit text
 reaches-viable g limit text state r =
     let c = completes g state (length text) (placed 0 text) (reached-holds g text state r.runs) in
     let small = r.small in let exact = c.exact in
@@ -48,7 +48,7 @@ reaches-viable g limit text state r =
 pub reaches-start : (g : Grammar) (limit : ℕ) → 1 ≤ limit → Reaches g limit [] (Want [])
 reaches-start g limit h = record { runs = refl; small = h }
 
-placed-one : (text : List ℕ) (c : ℕ) (rest : List ℕ) → placed 0 (text ++ c ∷ rest) ≡ placed 0 text ++ record { at = length text; code = c } ∷ placed (length text + 1) rest
+pub placed-one : (text : List ℕ) (c : ℕ) (rest : List ℕ) → placed 0 (text ++ c ∷ rest) ≡ placed 0 text ++ record { at = length text; code = c } ∷ placed (length text + 1) rest
 placed-one text c rest = placed-append 0 text (c ∷ rest) ∙ ap (λ n. placed 0 text ++ placed n (c ∷ rest)) (zero-add (length text))
 
 record Advanced (g : Grammar) (limit : ℕ) (found : Option State) (next : State) : Type 0 where
@@ -88,7 +88,7 @@ stuck g limit (Some state) ps last a e = let over = kept-none limit state (nat_l
 
 -- where no state follows, no expression goes on
 pub no-expression : (g : Grammar) (limit : ℕ) (text : List ℕ) (c : ℕ) (state : State) → Reaches g limit text state →
-    advance g limit state (record { at = length text; code = c }) ≡ None → (rest : List ℕ) (tree : Tree) → IsExpression g limit (text ++ c ∷ rest) tree → ⊥
+    advance g limit state (record { at = length text; code = c }) ≡ None → (rest : List ℕ) (tree : Tree) → IsExpression (Spells g) limit (text ++ c ∷ rest) tree → ⊥
 unfolding advance
 no-expression g limit text c state r a rest tree e =
     let p : Placed = record { at = length text; code = c } in
@@ -100,46 +100,46 @@ no-expression g limit text c state r a rest tree e =
     let over = stuck g limit (step g state p) (placed (length text + 1) rest) all.last a runs in
     absurd (omega arith)
 
-take-all : (text rest : List ℕ) → take (length text) (text ++ rest) ≡ text
+pub take-all : (text rest : List ℕ) → take (length text) (text ++ rest) ≡ text
 take-all [] rest = refl
 take-all (c ∷ text) rest = ap (λ xs. c ∷ xs) (take-all text rest)
 
 -- more than the text takes the character behind it
-take-past : (text : List ℕ) (c : ℕ) (rest : List ℕ) (more : ℕ) → length text < more → take more (text ++ c ∷ rest) ≡ text ++ c ∷ take (more - length text - 1) rest
+pub take-past : (text : List ℕ) (c : ℕ) (rest : List ℕ) (more : ℕ) → length text < more → take more (text ++ c ∷ rest) ≡ text ++ c ∷ take (more - length text - 1) rest
 take-past text c rest zero h = absurd (omega arith)
 take-past [] c rest (suc more) h = ap (λ n. c ∷ take n rest) (omega arith)
 take-past (d ∷ text) c rest (suc more) h = ap (λ xs. d ∷ xs) (take-past text c rest more (omega arith) ∙ ap (λ n. text ++ c ∷ take n rest) (omega arith))
 
 pub stops : (g : Grammar) (limit : ℕ) (text : List ℕ) (c : ℕ) (rest : List ℕ) (state : State) → Reaches g limit text state →
-    advance g limit state (record { at = length text; code = c }) ≡ None → IsAt g limit (text ++ c ∷ rest) (length text)
+    advance g limit state (record { at = length text; code = c }) ≡ None → IsAt (Spells g) limit (text ++ c ∷ rest) (length text)
 stops g limit text c rest state r a =
     record {
       within = omega (arith, length-append text (c ∷ rest));
-      viable = subst (IsViable g limit) (sym (take-all text (c ∷ rest))) (reaches-viable g limit text state r);
+      viable = subst (IsViable (Spells g) limit) (sym (take-all text (c ∷ rest))) (reaches-viable g limit text state r);
       longest = λ more h w v.
           let qs : List ℕ = take (more - length text - 1) rest in
           let whole : take more (text ++ c ∷ rest) ++ v.rest ≡ text ++ c ∷ (qs ++ v.rest) = ap (λ xs. xs ++ v.rest) (take-past text c rest more h) ∙ append_assoc text (c ∷ qs) v.rest in
-          no-expression g limit text c state r a (qs ++ v.rest) v.tree (subst (λ xs. IsExpression g limit xs v.tree) whole v.expression);
+          no-expression g limit text c state r a (qs ++ v.rest) v.tree (subst (λ xs. IsExpression (Spells g) limit xs v.tree) whole v.expression);
       none = λ tree e. no-expression g limit text c state r a rest tree e;
     }
 
-accepts-of : (g : Grammar) (limit : ℕ) (text : List ℕ) (state : State) (tree : Tree) → Reaches g limit text state → IsExpression g limit text tree → accept g state ≡ Some tree
+accepts-of : (g : Grammar) (limit : ℕ) (text : List ℕ) (state : State) (tree : Tree) → Reaches g limit text state → IsExpression (Spells g) limit text tree → accept g state ≡ Some tree
 accepts-of g limit text state tree r e =
     let all = accepted g tree (placed 0 text) e.spells.fits e.spells.reads in
     let same : state ≡ all.last = let a = r.runs in let b = all.runs in cc in
     ap (accept g) same ∙ all.accepts
 
 -- at the end no tree is there
-pub ends-open : (g : Grammar) (limit : ℕ) (text : List ℕ) (state : State) → Reaches g limit text state → accept g state ≡ None → IsAt g limit text (length text)
+pub ends-open : (g : Grammar) (limit : ℕ) (text : List ℕ) (state : State) → Reaches g limit text state → accept g state ≡ None → IsAt (Spells g) limit text (length text)
 ends-open g limit text state r n =
     record {
       within = omega arith;
-      viable = subst (IsViable g limit) (sym (take-all text []) ∙ ap (take (length text)) (append-nil text)) (reaches-viable g limit text state r);
+      viable = subst (IsViable (Spells g) limit) (sym (take-all text []) ∙ ap (take (length text)) (append-nil text)) (reaches-viable g limit text state r);
       longest = λ more h w v. absurd (omega arith);
       none = λ tree e. let a = accepts-of g limit text state tree r e in cc;
     }
 
-whole-some : (found : Tree) (layers : List Layer) (tree : Tree) → whole_over found layers ≡ Some tree → (layers ≡ []) × (found ≡ tree)
+pub whole-some : (found : Tree) (layers : List Layer) (tree : Tree) → whole_over found layers ≡ Some tree → (layers ≡ []) × (found ≡ tree)
 whole-some found [] tree e = (refl, cc)
 whole-some found (layer ∷ layers) tree e = cc
 
@@ -160,14 +160,14 @@ accept-part : (g : Grammar) (cs : List Placed) (part : Part) (layers : List Laye
 accept-part g cs part layers tree h None f e = cc
 accept-part g cs part layers tree h (Some one) f e = whole-spells g cs one layers tree (finished-holds g part layers cs one f h) e
 
-accept-spells : (g : Grammar) (cs : List Placed) (state : State) (tree : Tree) → Holds g state cs → accept g state ≡ Some tree → IsOf g tree × Reads g (Gap ∷ spell tree (Gap ∷ [])) cs
+pub accept-spells : (g : Grammar) (cs : List Placed) (state : State) (tree : Tree) → Holds g state cs → accept g state ≡ Some tree → IsOf g tree × Reads g (Gap ∷ spell tree (Gap ∷ [])) cs
 unfolding accept
 accept-spells g cs (Want layers) tree h e = cc
 accept-spells g cs (Have found layers) tree h e = whole-spells g cs found layers tree h e
 accept-spells g cs (Within part layers) tree h e = accept-part g cs part layers tree h (finish g part) (finishes g part h.stands.0) e
 
 -- at the end a tree is there
-pub ends-whole : (g : Grammar) (limit : ℕ) (text : List ℕ) (state : State) (tree : Tree) → Reaches g limit text state → accept g state ≡ Some tree → IsExpression g limit text tree
+pub ends-whole : (g : Grammar) (limit : ℕ) (text : List ℕ) (state : State) (tree : Tree) → Reaches g limit text state → accept g state ≡ Some tree → IsExpression (Spells g) limit text tree
 ends-whole g limit text state tree r a =
     let s = accept-spells g (placed 0 text) state tree (reached-holds g text state r.runs) a in
     let size = accept-size g state tree a in let small = r.small in

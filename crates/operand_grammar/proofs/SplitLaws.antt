@@ -1,11 +1,11 @@
 -- How the operands of a field are read on.
-use Rattle.std.proofs.Common.{◌≡◌, ◌∙◌, ℕ, ◌+◌, ◌<◌, Bool, true, false, cond, not, List, [], ◌∷◌, ◌++◌, length, drop, get_or, refl, sym, ap, subst, arith, append_assoc, append-nil}
-use Rattle.std.specs.Prelude.{◌&&◌, ◌==◌, chars, encode_utf8_all, IsUtf8, Result, Ok, Err, IfOk, OnOk}
+use Rattle.std.proofs.Common.{◌≡◌, ◌∙◌, ℕ, ◌+◌, ◌<◌, true, false, cond, List, [], ◌∷◌, ◌++◌, length, drop, get_or, refl, sym, ap, arith, append_assoc, append-nil}
+use Rattle.std.specs.Prelude.{◌==◌, chars, encode_utf8_all, IsUtf8, Result, Ok, Err, IfOk, OnOk}
 use Rattle.std.proofs.lemmas.Bool.{eqb-true, eqb-false}
 use Rattle.std.proofs.lemmas.Str.{chars-nil, encodes-chars}
 use Rattle.std.specs.List.{onto_first}
 use Rattle.std.proofs.lemmas.List.{at_drop_more, nil_from_length}
-use Rattle.hl_base.specs.Quoting.{IsBehind, is_quoted, depth}
+use Rattle.hl_base.specs.Quoting.{IsBehind}
 use Rattle.operand_grammar.specs.declared.split.Parting.{Parting}
 use Rattle.operand_grammar.specs.Split.{is_separator, parts, operands_of, with_front, whole_parts, IsParted}
 

@@ -8,7 +8,7 @@ use Rattle.operand_grammar.specs.declared.split.Parting.{Parting}
 use Rattle.operand_grammar.specs.declared.split_elements.Stage.{Stage}
 use Rattle.operand_grammar.specs.declared.split_elements.Stage.TheVariants.{Outside, Within, Closed, Broken}
 use Rattle.operand_grammar.specs.Split.{parts, whole_parts}
-use Rattle.operand_grammar.specs.SplitSublist.{at_end, closed_by, inner_of, elements_of, closed_elements, IsListed}
+use Rattle.operand_grammar.specs.SplitSublist.{at_end, closed_by, closed_elements, IsListed}
 use Rattle.operand_grammar.proofs.SplitLaws.{with_front-nil, Reads}
 
 map-same : {X Y : Type 0} (f g : X → Y) (o : Option X) → ((x : X) → f x ≡ g x) → option_map f o ≡ option_map g o

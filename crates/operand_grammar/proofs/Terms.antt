@@ -203,11 +203,11 @@ follows-ampersand g count number p _ e = refl
 pub word-one : (p : Placed) → kind_of p.code ≡ kind.Letter → IsWord p.at (to_ascii_uppercase p.code ∷ []) (p ∷ [])
 word-one p e = record { first = p; others = []; both = refl; here = refl; named = letter-name p.code (kind-letter p.code e) }
 
-name-grows : (name : List ℕ) (p : Placed) → length name < 63 → is_symbol_character p.code ≡ true → (a : List Placed) →
+pub name-grows : (name : List ℕ) (p : Placed) → length name < 63 → is_symbol_character p.code ≡ true → (a : List Placed) →
     symbol_of (codes a) ≡ Some name → symbol_of (codes (a ++ p ∷ [])) ≡ Some (name ++ to_ascii_uppercase p.code ∷ [])
 name-grows name p h s a e = ap symbol_of (codes-append a (p ∷ [])) ∙ name-longer (codes a) name p.code e h s
 
-word-longer : (place : ℕ) (name : List ℕ) (p : Placed) → length name < 63 → is_symbol_character p.code ≡ true → (a : List Placed) →
+pub word-longer : (place : ℕ) (name : List ℕ) (p : Placed) → length name < 63 → is_symbol_character p.code ≡ true → (a : List Placed) →
     IsWord place name a → IsWord place (name ++ to_ascii_uppercase p.code ∷ []) (a ++ p ∷ [])
 word-longer place name p h s a i =
     record { first = i.first; others = i.others ++ p ∷ []; both = ap (λ xs. xs ++ p ∷ []) i.both; here = i.here; named = name-grows name p h s a i.named }

@@ -122,6 +122,9 @@ run-least-of : (g : Grammar) (low : ℕ) (found : Option State) (ps : List Place
 run-least-of g low None ps last h go e = cc
 run-least-of g low (Some state) ps last h go e = let m = go state e in omega arith
 
+pub step-weight : (g : Grammar) (state next : State) (p : Placed) → step g state p ≡ Some next → weight state ≤ weight next
+step-weight g state next p e = subst (AtLeast (weight state)) e (step-least g state p)
+
 -- no state of a run is larger than its last
 pub run-least : (g : Grammar) (ps : List Placed) (state last : State) → run g state ps ≡ Some last → weight state ≤ weight last
 run-least g [] state last e = let same : state ≡ last = cc in subst (λ x. weight state ≤ weight x) same (omega arith)

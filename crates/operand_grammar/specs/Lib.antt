@@ -7,5 +7,9 @@ pub mod Spelling
 pub mod Split
 pub mod SplitSublist
 pub mod Stacks
+pub mod TextReading
+pub mod TextStanding
+pub mod TextViews
+pub mod Texts
 pub mod Trees
 pub mod Views

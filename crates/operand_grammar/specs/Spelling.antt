@@ -1,6 +1,6 @@
 -- Which texts an expression has (HLASM Language Reference SC26-4940, "Arithmetic (SETA) expressions", "Expressions",
 -- "Self-defining terms", "Variable symbols"). A tree is written as a list of pieces, and each piece has its texts.
-use Rattle.std.specs.Prelude.{◌≡◌, ℕ, ◌+◌, ◌*◌, ◌<◌, ◌≤◌, Bool, true, false, List, [], ◌∷◌, ◌++◌, length, take, Some, IsTrue}
+use Rattle.std.specs.Prelude.{◌≡◌, ℕ, ◌+◌, ◌*◌, ◌<◌, ◌≤◌, ◌⊎◌, Bool, true, false, List, [], ◌∷◌, ◌++◌, length, take, Some, IsTrue}
 use Rattle.std.specs.List.{list_all}
 use Rattle.std.specs.Char.{digit_value, is_digit, to_ascii_uppercase}
 use Rattle.hl_base.specs.Symbols.{symbol_of}
@@ -82,6 +82,15 @@ abbrev pub doubled : List ℕ → List ℕ
 doubled [] = []
 doubled (c ∷ cs) = twice (kind_of c) c (doubled cs)
 
+-- an apostrophe is written twice in a quoted text
+abbrev pub quoted_one : Kind → ℕ → List ℕ → List ℕ
+quoted_one Quote c cs = c ∷ c ∷ cs
+quoted_one _ c cs = c ∷ cs
+
+abbrev pub quoted : List ℕ → List ℕ
+quoted [] = []
+quoted (c ∷ cs) = quoted_one (kind_of c) c (quoted cs)
+
 -- Pieces.
 
 pub data Piece : Type 0 where
@@ -95,6 +104,9 @@ pub data Piece : Type 0 where
   Sigil : (place : ℕ) → Piece
   Letters : (name : List ℕ) → Piece
   Word : (place : ℕ) (name : List ℕ) → Piece
+  Plainly : (characters : List ℕ) → Piece
+  Join : (must : Bool) → Piece
+  Period : Piece
 
 -- whether blanks may stand between the tokens of an expression
 abbrev pub has_blanks : Grammar → Bool
@@ -162,6 +174,11 @@ pub record IsWord (place : ℕ) (name : List ℕ) (text : List Placed) : Type 0 
   pub here : first.at ≡ place
   pub named : symbol_of (codes text) ≡ Some name
 
+-- a period, which may be left out
+abbrev pub IsJoin : Bool → List ℕ → Type 0
+IsJoin true text = text ≡ 46 ∷ []
+IsJoin false text = (text ≡ []) ⊎ (text ≡ 46 ∷ [])
+
 -- the texts of a piece
 abbrev pub IsPiece : Grammar → Piece → List Placed → Type 0
 IsPiece g Gap text = IsGap g text
@@ -174,6 +191,9 @@ IsPiece g (Characters number) text = IsCharacters number text
 IsPiece g (Sigil place) text = IsSigil place text
 IsPiece g (Letters name) text = symbol_of (codes text) ≡ Some name
 IsPiece g (Word place name) text = IsWord place name text
+IsPiece g (Plainly characters) text = codes text ≡ quoted characters
+IsPiece g (Join must) text = IsJoin must (codes text)
+IsPiece g Period text = codes text ≡ 46 ∷ []
 
 -- a text is these pieces, one after the other
 abbrev pub Reads : Grammar → List Piece → List Placed → Type 0
@@ -276,22 +296,22 @@ pub record Spells (g : Grammar) (text : List ℕ) (tree : Tree) : Type 0 where
   pub reads : Reads g (Gap ∷ spell tree (Gap ∷ [])) (placed 0 text)
 
 -- a text is an expression of at most so many terms, operators and pairs of parentheses, and this is its tree
-pub record IsExpression (g : Grammar) (limit : ℕ) (text : List ℕ) (tree : Tree) : Type 0 where
-  pub spells : Spells g text tree
+pub record IsExpression (Written : List ℕ → Tree → Type 0) (limit : ℕ) (text : List ℕ) (tree : Tree) : Type 0 where
+  pub spells : Written text tree
   pub small : size tree ≤ limit
 
 -- some expression begins with a text
-pub record IsViable (g : Grammar) (limit : ℕ) (text : List ℕ) : Type 0 where
+pub record IsViable (Written : List ℕ → Tree → Type 0) (limit : ℕ) (text : List ℕ) : Type 0 where
   pub rest : List ℕ
   pub tree : Tree
-  pub expression : IsExpression g limit (text ++ rest) tree
+  pub expression : IsExpression Written limit (text ++ rest) tree
 
 -- A text is no expression, and the longest prefix of it that some expression begins with has so many characters.
-pub record IsAt (g : Grammar) (limit : ℕ) (text : List ℕ) (count : ℕ) : Type 0 where
+pub record IsAt (Written : List ℕ → Tree → Type 0) (limit : ℕ) (text : List ℕ) (count : ℕ) : Type 0 where
   pub within : count ≤ length text
-  pub viable : IsViable g limit (take count text)
-  pub longest : (more : ℕ) → count < more → more ≤ length text → IsViable g limit (take more text) → ⊥
-  pub none : (tree : Tree) → IsExpression g limit text tree → ⊥
+  pub viable : IsViable Written limit (take count text)
+  pub longest : (more : ℕ) → count < more → more ≤ length text → IsViable Written limit (take more text) → ⊥
+  pub none : (tree : Tree) → IsExpression Written limit text tree → ⊥
 
 -- how many terms, operators and pairs of parentheses an expression has at most
 abbrev pub most_parts : ℕ

@@ -42,3 +42,8 @@ abbrev mutual
 abbrev pub trees_in : Trees → List Expr → Trees
 trees_in before [] = before
 trees_in before (one ∷ rest) = trees_in (More before (tree_of one)) rest
+
+-- these items, and then those of a list
+abbrev pub items_in : Items → List Item → Items
+items_in before [] = before
+items_in before (one ∷ rest) = items_in (with_item before one) rest

@@ -2,28 +2,33 @@
 //!
 //! It knows nothing of operations, symbols or values. Its contracts: the operands of a field are the texts between its
 //! commas outside quotes and parentheses, and those of a sublist the texts between its own (`split_operands`,
-//! `split_sublist`). `parse_arith` and `parse_ordinary` give the tree of an expression, or `At(n)`, the length of the
-//! longest prefix of the text that some expression of at most `MOST_PARTS` terms, operators and pairs of parentheses
-//! begins with; a text has one tree (module `laws`). It follows the HLASM Language Reference SC26-4940, "Operand entry",
-//! "Sublists in operands", "Arithmetic (SETA) expressions" and "Expressions"; the grammar of expressions stands in
-//! docs/EXPRESSIONS.md.
+//! `split_sublist`). `parse_arith`, `parse_char` and `parse_ordinary` give the tree of an expression, or `At(n)`, the
+//! length of the longest prefix of the text that some expression of at most `MOST_PARTS` terms, operators and pairs of
+//! parentheses begins with; a text has one tree (module `laws`). It follows the HLASM Language Reference SC26-4940,
+//! "Operand entry", "Sublists in operands", "Arithmetic (SETA) expressions", "Character (SETC) expressions" and
+//! "Expressions"; the grammar of expressions stands in docs/EXPRESSIONS.md.
 #![tactic(auto)]
 
 mod character;
 mod fault;
 pub mod laws;
 mod parse;
+mod parse_text;
 mod part;
 mod pending;
+mod quoted;
 mod reader;
 mod spelled;
 mod split;
 mod split_elements;
+mod text_point;
+mod text_reader;
 mod tree;
 
 pub use character::Grammar;
 pub use fault::SyntaxFault;
 pub use parse::{MOST_PARTS, parse_arith, parse_ordinary};
+pub use parse_text::parse_char;
 pub use split::{Operands, split_operands};
 pub use split_elements::split_sublist;
 pub use tree::{Attribute, Comparison, Expr, Form, Item, Operator, Reference, Sign, Symbol};
@@ -32,3 +37,5 @@ pub use tree::{Attribute, Comparison, Expr, Form, Item, Operator, Reference, Sig
 mod split_tests;
 #[cfg(test)]
 mod tests;
+#[cfg(test)]
+mod text_tests;

@@ -3,7 +3,7 @@ ghost use Rattle.std.specs.Prelude.{◌≡◌, ◌≤◌, [], ◌∷◌, MatchRe
 ghost use Rattle.std.specs.Str.{chars};
 ghost use Rattle.operand_grammar.specs.Answers.{IsFault, Stops};
 ghost use Rattle.operand_grammar.specs.Reading as states;
-ghost use Rattle.operand_grammar.specs.Spelling.{IsExpression, most_parts};
+ghost use Rattle.operand_grammar.specs.Spelling.{IsExpression, Spells, most_parts};
 ghost use Rattle.operand_grammar.specs.Stacks.{stack_of, stand};
 ghost use Rattle.operand_grammar.specs.Views.{tree_of};
 
@@ -58,7 +58,7 @@ fn advance(
 
 /// Reads a text by a grammar.
 pub(crate) fn parse(alloc: Global, grammar: Grammar, text: &str) -> Result<Expr, SyntaxFault>
-    ensures { MatchResult result (λ e. IsExpression grammar most_parts (chars text.now) (tree_of e)) (IsFault grammar (chars text.now)) }
+    ensures { MatchResult result (λ e. IsExpression (Spells grammar) most_parts (chars text.now) (tree_of e)) (IsFault (Spells grammar) (chars text.now)) }
 {
     let mut progress = Progress {
         point: Point::Want,
@@ -82,14 +82,14 @@ pub(crate) fn parse(alloc: Global, grammar: Grammar, text: &str) -> Result<Expr,
 
 /// Reads an arithmetic expression, as the operand of SETA (SC26-4940, "Arithmetic (SETA) expressions").
 pub fn parse_arith(alloc: Global, text: &str) -> Result<Expr, SyntaxFault>
-    ensures { MatchResult result (λ e. IsExpression Grammar.Arithmetic most_parts (chars text.now) (tree_of e)) (IsFault Grammar.Arithmetic (chars text.now)) }
+    ensures { MatchResult result (λ e. IsExpression (Spells Grammar.Arithmetic) most_parts (chars text.now) (tree_of e)) (IsFault (Spells Grammar.Arithmetic) (chars text.now)) }
 {
     parse(alloc, Grammar::Arithmetic, text)
 }
 
 /// Reads an ordinary expression, as in the operands of machine instructions (SC26-4940, "Expressions").
 pub fn parse_ordinary(alloc: Global, text: &str) -> Result<Expr, SyntaxFault>
-    ensures { MatchResult result (λ e. IsExpression Grammar.Ordinary most_parts (chars text.now) (tree_of e)) (IsFault Grammar.Ordinary (chars text.now)) }
+    ensures { MatchResult result (λ e. IsExpression (Spells Grammar.Ordinary) most_parts (chars text.now) (tree_of e)) (IsFault (Spells Grammar.Ordinary) (chars text.now)) }
 {
     parse(alloc, Grammar::Ordinary, text)
 }

@@ -1,5 +1,5 @@
 //! A term that is being read, character by character.
-ghost use Rattle.std.specs.Prelude.{◌≡◌, ◌<◌, ◌≤◌, ◌^◌, [], ◌∷◌, ◌++◌, length, option_map, IsTrue, None, IfSome};
+ghost use Rattle.std.specs.Prelude.{◌≡◌, ◌<◌, ◌≤◌, ◌^◌, [], ◌∷◌, ◌++◌, length, option_map, is_some, IsTrue, None, IfSome};
 ghost use Rattle.std.specs.Char.{to_ascii_uppercase};
 ghost use Rattle.hl_base.specs.Symbols.{is_symbol_character};
 ghost use Rattle.operand_grammar.specs.Characters as characters;
@@ -306,6 +306,19 @@ impl Part {
             Part::Word(place, name) => after_word(grammar, kind, place, name, c),
             Part::Property(asked, place, name) => after_property(kind, asked, place, name, c),
             Part::Named(asked, place, name) => after_named(kind, asked, place, name, c),
+        }
+    }
+
+    /// Whether all of the term is there.
+    #[tactic(auto, unfolding(crate::specs::Parts::finish))]
+    pub(crate) fn is_whole(&self, grammar: Grammar) -> bool
+        ensures { result ≡ is_some (parts.finish grammar self.now) }
+    {
+        match self {
+            Part::Figures(Form::Decimal, _, _) | Part::Property(..) | Part::Named(..) => true,
+            Part::BodyQuote(count, _) => *count > 0,
+            Part::Word(..) => grammar.is_ordinary(),
+            _ => false,
         }
     }
 

@@ -1,5 +1,6 @@
 use crate::{
-    Attribute, Expr, Operator, Reference, Sign, Symbol, SyntaxFault, parse_arith, parse_ordinary,
+    Attribute, Expr, Item, Operator, Reference, Sign, Symbol, SyntaxFault, parse_arith,
+    parse_ordinary,
 };
 use std::alloc::{AllocError, Global};
 use std::test::Fail;
@@ -58,12 +59,51 @@ fn shown(alloc: Global, e: &Expr) -> Result<String, AllocError> {
             )
         }
         Expr::Paren(inner) => format!(in alloc; "<{}>", shown(alloc, inner)?),
+        Expr::Quoted(items) => quoted(alloc, items),
+        Expr::Duplicated(factor, text) => {
+            format!(in alloc; "({} times {})", shown(alloc, factor)?, shown(alloc, text)?)
+        }
+        Expr::Substring(text, start, count) => {
+            format!(in alloc;
+                "(cut {} {} {})",
+                shown(alloc, text)?,
+                shown(alloc, start)?,
+                shown(alloc, count)?
+            )
+        }
+        Expr::SubstringToEnd(text, start) => {
+            format!(in alloc; "(cut {} {} *)", shown(alloc, text)?, shown(alloc, start)?)
+        }
+        Expr::Joined(left, right) => {
+            format!(in alloc; "({} . {})", shown(alloc, left)?, shown(alloc, right)?)
+        }
         _ => format!(in alloc; "?"),
     }
 }
 
+/// The items of a quoted text.
+fn quoted(alloc: Global, items: &[Item]) -> Result<String, AllocError> {
+    let mut text = String::from_str(alloc, "'")?;
+    for item in items {
+        text.push_str(shown_item(alloc, item)?.as_str())?;
+    }
+    text.push_str("'")?;
+    Ok(text)
+}
+
+/// Plain characters in brackets, or a symbol and how many subscripts it has.
+fn shown_item(alloc: Global, item: &Item) -> Result<String, AllocError> {
+    match item {
+        Item::Plain(text) => format!(in alloc; "[{}]", text.as_str()),
+        Item::Inserted(name, subscripts) => {
+            let text = symbol(alloc, Reference::Value, "&", name)?;
+            format!(in alloc; "{}/{}", text.as_str(), subscripts.len())
+        }
+    }
+}
+
 /// The tree, or the place of the fault.
-fn answer(alloc: Global, read: Result<Expr, SyntaxFault>) -> Result<String, AllocError> {
+pub(crate) fn answer(alloc: Global, read: Result<Expr, SyntaxFault>) -> Result<String, AllocError> {
     match read {
         Ok(e) => shown(alloc, &e),
         Err(SyntaxFault::At(count)) => format!(in alloc; "at {count}"),
@@ -72,7 +112,7 @@ fn answer(alloc: Global, read: Result<Expr, SyntaxFault>) -> Result<String, Allo
 }
 
 /// A text so many times.
-fn repeated(alloc: Global, text: &str, count: u32) -> Result<String, AllocError> {
+pub(crate) fn repeated(alloc: Global, text: &str, count: u32) -> Result<String, AllocError> {
     let mut all = String::new(alloc);
     for _ in 0..count {
         all.push_str(text)?;

@@ -1,7 +1,7 @@
 //! The tree of an expression.
 ghost use Rattle.std.specs.Prelude.{◌≡◌, IfOk};
-ghost use Rattle.operand_grammar.specs.Views.{tree_of, trees_in};
-ghost use Rattle.operand_grammar.specs.Trees.{Variable, Signed, Pair, Paren, NoTrees};
+ghost use Rattle.operand_grammar.specs.Views.{tree_of, trees_in, items_in};
+ghost use Rattle.operand_grammar.specs.Trees.{Variable, Signed, Pair, Paren, Quoted, Duplicated, Substring, SubstringToEnd, Joined, NoTrees, NoItems};
 
 use hl_base::{Name, OutOfMemory, Text};
 use std::alloc::Global;
@@ -129,4 +129,49 @@ pub(crate) fn variable(asked: Reference, symbol: Symbol, subscripts: Vec<Expr>) 
     ensures { tree_of result ≡ Variable asked symbol (trees_in NoTrees subscripts.items) }
 {
     Expr::Variable(asked, symbol, subscripts)
+}
+
+/// A quoted text.
+pub(crate) fn quoted(items: Vec<Item>) -> Expr
+    ensures { tree_of result ≡ Quoted (items_in NoItems items.items) }
+{
+    Expr::Quoted(items)
+}
+
+/// A text so many times.
+pub(crate) fn duplicated(alloc: Global, factor: Expr, text: Expr) -> Result<Expr, OutOfMemory>
+    ensures { IfOk result (λ e. tree_of e ≡ Duplicated (tree_of factor) (tree_of text)) }
+{
+    let factor = Box::new(alloc, factor)?;
+    Ok(Expr::Duplicated(factor, Box::new(alloc, text)?))
+}
+
+/// So many characters of a text from a place on.
+pub(crate) fn substring(
+    alloc: Global,
+    text: Expr,
+    start: Expr,
+    count: Expr,
+) -> Result<Expr, OutOfMemory>
+    ensures { IfOk result (λ e. tree_of e ≡ Substring (tree_of text) (tree_of start) (tree_of count)) }
+{
+    let text = Box::new(alloc, text)?;
+    let start = Box::new(alloc, start)?;
+    Ok(Expr::Substring(text, start, Box::new(alloc, count)?))
+}
+
+/// All characters of a text from a place on.
+pub(crate) fn substring_to_end(alloc: Global, text: Expr, start: Expr) -> Result<Expr, OutOfMemory>
+    ensures { IfOk result (λ e. tree_of e ≡ SubstringToEnd (tree_of text) (tree_of start)) }
+{
+    let text = Box::new(alloc, text)?;
+    Ok(Expr::SubstringToEnd(text, Box::new(alloc, start)?))
+}
+
+/// Two texts, one behind the other.
+pub(crate) fn joined(alloc: Global, left: Expr, right: Expr) -> Result<Expr, OutOfMemory>
+    ensures { IfOk result (λ e. tree_of e ≡ Joined (tree_of left) (tree_of right)) }
+{
+    let left = Box::new(alloc, left)?;
+    Ok(Expr::Joined(left, Box::new(alloc, right)?))
 }

@@ -1,10 +1,9 @@
-use Rattle.std.proofs.Common.{◌≡◌, ◌∙◌, [], sym, ap, length, drop, arith}
-use Rattle.std.specs.Prelude.{chars, IfOk}
+use Rattle.std.proofs.Common.{◌≡◌, ◌∙◌, [], sym, length, drop, arith}
+use Rattle.std.specs.Prelude.{chars}
 use Rattle.std.proofs.lemmas.Iterator.{YieldsList-from_chars}
 use Rattle.std.proofs.lemmas.Iterator.Consumers.{YieldsList-turn, YieldsList-end}
 use Rattle.std.proofs.lemmas.List.{length_push}
 use Rattle.std.proofs.Math.ListN.{drop_of_length-le}
-use Rattle.operand_grammar.specs.Split.{parts, IsParted}
 use Rattle.operand_grammar.proofs.SplitLaws.{parted-init, parted-more, parted-end, none-of_empty, operands-of_some, IfOk-map}
 use Rattle.operand_grammar.proofs.split.split_operands.Goals as goal
 
