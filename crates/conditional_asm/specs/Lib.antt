@@ -1,0 +1,4 @@
+pub mod Fronts
+pub mod Tries
+pub mod Templates
+pub mod Readings
