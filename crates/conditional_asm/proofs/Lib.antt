@@ -1,3 +1,6 @@
 pub mod TextLaws
 pub mod FrontLaws
 pub mod TemplateLaws
+pub mod AnswerLaws
+pub mod DeclarationLaws
+pub mod BranchLaws

@@ -1,9 +1,11 @@
 //! Texts, character by character.
-ghost use Rattle.std.specs.Prelude.{◌≡◌, ◌==◌, [], ◌∷◌, false, drop, length, take_while, slice_index, IfOk, MatchOption};
+ghost use Rattle.std.specs.Prelude.{◌≡◌, ◌==◌, [], ◌∷◌, false, drop, length, take_while, slice_index, IfOk, take, MatchOption, encode_utf8_all};
 ghost use Rattle.std.specs.Str.{chars};
 ghost use Rattle.hl_base.specs.Symbols as symbols;
+ghost use Rattle.conditional_asm.specs.Declarations as declarations;
+ghost use Rattle.conditional_asm.specs.Sequences as sequences;
 
-use hl_base::OutOfMemory;
+use hl_base::{Name, OutOfMemory};
 use hlasm_statements::split_columns;
 
 /// How many characters a text has.
@@ -46,6 +48,13 @@ pub fn behind(text: &str, count: usize) -> &str
     split_columns(text, count).1
 }
 
+/// So many characters at the front of a text, or all of it.
+pub fn before(text: &str, count: usize) -> &str
+    ensures { chars result.now ≡ take count (chars text.now) }
+{
+    split_columns(text, count).0
+}
+
 /// Whether a character is one of the letters `A` to `Z` in either case, `$`, `_`, `#` and `@`.
 pub fn is_letter(c: char) -> bool
     ensures { result ≡ symbols.is_letter c }
@@ -83,7 +92,21 @@ pub fn begins_with(text: &str, wanted: char) -> bool
 
 /// How many letters and digits a text begins with.
 pub fn letter_count(text: &str) -> usize
-    ensures { result ≡ length (take_while symbols.is_symbol_character (chars text.now)) }
+    ensures { result ≡ sequences.letter_count (chars text.now) }
 {
     text.chars().take_while(|c| is_symbol_character(*c)).count()
+}
+
+/// How many digits a text begins with.
+pub fn digit_count(text: &str) -> usize
+    ensures { result ≡ declarations.digit_count (chars text.now) }
+{
+    text.chars().take_while(|c| c.is_ascii_digit()).count()
+}
+
+/// The name that a text spells.
+pub fn name_of(text: &str) -> Option<Name>
+    ensures { result ≡ symbols.symbol_of (encode_utf8_all (chars text.now)) }
+{
+    Name::read(text)
 }

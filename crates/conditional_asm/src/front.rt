@@ -5,7 +5,7 @@ ghost use Rattle.operand_grammar.specs.Views.{tree_of};
 ghost use Rattle.conditional_asm.specs.Fronts as fronts;
 ghost use Rattle.conditional_asm.specs.Tries.{IsTried, IsFront};
 
-use crate::character::character_count;
+use crate::character::{character_count, short_count};
 use hl_base::OutOfMemory;
 use hlasm_statements::split_columns;
 use operand_grammar::laws::one_tree;
@@ -38,7 +38,6 @@ pub enum Tried {
     /// It is not, and no longer text that begins with it is.
     Never,
 }
-
 
 /// Whether an expression is the value of a variable symbol.
 fn is_variable(tree: &Expr) -> bool
@@ -109,7 +108,11 @@ pub fn attempt(alloc: Global, sought: Sought, text: &str) -> Result<Tried, OutOf
 }
 
 /// What a text begins with, of what is sought; `None` where it begins with nothing of it.
-pub fn begins_with_sought(alloc: Global, sought: Sought, text: &str) -> Result<Option<Front>, OutOfMemory>
+pub fn begins_with_sought(
+    alloc: Global,
+    sought: Sought,
+    text: &str,
+) -> Result<Option<Front>, OutOfMemory>
     ensures { IfOk result (IsFront sought (chars text.now)) }
 {
     let mut before: usize = 0;
@@ -125,4 +128,18 @@ pub fn begins_with_sought(alloc: Global, sought: Sought, text: &str) -> Result<O
         before = before.checked_add(1).ok_or(OutOfMemory)?;
     }
     Ok(None)
+}
+
+/// How many characters of a text some arithmetic expression begins with.
+pub fn reach(alloc: Global, text: &str) -> Result<u32, OutOfMemory>
+    ensures { IfOk result (fronts.IsReach (chars text.now)) }
+{
+    match parse_arith(alloc, text) {
+        Ok(_tree) => {
+            let count = short_count(text)?;
+            Ok(count)
+        }
+        Err(SyntaxFault::At(count)) => Ok(count),
+        Err(SyntaxFault::OutOfMemory) => Err(OutOfMemory),
+    }
 }

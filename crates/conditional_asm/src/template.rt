@@ -2,14 +2,15 @@
 ghost use Rattle.std.specs.Prelude.{◌≡◌, ◌≤◌, true, false, [], ◌∷◌, ◌++◌, drop, IfOk, OnOk, MatchResult};
 ghost use Rattle.std.specs.Str.{chars};
 ghost use Rattle.conditional_asm.specs.Readings.{IsSymbolFound, IsStep, IsPlace, IsFault};
-ghost use Rattle.conditional_asm.specs.Fronts.{IsReach};
 ghost use Rattle.conditional_asm.specs.Templates as templates;
 
-use crate::character::{begins_with, begins_with_letter, behind, character_count, head, is_nothing, letter_count, short_count};
-use crate::front::{Sought, Tried, attempt, begins_with_sought};
+use crate::character::{
+    begins_with, begins_with_letter, behind, character_count, head, is_nothing, letter_count,
+};
+use crate::front::{Sought, Tried, attempt, begins_with_sought, reach};
 use hl_base::{OutOfMemory, Text};
 use hlasm_statements::split_columns;
-use operand_grammar::{Expr, SyntaxFault, parse_arith};
+use operand_grammar::{Expr, SyntaxFault};
 use std::alloc::Global;
 
 /// A piece of a field: plain characters, or a variable symbol with its subscripts, as an expression.
@@ -115,20 +116,6 @@ fn symbol(alloc: Global, text: &str) -> Result<Option<Found>, OutOfMemory>
         return subscripted(alloc, text);
     }
     bare(alloc, text, length)
-}
-
-/// How many characters of a text some arithmetic expression begins with.
-fn reach(alloc: Global, text: &str) -> Result<u32, OutOfMemory>
-    ensures { IfOk result (IsReach (chars text.now)) }
-{
-    match parse_arith(alloc, text) {
-        Ok(_tree) => {
-            let count = short_count(text)?;
-            Ok(count)
-        }
-        Err(SyntaxFault::At(count)) => Ok(count),
-        Err(SyntaxFault::OutOfMemory) => Err(OutOfMemory),
-    }
 }
 
 /// So many characters, and one more where a period is behind them.

@@ -19,9 +19,9 @@ returns-in-Is c =
     let so_far : length c.loop-c.yielded ≡ c.loop-c.before = sym c.loop-c.invariant.counted in
     record {
       closed = is_closed c.args.sought all (chars c.split_columns.result.0.now) c.loop-c.before c.in-Some.c (tree_of c.in-Is.tree)
-        (subst (λ (n : ℕ). n < length all) so_far t.0) (subst (λ (n : ℕ). c.in-Some.c ≡ get_or all n c.in-Some.c) so_far t.1) c.if-c-eq41.true
-        (c.split_columns.ensures.front ∙ ap (λ n. take n all) c.in_ok-extent.ensures)
-        (subst (λ (found : Tried). IsTried c.args.sought (chars c.split_columns.result.0.now) found) c.in-Is.is c.in_ok-tree.ensures);
+          (subst (λ (n : ℕ). n < length all) so_far t.0) (subst (λ (n : ℕ). c.in-Some.c ≡ get_or all n c.in-Some.c) so_far t.1) c.if-c-eq41.true
+          (c.split_columns.ensures.front ∙ ap (λ n. take n all) c.in_ok-extent.ensures)
+          (subst (λ (found : Tried). IsTried c.args.sought (chars c.split_columns.result.0.now) found) c.in-Is.is c.in_ok-tree.ensures);
       first = c.loop-c.invariant.none;
     }
 

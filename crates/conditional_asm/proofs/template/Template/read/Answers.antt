@@ -14,5 +14,5 @@ loop-rest-preserved c =
     subst (λ (t : List ℕ). IsPiece (chars c.loop-rest.rest.now) c.in-Some.step.piece t) (sym c.behind-rest.ensures) step.0 in (
       c.behind-rest.utf8,
       subst (λ (ps : List Piece). Reads (chars c.args.field.now) ps (chars c.behind-rest.result.now)) (sym c.in_ok-push-in-Some.ensures)
-      (reads-more (chars c.args.field.now) c.loop-rest.pieces.items (chars c.loop-rest.rest.now) c.in-Some.step.piece (chars c.behind-rest.result.now) c.loop-rest.invariant.1 is),
+          (reads-more (chars c.args.field.now) c.loop-rest.pieces.items (chars c.loop-rest.rest.now) c.in-Some.step.piece (chars c.behind-rest.result.now) c.loop-rest.invariant.1 is),
     )

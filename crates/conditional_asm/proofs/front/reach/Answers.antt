@@ -3,7 +3,7 @@ use Rattle.std.specs.Str.{chars}
 use Rattle.operand_grammar.specs.Views.{tree_of}
 use Rattle.conditional_asm.specs.Fronts.{IsReach}
 use Rattle.conditional_asm.proofs.FrontLaws.{whole_reach}
-use Rattle.conditional_asm.proofs.template.reach.Goals as goal
+use Rattle.conditional_asm.proofs.front.reach.Goals as goal
 
 pub returns-in_ok-count-in-Ok : goal.returns-in_ok-count-in-Ok
 returns-in_ok-count-in-Ok c =
