@@ -7,17 +7,27 @@
 //! instructions", "AGO instruction".
 #![tactic(auto)]
 
+mod act;
 mod branch;
 mod character;
 mod declaration;
+mod declaring;
+mod ending;
 mod front;
 mod place;
 mod sequence;
+mod substitution;
 mod template;
+mod trouble;
 
+pub use act::{Act, Effect};
 pub use branch::{Goto, ago};
 pub use declaration::declarations;
+pub use declaring::{declare, refused};
+pub use ending::ended;
+pub use substitution::substitute;
 pub use template::{Piece, Template};
+pub use trouble::{left_out, no_operation, open_apostrophe, undefined, unreadable};
 
 #[cfg(test)]
 mod tests;

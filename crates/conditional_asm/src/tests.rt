@@ -45,19 +45,27 @@ fn declarations_are_variable_symbols(rt: HostRuntime) -> Result<(), Fail> {
     Ok(())
 }
 
-/// The labels of an AGO, behind a number sign where a number chooses; or the place of its fault.
-fn branches(alloc: Global, field: &str) -> Result<String, Fail> {
-    let mut line = String::new(alloc);
-    match ago(alloc, field) {
-        Ok(Goto::To(name)) => line.push_str(name.text())?,
-        Ok(Goto::Among(_, first, others)) => {
+/// Adds the labels of an AGO to a line, behind a number sign where a number chooses.
+fn push_labels(line: &mut String, goto: &Goto) -> Result<(), Fail> {
+    match goto {
+        Goto::To(name) => line.push_str(name.text())?,
+        Goto::Among(_, first, others) => {
             line.push_str("# ")?;
             line.push_str(first.text())?;
-            for name in &others {
+            for name in others {
                 line.push_str(" ")?;
                 line.push_str(name.text())?;
             }
         }
+    }
+    Ok(())
+}
+
+/// The labels of an AGO; or the place of its fault.
+fn branches(alloc: Global, field: &str) -> Result<String, Fail> {
+    let mut line = String::new(alloc);
+    match ago(alloc, field) {
+        Ok(goto) => push_labels(&mut line, &goto)?,
         Err(SyntaxFault::At(at)) => line = format!(in alloc; "{at}")?,
         Err(SyntaxFault::OutOfMemory) => return Err("no memory".into()),
     }
