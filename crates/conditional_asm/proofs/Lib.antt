@@ -7,3 +7,4 @@ pub mod BranchLaws
 pub mod SubstitutionLaws
 pub mod EndingLaws
 pub mod DeclaringLaws
+pub mod BranchingLaws

@@ -10,3 +10,4 @@ pub mod Substitution
 pub mod Endings
 pub mod Troubles
 pub mod Acts
+pub mod Branching

@@ -9,6 +9,7 @@
 
 mod act;
 mod branch;
+mod branching;
 mod character;
 mod declaration;
 mod declaring;
@@ -22,6 +23,7 @@ mod trouble;
 
 pub use act::{Act, Effect};
 pub use branch::{Goto, ago};
+pub use branching::{go, limit_branches};
 pub use declaration::declarations;
 pub use declaring::{declare, refused};
 pub use ending::ended;
