@@ -11,3 +11,4 @@ pub mod Endings
 pub mod Troubles
 pub mod Acts
 pub mod Branching
+pub mod Generating
