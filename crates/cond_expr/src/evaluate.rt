@@ -143,12 +143,12 @@ pub fn number<Q: Lookups>(
             let m = number(alloc, left, q, notes)?;
             compared_with(alloc, *comparison, m, right, q, notes)
         }
-        Expr::Here => Ok(0),
-        Expr::Quoted(_) => Ok(0),
-        Expr::Duplicated(_, _) => Ok(0),
-        Expr::Substring(_, _, _) => Ok(0),
-        Expr::SubstringToEnd(_, _) => Ok(0),
-        Expr::Joined(_, _) => Ok(0),
+        Expr::Here
+        | Expr::Quoted(_)
+        | Expr::Duplicated(_, _)
+        | Expr::Substring(_, _, _)
+        | Expr::SubstringToEnd(_, _)
+        | Expr::Joined(_, _) => Ok(0),
     }
 }
 
@@ -238,13 +238,13 @@ pub fn text<Q: Lookups>(alloc: Global, e: &Expr, q: &mut Q, notes: &mut Notes) -
             let a = text(alloc, left, q, notes)?;
             joined_text(alloc, a, right, q, notes)
         }
-        Expr::Number(_, _) => Ok(Text::new(alloc)),
-        Expr::Here => Ok(Text::new(alloc)),
-        Expr::Signed(_, _) => Ok(Text::new(alloc)),
-        Expr::Pair(_, _, _) => Ok(Text::new(alloc)),
-        Expr::Paren(_) => Ok(Text::new(alloc)),
-        Expr::Not(_) => Ok(Text::new(alloc)),
-        Expr::Compared(_, _, _) => Ok(Text::new(alloc)),
+        Expr::Number(_, _)
+        | Expr::Here
+        | Expr::Signed(_, _)
+        | Expr::Pair(_, _, _)
+        | Expr::Paren(_)
+        | Expr::Not(_)
+        | Expr::Compared(_, _, _) => Ok(Text::new(alloc)),
     }
 }
 
