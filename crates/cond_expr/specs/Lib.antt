@@ -4,4 +4,8 @@ pub mod Outcome
 pub mod Troubles
 pub mod Characters
 pub mod Symbols
+pub mod Terms
 pub mod Variables
+pub mod Views
+pub mod Values
+pub mod Evaluated

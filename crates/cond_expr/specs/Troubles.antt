@@ -29,6 +29,10 @@ overflow = note 23 Error ((codes "arithmetic result does not fit 32 bits" ++ [])
 abbrev pub no_length : List ℕ → Note
 no_length symbol = note 24 Warning ((codes "symbol " ++ symbol) ++ codes " has no length attribute")
 
+-- a variable symbol whose text is no self-defining term, where a number is wanted
+abbrev pub no_number : List ℕ → Note
+no_number name = note 26 Error ((codes "value of &" ++ chars name) ++ codes " is not a number")
+
 -- a substring that begins outside its text
 abbrev pub outside : Note
 outside = note 27 Error ((codes "substring begins outside the text" ++ []) ++ codes "")

@@ -94,6 +94,20 @@ pub(crate) fn no_length(alloc: Global, symbol: &str) -> Result<Note, OutOfMemory
     )
 }
 
+/// A variable symbol whose text is no self-defining term, where a number is wanted.
+pub(crate) fn no_number(alloc: Global, name: &Name) -> Result<Note, OutOfMemory>
+    ensures { IfOk result (λ n. n ≡ troubles.no_number name.now) }
+{
+    note(
+        alloc,
+        26,
+        Severity::Error,
+        "value of &",
+        name.text(),
+        " is not a number",
+    )
+}
+
 /// A substring that begins outside its text.
 pub(crate) fn outside(alloc: Global) -> Result<Note, OutOfMemory>
     ensures { IfOk result (λ n. n ≡ troubles.outside) }

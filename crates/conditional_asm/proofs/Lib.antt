@@ -4,3 +4,7 @@ pub mod TemplateLaws
 pub mod AnswerLaws
 pub mod DeclarationLaws
 pub mod BranchLaws
+pub mod SubstitutionLaws
+pub mod EndingLaws
+pub mod DeclaringLaws
+pub mod BranchingLaws

@@ -6,3 +6,9 @@ pub mod Answers
 pub mod Sequences
 pub mod Declarations
 pub mod Branches
+pub mod Substitution
+pub mod Endings
+pub mod Troubles
+pub mod Acts
+pub mod Branching
+pub mod Generating
