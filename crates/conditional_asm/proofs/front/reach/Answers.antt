@@ -1,0 +1,11 @@
+use Rattle.std.proofs.Common.{ℕ, subst, sym}
+use Rattle.std.specs.Str.{chars}
+use Rattle.operand_grammar.specs.Views.{tree_of}
+use Rattle.conditional_asm.specs.Fronts.{IsReach}
+use Rattle.conditional_asm.proofs.FrontLaws.{whole_reach}
+use Rattle.conditional_asm.proofs.front.reach.Goals as goal
+
+pub returns-in_ok-count-in-Ok : goal.returns-in_ok-count-in-Ok
+returns-in_ok-count-in-Ok c =
+    subst (λ (n : ℕ). IsReach (chars c.args.text.now) n) (sym c.in_ok-count-in-Ok.ensures)
+    (whole_reach (chars c.args.text.now) (tree_of c.in-Ok._tree) c.in-Ok.ensures)

@@ -1,0 +1,6 @@
+use Rattle.std.specs.Str.{chars}
+use Rattle.conditional_asm.proofs.trouble.no_operation.Goals as goal
+
+pub returns : goal.returns
+unfolding chars
+returns c = c.note.ensures
