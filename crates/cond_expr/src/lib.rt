@@ -27,4 +27,12 @@ pub use numbers::Numbers;
 pub use stop::Stop;
 
 #[cfg(test)]
+mod fake;
+#[cfg(test)]
+mod logic_tests;
+#[cfg(test)]
+mod number_tests;
+#[cfg(test)]
 mod tests;
+#[cfg(test)]
+mod text_tests;
