@@ -3,16 +3,15 @@ use Rattle.std.proofs.Common.{◌≡◌, ℕ, suc, ◌+◌, ◌<◌, List, [], �
 use Rattle.hl_base.specs.declared.note.Note.{Note}
 use Rattle.std.specs.Result.{IsErrAnd}
 use Rattle.std.proofs.lemmas.List.{take_more}
-use Rattle.operand_grammar.specs.declared.tree.Expr.{Expr, Row_of-Item, end_of-Item, more_of-Item, items-the_row-Item}
+use Rattle.operand_grammar.specs.declared.tree.Expr.{Expr}
 use Rattle.operand_grammar.specs.declared.tree.Item.{Item}
 use Rattle.operand_grammar.specs.declared.tree.Item.TheVariants as item
 use Rattle.operand_grammar.specs.Trees.{Tree, Trees, Items, NoTrees, NoItems, More}
-use Rattle.operand_grammar.specs.Views.{tree_of, trees_in, items_of, with_item}
+use Rattle.operand_grammar.specs.Views.{tree_of, trees_in, items_in, with_item}
 use Rattle.cond_expr.specs.declared.stop.Stop.{Stop}
 use Rattle.cond_expr.specs.Told.{Told}
 use Rattle.cond_expr.specs.Outcome.{Outcome, gives, and_then, Tells}
 use Rattle.cond_expr.specs.Values.{number, numbers, pieces, piece}
-use Rattle.cond_expr.specs.Views.{items_in}
 use Rattle.cond_expr.proofs.OutcomeLemmas.{Tells-and_then, Tells-stop, Tells-gives, out_of_memory}
 
 -- one number more
@@ -151,8 +150,3 @@ pieces-failed told later all i one before middle after s stop (Err x) within is 
     (subst (λ (items : Items). Tells (pieces items told) before after (Err stop)) (sym (items_in-next all i one within is))
     (pieces-stop told (items_in NoItems (take i all)) one before middle after s stop first
     (subst (λ (t : Told). Tells (piece one t) middle after (Err stop)) same second)))))
-
--- the items of a list, and of the row that the list is within a tree
-pub items_of-row : (n : _) (row : Row_of-Item n) (before : Items) → items_of before row ≡ items_in before (items-the_row-Item n row)
-items_of-row n end_of-Item before = refl
-items_of-row n (more_of-Item one rest) before = items_of-row _ rest (with_item before one)

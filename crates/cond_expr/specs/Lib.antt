@@ -6,6 +6,5 @@ pub mod Characters
 pub mod Symbols
 pub mod Terms
 pub mod Variables
-pub mod Views
 pub mod Values
 pub mod Evaluated

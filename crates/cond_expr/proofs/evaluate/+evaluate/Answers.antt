@@ -1,9 +1,8 @@
 use Rattle.std.proofs.Common.{◌≡◌, ◌∙◌, ◌++◌, ◌∷◌, [], List, ℕ, ℤ, rules, sym, ap, true, false, subst}
-use Rattle.operand_grammar.specs.Views.{tree_of, trees_in}
+use Rattle.operand_grammar.specs.Views.{tree_of, trees_in, items_in}
 use Rattle.operand_grammar.specs.Trees.{Tree, NoTrees, NoItems, Ordinary, Variable, Pair, Compared, Quoted, Duplicated, Substring, SubstringToEnd, Joined}
 use Rattle.operand_grammar.specs.declared.tree.Expr.TheViews.{the_lemmas}
-use Rattle.operand_grammar.proofs.Rows.{trees_of-row}
-use Rattle.cond_expr.specs.Views.{items_in}
+use Rattle.operand_grammar.proofs.Rows.{trees_of-row, items_of-row}
 use Rattle.cond_expr.specs.Outcome.{Outcome, Tells, and_then}
 use Rattle.cond_expr.specs.Told.{Told}
 use Rattle.cond_expr.specs.Characters.{limited}
@@ -11,7 +10,7 @@ use Rattle.cond_expr.specs.Variables.{text_of_variable, number_of_variable, aske
 use Rattle.cond_expr.specs.Values as values
 use Rattle.cond_expr.specs.Values.{number, text, numbers, pieces, piece, inserted, joined, joined_with, compared_with, compared_text, duplicated_by, substring_from, substring_to_end_of, joined_text}
 use Rattle.cond_expr.proofs.OutcomeLemmas.{Tells-and_then, Tells-next, Tells-failed, Tells-true, Tells-false}
-use Rattle.cond_expr.proofs.SequenceLemmas.{numbers-kept, numbers-failed, pieces-kept, pieces-failed, items_of-row}
+use Rattle.cond_expr.proofs.SequenceLemmas.{numbers-kept, numbers-failed, pieces-kept, pieces-failed}
 use Rattle.cond_expr.proofs.evaluate.+evaluate.Goals as goal
 
 pub inserted-returns-clause-tells : goal.inserted-returns-clause-tells

@@ -1,8 +1,7 @@
 use Rattle.std.proofs.Common.{◌≡◌, take, Ok}
 use Rattle.operand_grammar.specs.Trees.{NoTrees, NoItems}
-use Rattle.operand_grammar.specs.Views.{trees_in}
+use Rattle.operand_grammar.specs.Views.{trees_in, items_in}
 use Rattle.cond_expr.specs.Outcome.{Tells}
-use Rattle.cond_expr.specs.Views.{items_in}
 use Rattle.cond_expr.specs.Values.{numbers, pieces}
 use Rattle.cond_expr.proofs.evaluate.+evaluate.Given as goal
 
