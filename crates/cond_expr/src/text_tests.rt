@@ -76,11 +76,15 @@ fn duplication(rt: HostRuntime) -> Result<(), Fail> {
 
 /// How many characters a value has, and how many notes come with it.
 fn measured(alloc: Global, e: &Expr) -> Option<(usize, usize)> {
+    let found = eval_c(alloc, e, &mut Fake::of(Found::Fault(20))).ok()?;
     let Evaluated {
         value,
         notes,
-        asked: _,
-    } = eval_c(alloc, e, &mut Fake::of(Found::Fault(20))).ok()?;
+        asked,
+    } = found;
+    if asked.is_some() {
+        return None;
+    }
     match value {
         SetValue::C(text) => Some((text.as_str().len(), notes.as_slice().len())),
         _ => None,
