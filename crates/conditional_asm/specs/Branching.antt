@@ -8,7 +8,7 @@ use Rattle.operand_grammar.specs.declared.fault.SyntaxFault.{SyntaxFault}
 use Rattle.operand_grammar.specs.declared.fault.SyntaxFault.TheVariants as fault
 use Rattle.operand_grammar.specs.declared.tree.Expr.{Expr}
 use Rattle.operand_grammar.specs.Answers.{IsFault}
-use Rattle.operand_grammar.specs.Spelling.{IsExpression, most_parts}
+use Rattle.operand_grammar.specs.Spelling.{IsExpression, Spells, most_parts}
 use Rattle.operand_grammar.specs.Trees.{Tree}
 use Rattle.operand_grammar.specs.Views.{tree_of}
 use Rattle.cond_expr.specs.declared.stop.Stop.{Stop}
@@ -52,8 +52,8 @@ Goes field told before after result =
 
 -- how an arithmetic expression is read
 abbrev pub IsArithmetic : List ℕ → Result Expr SyntaxFault → Type 0
-IsArithmetic field (Ok tree) = IsExpression Arithmetic most_parts field (tree_of tree)
-IsArithmetic field (Err refusal) = IsFault Arithmetic field refusal
+IsArithmetic field (Ok tree) = IsExpression (Spells Arithmetic) most_parts field (tree_of tree)
+IsArithmetic field (Err refusal) = IsFault (Spells Arithmetic) field refusal
 
 -- so many branches are left; a number below 0 is 0
 abbrev pub counting : Tree → Told → Outcome Act

@@ -6,7 +6,7 @@ use Rattle.operand_grammar.specs.declared.character.Grammar.{Grammar}
 use Rattle.operand_grammar.specs.declared.character.Grammar.TheVariants.{Arithmetic}
 use Rattle.operand_grammar.specs.declared.tree.Reference.TheVariants.{Value}
 use Rattle.operand_grammar.specs.Trees.{Tree, Variable}
-use Rattle.operand_grammar.specs.Spelling.{IsExpression, IsViable, most_parts}
+use Rattle.operand_grammar.specs.Spelling.{IsExpression, IsViable, Spells, most_parts}
 use Rattle.conditional_asm.specs.declared.front.Sought.{Sought}
 use Rattle.conditional_asm.specs.declared.front.Sought.TheVariants as sought
 
@@ -22,7 +22,7 @@ accepts sought.Variable tree = is_variable tree
 
 -- a text is what is sought, and this is its tree
 pub record IsSought (sought : Sought) (text : List ℕ) (tree : Tree) : Type 0 where
-  pub expression : IsExpression Arithmetic most_parts text tree
+  pub expression : IsExpression (Spells Arithmetic) most_parts text tree
   pub accepted : accepts sought tree ≡ true
 
 -- how many characters there are of what ends at a closing parenthesis behind so many others: the parenthesis of its
@@ -48,5 +48,5 @@ IsNeverClosed sought text = (before : ℕ) (tree : Tree) → IsClosed sought tex
 -- the longest front of a text that some arithmetic expression begins with has so many characters
 pub record IsReach (text : List ℕ) (count : ℕ) : Type 0 where
   pub within : count ≤ length text
-  pub viable : IsViable Arithmetic most_parts (take count text)
-  pub longest : (more : ℕ) → count < more → more ≤ length text → IsViable Arithmetic most_parts (take more text) → ⊥
+  pub viable : IsViable (Spells Arithmetic) most_parts (take count text)
+  pub longest : (more : ℕ) → count < more → more ≤ length text → IsViable (Spells Arithmetic) most_parts (take more text) → ⊥
