@@ -18,8 +18,8 @@ mod text_point;
 mod text_reader;
 
 pub use expression_grammar::{
-    Attribute, Comparison, Expr, Form, Grammar, Item, MOST_PARTS, Operator, Reference, Sign, Symbol,
-    SyntaxFault, parse_arith, parse_ordinary,
+    Attribute, Comparison, Expr, Form, Grammar, Item, MOST_PARTS, Operator, Reference, Sign,
+    Symbol, SyntaxFault, parse_arith, parse_ordinary,
 };
 pub use parse_text::parse_char;
 pub use split::{Operands, split_operands};

@@ -15,6 +15,6 @@ pub returns-clause-ok : goal.returns-clause-ok
 returns-clause-ok c =
     let old = content_bytes c.self.inside.content in
     on_ok_weaker c.push_str.result
-      (λ added. ap chars added ∙ chars-append old c.args.text.now (IsUtf8-had old c.self.invariant)
-        ∙ ap (λ front. front ++ chars c.args.text.now) c.self.view_is)
-      c.push_str.ensures.ok
+    (λ added. ap chars added ∙ chars-append old c.args.text.now (IsUtf8-had old c.self.invariant)
+    ∙ ap (λ front. front ++ chars c.args.text.now) c.self.view_is)
+    c.push_str.ensures.ok
