@@ -1,5 +1,5 @@
 //! The statement that some lines make up.
-ghost use Rattle.std.specs.Prelude.{◌≡◌, ◌<◌, ◌+◌, [], ◌∷◌, ◌&&◌, not, ◌==◌, map, take, length, IfOk, OnOk};
+ghost use Rattle.std.specs.Prelude.{◌≡◌, false, ◌<◌, ◌+◌, [], ◌∷◌, ◌&&◌, not, ◌==◌, map, take, length, IfOk, OnOk};
 ghost use Rattle.std.specs.List.{list_any};
 ghost use Rattle.std.specs.Str.{chars};
 ghost use Rattle.hlasm_statements.specs.Faults as spec;
@@ -195,6 +195,7 @@ fn alternate_statement(
 }
 
 /// The statement of the first line and of the lines that continue it, of which the last is marked or not.
+#[inline(always)]
 fn statement(
     alloc: Global,
     number: u32,
@@ -220,6 +221,13 @@ fn statement(
         return Ok(with_fields(number, last, standard, faults));
     }
     alternate_statement(alloc, number, last, first, rest, is_marked)
+}
+
+/// The statement of one line that does not go on, of which columns 1 to 71 are given.
+pub fn statement_of_line(alloc: Global, number: u32, body: &str) -> Result<Statement, OutOfMemory>
+    ensures { IfOk result (λ s. s ≡ whole_statement number false (chars body.now ∷ [])) }
+{
+    statement(alloc, number, body, &[], false)
 }
 
 /// The statement of some lines, of which columns 1 to 71 are given.

@@ -66,6 +66,7 @@ fn ends_simply(bytes: &[u8], count: usize) -> bool
 }
 
 /// Adds characters, which stand side by side in so many columns of a line, behind a field. What an `Err` leaves is of no use.
+#[inline(always)]
 fn add(
     field: &mut Text,
     places: &mut Places,
