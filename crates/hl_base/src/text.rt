@@ -38,17 +38,30 @@ impl Content {
     }
 
     /// Adds a text behind the one that is there. An `Err` changes nothing.
+    #[inline(always)]
     fn push_str(&mut self, alloc: Global, text: &str) -> Result<(), OutOfMemory>
+        ensures ok { OnOk result (content_bytes self.new ≡ content_bytes self.old ++ text.now) }
+        ensures err { OnErr result (content_bytes self.new ≡ content_bytes self.old) }
+    {
+        if let Content::Inside(inside) = self {
+            if inside.try_push_str(text).is_ok() {
+                return Ok(());
+            }
+        }
+        self.push_long(alloc, text)
+    }
+
+    /// The same where it may not fit into the value itself.
+    #[inline(never)]
+    fn push_long(&mut self, alloc: Global, text: &str) -> Result<(), OutOfMemory>
         ensures ok { OnOk result (content_bytes self.new ≡ content_bytes self.old ++ text.now) }
         ensures err { OnErr result (content_bytes self.new ≡ content_bytes self.old) }
     {
         match self {
             Content::Heap(heap) => heap.push_str(text)?,
             Content::Inside(inside) => {
-                if inside.try_push_str(text).is_err() {
-                    let whole = joined(alloc, inside.as_str(), text)?;
-                    *self = Content::Heap(whole);
-                }
+                let whole = joined(alloc, inside.as_str(), text)?;
+                *self = Content::Heap(whole);
             }
         }
         Ok(())

@@ -17,7 +17,7 @@ use Rattle.hlasm_statements.proofs.ListLaws.{prefix_len-pass, prefix_len-stop, p
 use Rattle.hlasm_statements.proofs.CharLaws.{front-chars}
 use Rattle.hlasm_statements.proofs.ReadingLaws.{all_while, behind-cons, behind-push}
 
-blank_small : (b : ℕ) → is_blank b ≡ true → b < 128
+pub blank_small : (b : ℕ) → is_blank b ≡ true → b < 128
 blank_small b h = elim (or_cases (b == 32) (b == 9) h) [
   | inl blank ↦ let is : b ≡ 32 = eqb-true b 32 blank in omega arith
   | inr tab ↦ let is : b ≡ 9 = eqb-true b 9 tab in omega arith
@@ -45,7 +45,7 @@ blank-bytes (b ∷ bs) u = elim (cases_Bool (is_blank b)) [
       ∙ sym (front_other (chars (b ∷ bs)) (first_blank (b ∷ bs) u ∙ other))
 ]
 
-ascii_parts : (b : ℕ) → is_ascii_ink b ≡ true → (b < 128) × (is_ink b ≡ true)
+pub ascii_parts : (b : ℕ) → is_ascii_ink b ≡ true → (b < 128) × (is_ink b ≡ true)
 ascii_parts b h = let parts = and_parts (nat_lt b 128) (is_ink b) h in (ltb-true b 128 parts.0, parts.1)
 
 not_ascii_ink : (b : ℕ) → b < 128 → is_ascii_ink b ≡ false → is_ink b ≡ false

@@ -8,3 +8,4 @@ pub mod SourceLaws
 pub mod BuildLaws
 pub mod StatementLaws
 pub mod GroupsLaws
+pub mod FrontLaws

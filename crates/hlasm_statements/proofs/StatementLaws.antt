@@ -104,6 +104,14 @@ reads-statement statements more number behind bodies grown fresh left after whol
           ∙ reads.rest;
     }
 
+-- a line alone
+pub reads-alone : (statements more : List Statement) (number behind : ℕ) (bodies : List (Bor (List ℕ))) (left after : List (List ℕ)) (whole : List Statement) (line : List ℕ) (body : Bor (List ℕ)) (made : Statement) → Reads statements number bodies left whole → left ≡ line ∷ after
+    → length bodies ≡ 0 → is_marked line ≡ false → chars body.now ≡ body_of line → made ≡ whole_statement number false (chars body.now ∷ []) → more ≡ statements ++ made ∷ [] → behind ≡ number + 1
+    → Reads more behind bodies after whole
+reads-alone statements more number behind bodies left after whole line body made reads next none ends is made_is adds behind_is =
+    let empty : bodies ≡ [] = nil_from_length bodies none in
+    reads-statement statements more number behind bodies (body ∷ []) bodies left after whole line body made reads next ends is (ap (λ b. b ++ body ∷ []) (sym empty)) made_is adds behind_is empty
+
 none_waits : (bodies : List (Bor (List ℕ))) (lines : List (List ℕ)) → bodies_of bodies ≡ map body_of lines → length bodies ≡ 0 → lines ≡ []
 none_waits bodies lines same none =
     nil_from_length lines (sym (length-map lines body_of) ∙ ap length (sym same) ∙ length-map bodies (λ (b : Bor (List ℕ)). chars b.now) ∙ none)

@@ -1,5 +1,5 @@
 -- What the reader of a source keeps of the characters so far. This project.
-use Rattle.std.specs.Prelude.{◌≡◌, ℕ, ◌+◌, ◌-◌, not, ◌<◌, ◌≤◌, ⊤, Bool, true, false, ◌&&◌, ◌==◌, List, [], ◌∷◌, ◌++◌, Option, Some, None, take, take_while, nat_lt, length, slice_index, slice_index_or, reverse, map, chars, if◌then◌else◌}
+use Rattle.std.specs.Prelude.{◌≡◌, ℕ, ◌+◌, ◌-◌, not, ◌<◌, ◌≤◌, ⊤, Bool, true, false, ◌&&◌, ◌==◌, List, [], ◌∷◌, ◌++◌, Option, Some, None, take, drop, take_while, nat_lt, length, slice_index, slice_index_or, reverse, map, chars, if◌then◌else◌}
 use Rattle.std.specs.List.{prefix_len}
 use Rattle.std.specs.Borrow.{Bor}
 use Rattle.hl_base.specs.Quoting.{IsBehind}
@@ -9,6 +9,7 @@ use Rattle.hlasm_statements.specs.declared.reader.Stage.{Stage}
 use Rattle.hlasm_statements.specs.declared.reader.Stage.TheVariants.{Label, Gap, Operation, OperandGap, Operands, Remarks, Done}
 use Rattle.hlasm_statements.specs.declared.reader.Reader.{Reader}
 use Rattle.hlasm_statements.specs.declared.reader.Scan.{Scan}
+use Rattle.hlasm_statements.specs.declared.column.Front.{Front}
 use Rattle.hlasm_statements.specs.Columns.{Placed, placed, continued, is_blank, is_ink, text_of, places_of}
 use Rattle.hlasm_statements.specs.Shape.{skip_while, label_of, operation_of}
 use Rattle.hlasm_statements.specs.Fields.{keeps_groups, ends_field, operand_field, behind_operation, operands_of}
@@ -119,6 +120,12 @@ pub record IsRead (reader : Reader) (alternate : Bool) (source : List Placed) : 
   pub op_goes : (tail : List Placed) → op_after reader.stage op tail ≡ operation_of (source ++ tail)
   pub operands_go : (tail : List Placed) →
       operands ++ rest_after alternate (keeps_groups (text_of (op_after reader.stage op tail))) (backwards operands) reader.stage tail ≡ operands_of alternate (source ++ tail)
+
+-- so many characters at the front of a text, and what stands behind them
+pub record IsFront (front : Front) (size : ℕ) (whole : List ℕ) : Type 0 where
+  pub count : front.count ≡ size
+  pub text : chars front.text.now ≡ take size whole
+  pub behind : chars front.behind.now ≡ drop size whole
 
 -- whether a byte is ASCII and no blank
 abbrev pub is_ascii_ink : ℕ → Bool

@@ -1,12 +1,12 @@
 //! The statement that some lines make up.
-ghost use Rattle.std.specs.Prelude.{◌≡◌, ◌<◌, ◌+◌, ◌∷◌, ◌&&◌, not, ◌==◌, map, take, length, IfOk};
+ghost use Rattle.std.specs.Prelude.{◌≡◌, false, ◌<◌, ◌+◌, [], ◌∷◌, ◌&&◌, not, ◌==◌, map, take, length, IfOk, OnOk};
 ghost use Rattle.std.specs.List.{list_any};
 ghost use Rattle.std.specs.Str.{chars};
 ghost use Rattle.hlasm_statements.specs.Faults as spec;
 ghost use Rattle.hlasm_statements.specs.Fields as fields;
 ghost use Rattle.hlasm_statements.specs.Reading.{IsRead, whole_source, bodies_of};
 ghost use Rattle.hl_base.specs.Symbols.{symbol_of};
-ghost use Rattle.hlasm_statements.specs.Building.{is_plain, empty_statement, filled_statement, whole_statement};
+ghost use Rattle.hlasm_statements.specs.Building.{is_plain, empty_statement, filled_statement, whole_statement, IsAlternateStatement};
 ghost use Rattle.hlasm_statements.specs.Statements.{lines_read};
 
 use crate::column::{is_all_blank, split_columns};
@@ -110,17 +110,17 @@ fn goes_on_with(rest: &[&str], op: &Text) -> bool
     !rest.is_empty() && is_alternate_operation(op)
 }
 
-/// The fields of lines that are all read.
+/// Reads the fields of lines that are all read, where nothing is read so far. What an `Err` leaves is of no use.
 fn read_fields(
-    alloc: Global,
+    reader: &mut Reader,
     alternate: bool,
     number: u32,
     first: &str,
     rest: &[&str],
-) -> Result<Reader, OutOfMemory>
-    ensures { IfOk result (λ r. IsRead r alternate (whole_source number (chars first.now ∷ bodies_of rest.now))) }
+) -> Result<(), OutOfMemory>
+    requires { IsRead reader.old alternate [] }
+    ensures { OnOk result (IsRead reader.new alternate (whole_source number (chars first.now ∷ bodies_of rest.now))) }
 {
-    let mut reader = Reader::new(alloc);
     reader.read_part(alternate, first, number, 1)?;
     let mut line = number;
     for body in rest {
@@ -128,7 +128,7 @@ fn read_fields(
         let (_, part) = split_columns(body, MARGIN);
         reader.read_part(alternate, part, line, TEXT_COLUMN)?;
     }
-    Ok(reader)
+    Ok(())
 }
 
 /// A statement without fields.
@@ -176,7 +176,26 @@ fn is_plain(shape: Shape) -> bool
     }
 }
 
+/// The plain statement of the first line and of the lines that continue it, in the alternate format.
+#[inline(never)]
+fn alternate_statement(
+    alloc: Global,
+    number: u32,
+    last: u32,
+    first: &str,
+    rest: &[&str],
+    is_marked: bool,
+) -> Result<Statement, OutOfMemory>
+    ensures { IfOk result (λ s. IsAlternateStatement s number last is_marked (chars first.now) (bodies_of rest.now)) }
+{
+    let mut whole = Reader::new(alloc);
+    read_fields(&mut whole, true, number, first, rest)?;
+    let faults = Faults::of(have_margin_text(rest), false, is_marked);
+    Ok(with_fields(number, last, whole, faults))
+}
+
 /// The statement of the first line and of the lines that continue it, of which the last is marked or not.
+#[inline(always)]
 fn statement(
     alloc: Global,
     number: u32,
@@ -193,16 +212,22 @@ fn statement(
     if !is_plain(shape) {
         return Ok(without_fields(alloc, number, last, shape, faults));
     }
-    let standard = read_fields(alloc, false, number, first, read)?;
+    let mut standard = Reader::new(alloc);
+    read_fields(&mut standard, false, number, first, read)?;
     if standard.is_blank() {
         return Ok(without_fields(alloc, number, last, Shape::Blank, faults));
     }
     if !goes_on_with(rest, &standard.op) {
         return Ok(with_fields(number, last, standard, faults));
     }
-    let whole = read_fields(alloc, true, number, first, rest)?;
-    let faults = Faults::of(have_margin_text(rest), false, is_marked);
-    Ok(with_fields(number, last, whole, faults))
+    alternate_statement(alloc, number, last, first, rest, is_marked)
+}
+
+/// The statement of one line that does not go on, of which columns 1 to 71 are given.
+pub fn statement_of_line(alloc: Global, number: u32, body: &str) -> Result<Statement, OutOfMemory>
+    ensures { IfOk result (λ s. s ≡ whole_statement number false (chars body.now ∷ [])) }
+{
+    statement(alloc, number, body, &[], false)
 }
 
 /// The statement of some lines, of which columns 1 to 71 are given.

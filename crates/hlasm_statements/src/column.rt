@@ -4,6 +4,7 @@ ghost use Rattle.std.specs.List.{list_all, prefix_len, position};
 ghost use Rattle.std.specs.Str.{chars, IsAscii};
 ghost use Rattle.hlasm_statements.specs.Columns as columns;
 ghost use Rattle.hlasm_statements.specs.Reading as reading;
+ghost use Rattle.hlasm_statements.specs.Reading.{IsFront};
 
 /// Whether a character is a blank or a tab.
 #[inline(always)]
@@ -27,7 +28,16 @@ pub fn begins_marked(text: &str) -> bool
     text.chars().next().is_some_and(|c| !is_blank(c))
 }
 
+/// Some characters at the front of a text, how many they are, and what stands behind them.
+#[derive(Clone, Copy)]
+pub struct Front<'a> {
+    pub text: &'a str,
+    pub count: usize,
+    pub behind: &'a str,
+}
+
 /// The first columns of a text, as many as are asked for, and what stands behind them.
+#[inline(always)]
 pub fn split_columns(text: &str, count: usize) -> (&str, &str)
     ensures front { chars result.0.now ≡ take count (chars text.now) }
     ensures back { chars result.1.now ≡ drop count (chars text.now) }
@@ -36,16 +46,28 @@ pub fn split_columns(text: &str, count: usize) -> (&str, &str)
     if begins_ascii(text, end) {
         return text.split_at(end);
     }
-    let rest = behind_columns(text, count);
-    text.split_at(text.len() - rest.len())
+    split_characters(text, count)
 }
 
-/// Whether so many bytes at the front of a text are ASCII, so that each is a column.
+/// Whether so many bytes at the front of a text are ASCII, so that each is a column. Of up to 64 bytes each half is seen in
+/// a few steps.
+#[inline(always)]
 fn begins_ascii(text: &str, count: usize) -> bool
     requires { count ≤ length text.now }
     ensures { IsTrue result → IsAscii (take count text.now) }
 {
-    text.as_bytes()[..count].is_ascii()
+    let (front, back) = text.as_bytes()[..count].split_at(count / 2);
+    front.is_ascii() && back.is_ascii()
+}
+
+/// The same of any text.
+#[inline(never)]
+fn split_characters(text: &str, count: usize) -> (&str, &str)
+    ensures front { chars result.0.now ≡ take count (chars text.now) }
+    ensures back { chars result.1.now ≡ drop count (chars text.now) }
+{
+    let rest = behind_columns(text, count);
+    text.split_at(text.len() - rest.len())
 }
 
 fn behind_columns(text: &str, count: usize) -> &str
@@ -60,23 +82,56 @@ fn behind_columns(text: &str, count: usize) -> &str
     rest.as_str()
 }
 
-/// How many characters of a text stand before its first blank. Where they are ASCII, each is a byte.
-pub fn word_length(text: &str) -> usize
-    ensures { result ≡ prefix_len columns.is_ink (chars text.now) }
+/// What stands before the first blank of a text. Where that is ASCII, each character is a byte.
+#[inline(always)]
+pub fn front_word(text: &str) -> Front<'_>
+    ensures { IsFront result (prefix_len columns.is_ink (chars text.now)) (chars text.now) }
 {
     let bytes = text.as_bytes();
     let count = ascii_length(bytes);
-    if is_ascii_at(bytes, count) {
-        return count;
+    if !is_ascii_at(bytes, count) {
+        return front_characters(text);
     }
-    character_length(text)
+    let (front, behind) = text.split_at(count);
+    Front {
+        text: front,
+        count,
+        behind,
+    }
 }
 
-/// How many blanks stand at the front of a text. They are ASCII, so each is a byte.
-pub fn blanks_length(text: &str) -> usize
-    ensures { result ≡ prefix_len columns.is_blank (chars text.now) }
+/// The same of any text.
+#[inline(never)]
+fn front_characters(text: &str) -> Front<'_>
+    ensures { IsFront result (prefix_len columns.is_ink (chars text.now)) (chars text.now) }
 {
-    let bytes = text.as_bytes();
+    let count = character_length(text);
+    let (front, behind) = split_columns(text, count);
+    Front {
+        text: front,
+        count,
+        behind,
+    }
+}
+
+/// The blanks at the front of a text. They are ASCII, so each is a byte.
+#[inline(always)]
+pub fn front_blanks(text: &str) -> Front<'_>
+    ensures { IsFront result (prefix_len columns.is_blank (chars text.now)) (chars text.now) }
+{
+    let count = blanks_length(text.as_bytes());
+    let (front, behind) = text.split_at(count);
+    Front {
+        text: front,
+        count,
+        behind,
+    }
+}
+
+/// How many bytes at the front are blanks.
+fn blanks_length(bytes: &[u8]) -> usize
+    ensures { result ≡ prefix_len columns.is_blank bytes.now }
+{
     match first_other(bytes) {
         Some(count) => count,
         None => bytes.len(),

@@ -1,6 +1,6 @@
 //! The fields of a statement, read in words from its source.
-ghost use Rattle.std.specs.Prelude.{◌≡◌, ◌<◌, ◌≤◌, ◌++◌, ◌&&◌, ◌==◌, ℕ, Bool, false, List, [], IfOk, IfSome, IsTrue, length, take, OnOk};
-ghost use Rattle.std.specs.List.{prefix_len};
+ghost use Rattle.std.specs.Prelude.{◌≡◌, ◌<◌, ◌≤◌, ◌++◌, ◌&&◌, ◌==◌, ℕ, Bool, false, List, [], IfOk, IfSome, IsTrue, length, take, drop, OnOk};
+ghost use Rattle.std.specs.List.{list_all};
 ghost use Rattle.std.specs.Str.{chars};
 ghost use Rattle.hl_base.specs.Quoting.{IsBehind};
 ghost use Rattle.hlasm_statements.specs.Columns as columns;
@@ -10,7 +10,7 @@ ghost use Rattle.hlasm_statements.specs.Reading as reading;
 ghost use Rattle.hlasm_statements.specs.Reading.{EndsSimply};
 
 use crate::build::count_on;
-use crate::column::{blanks_length, is_blank, simple_length, split_columns, word_length};
+use crate::column::{Front, front_blanks, front_word, is_blank, simple_length, split_columns};
 use crate::places::Places;
 use hl_base::{Nesting, OutOfMemory, Text};
 use std::alloc::Global;
@@ -65,20 +65,20 @@ fn ends_simply(bytes: &[u8], count: usize) -> bool
     (bytes[count] == b' ' || bytes[count] == b'\t') && bytes[count - 1] != b','
 }
 
-/// Adds so many characters, which stand side by side in a line, behind a field. What an `Err` leaves is of no use.
+/// Adds characters, which stand side by side in so many columns of a line, behind a field. What an `Err` leaves is of no use.
+#[inline(always)]
 fn add(
     field: &mut Text,
     places: &mut Places,
-    part: &str,
+    text: &str,
     count: usize,
     line: u32,
     column: u32,
 ) -> Result<(), OutOfMemory>
-    ensures text { OnOk result (field.new ≡ field.old ++ take count (chars part.now)) }
+    ensures text { OnOk result (field.new ≡ field.old ++ chars text.now) }
     ensures places { OnOk result (places.new ≡ places.old ++ side_by_side line column count) }
 {
-    let (taken, _) = split_columns(part, count);
-    field.push_str(taken)?;
+    field.push_str(text)?;
     let count = count_on(0, count)?;
     places.push(line, column, count)?;
     Ok(())
@@ -159,10 +159,9 @@ impl Reader {
         let mut rest = part;
         let mut at = column;
         while self.is_before_operands(rest) {
-            let count = self.read_run(rest, line, at)?;
-            let (_, behind) = split_columns(rest, count);
-            rest = behind;
-            at = count_on(at, count)?;
+            let front = self.read_run(rest, line, at)?;
+            rest = front.behind;
+            at = count_on(at, front.count)?;
         }
         self.read_operands(alternate, rest, line, at)
     }
@@ -177,50 +176,56 @@ impl Reader {
         }
     }
 
-    /// Reads the blanks at the front of a text, or else what stands before its first blank: how many characters that is.
-    fn read_run(&mut self, text: &str, line: u32, column: u32) -> Result<usize, OutOfMemory>
+    /// Reads the blanks at the front of a text, or else what stands before its first blank.
+    fn read_run<'a>(
+        &mut self,
+        text: &'a str,
+        line: u32,
+        column: u32,
+    ) -> Result<Front<'a>, OutOfMemory>
         requires { IsTrue (is_before_operands self.old.stage (chars text.now)) }
-        ensures some { IfOk result (λ count. 0 < count) }
-        ensures fits { IfOk result (λ count. count ≤ length (chars text.now)) }
-        ensures read { IfOk result (λ count. (alternate : Bool)
-            → ReadsOn self.old self.new alternate (placed line column (take count (chars text.now)))) }
+        ensures some { IfOk result (λ front. 0 < front.count) }
+        ensures fits { IfOk result (λ front. front.count ≤ length (chars text.now)) }
+        ensures behind { IfOk result (λ front. chars front.behind.now ≡ drop front.count (chars text.now)) }
+        ensures read { IfOk result (λ front. (alternate : Bool)
+            → ReadsOn self.old self.new alternate (placed line column (take front.count (chars text.now)))) }
     {
-        let blanks = blanks_length(text);
-        if blanks > 0 {
+        let blanks = front_blanks(text);
+        if blanks.count > 0 {
             self.stage = behind_blanks(self.stage);
             return Ok(blanks);
         }
-        let count = word_length(text);
-        self.read_word(text, count, line, column)?;
-        Ok(count)
+        let word = front_word(text);
+        self.read_word(word.text, word.count, line, column)?;
+        Ok(word)
     }
 
-    /// Reads what stands before the first blank of a text, in the name entry or the operation.
+    /// Reads so many characters, of which none is a blank, in the name entry or the operation.
     fn read_word(
         &mut self,
-        text: &str,
+        word: &str,
         count: usize,
         line: u32,
         column: u32,
     ) -> Result<(), OutOfMemory>
-        requires count { count ≡ prefix_len columns.is_ink (chars text.now) }
+        requires count { count ≡ length (chars word.now) }
         requires some { 0 < count }
+        requires ink { IsTrue (list_all columns.is_ink (chars word.now)) }
         requires before { IsTrue (reading.precedes self.old.stage false) }
-        ensures { OnOk result ((alternate : Bool)
-            → ReadsOn self.old self.new alternate (placed line column (take count (chars text.now)))) }
+        ensures { OnOk result ((alternate : Bool) → ReadsOn self.old self.new alternate (placed line column (chars word.now))) }
     {
         match self.stage {
             Stage::Label => add(
                 &mut self.label,
                 &mut self.label_places,
-                text,
+                word,
                 count,
                 line,
                 column,
             )?,
             _ => {
                 self.stage = Stage::Operation;
-                add(&mut self.op, &mut self.op_places, text, count, line, column)?
+                add(&mut self.op, &mut self.op_places, word, count, line, column)?
             }
         }
         Ok(())
@@ -247,10 +252,11 @@ impl Reader {
         self.stage = self.stage_scanned(alternate, &scan, line);
         self.nesting = scan.nesting;
         self.ends_in_comma = scan.ends_in_comma;
+        let (field, _) = split_columns(part, scan.count);
         add(
             &mut self.operands,
             &mut self.operand_places,
-            part,
+            field,
             scan.count,
             line,
             column,

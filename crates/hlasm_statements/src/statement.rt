@@ -4,7 +4,7 @@ ghost use Rattle.std.specs.Str.{chars};
 ghost use Rattle.hlasm_statements.specs.Statements.{statements_of};
 
 use crate::Faults;
-use crate::build::{count_on, statement_of_lines};
+use crate::build::{count_on, statement_of_line, statement_of_lines};
 use crate::column::{begins_marked, split_columns};
 use crate::places::Places;
 use hl_base::{OutOfMemory, Text, lines};
@@ -131,8 +131,14 @@ pub fn read_statements(alloc: Global, text: &str) -> Result<Statements, OutOfMem
     let mut bodies = Vec::new(alloc);
     for line in lines(text) {
         let (body, behind) = split_columns(line, TEXT_COLUMNS);
+        let is_marked = begins_marked(behind);
+        if bodies.is_empty() && !is_marked {
+            statements.push(statement_of_line(alloc, number, body)?)?;
+            number = count_on(number, 1)?;
+            continue;
+        }
         bodies.push(body)?;
-        if !begins_marked(behind) {
+        if !is_marked {
             statements.push(statement_of_lines(alloc, number, bodies.as_slice(), false)?)?;
             number = count_on(number, bodies.len())?;
             bodies.clear();

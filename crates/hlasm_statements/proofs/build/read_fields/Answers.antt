@@ -9,7 +9,7 @@ use Rattle.hlasm_statements.proofs.build.read_fields.Goals as goal
 pub loop-body-init : goal.loop-body-init
 loop-body-init c =
     let P : List Placed → Type 0 = λ source. IsRead c.read_part.new.self c.args.alternate source in (
-      subst P (sym (append-nil (placed c.args.number 1 (chars c.args.first.now)))) (c.in_ok-read_part.ensures [] (c.new-reader.ensures c.args.alternate)),
+      subst P (sym (append-nil (placed c.args.number 1 (chars c.args.first.now)))) (c.in_ok-read_part.ensures [] c.requires),
       omega arith,
     )
 

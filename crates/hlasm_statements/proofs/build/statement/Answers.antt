@@ -1,6 +1,6 @@
 use Rattle.std.proofs.Common.{◌≡◌, ◌∙◌, ◌+◌, ◌<◌, Bool, true, false, not, ℕ, List, ◌∷◌, length, refl, sym, ap}
 use Rattle.std.specs.Prelude.{chars, nat_lt}
-use Rattle.std.specs.List.{list_all}
+use Rattle.std.specs.List.{list_all, list_any}
 use Rattle.std.specs.Borrow.{Bor}
 use Rattle.std.proofs.lemmas.List.{length-map}
 use Rattle.hlasm_statements.specs.declared.statement.Shape.TheVariants.{Plain, Blank}
@@ -8,6 +8,8 @@ use Rattle.hlasm_statements.specs.Columns.{is_blank, source_of, text_of}
 use Rattle.hlasm_statements.specs.Reading.{IsRead, bodies_of}
 use Rattle.hlasm_statements.specs.Shape.{shape_of}
 use Rattle.hlasm_statements.specs.Statements.{lines_read}
+use Rattle.hlasm_statements.specs.Faults.{has_margin_text, faults_met}
+use Rattle.hlasm_statements.proofs.ResultLaws.{IfOk-map}
 use Rattle.hlasm_statements.proofs.BuildLaws.{empty-made, filled-made, shape-comment, shape-plain, plain-is, plain-not, blank-not, blank-whole, alternate-is, read-first, read-all, all_not_blank, faults-first, faults-all}
 use Rattle.hlasm_statements.proofs.build.statement.Goals as goal
 
@@ -33,8 +35,8 @@ returns-then-is_blank c =
     let rest = bodies_of c.args.rest.now in
     let source = source_of lines_read c.args.number (first ∷ rest) in
     let plain = plain-is c.opening-shape.result (sym c.is_plain.ensures ∙ c.if-not-is_plain.false) in
-    let read : IsRead c.in_ok-standard.standard false source = read-first c.in_ok-standard.standard false c.args.number first (bodies_of c.lines_read-read.result.now) rest c.lines_read-read.ensures c.in_ok-standard.ensures in
-    let blank : list_all is_blank (text_of source) ≡ true = sym (blank-whole c.in_ok-standard.standard false source read) ∙ sym c.is_blank.ensures ∙ c.if-is_blank.true in
+    let read : IsRead c.read_fields.new.reader false source = read-first c.read_fields.new.reader false c.args.number first (bodies_of c.lines_read-read.result.now) rest c.lines_read-read.ensures c.in_ok-read_fields.ensures in
+    let blank : list_all is_blank (text_of source) ≡ true = sym (blank-whole c.read_fields.new.reader false source read) ∙ sym c.is_blank.ensures ∙ c.if-is_blank.true in
     c.without_fields-then-is_blank.ensures
     ∙ empty-made c.args.number c.in_ok-last.last c.args.is_marked first rest Blank c.of-faults.result (count c.args.rest.now c.args.number c.in_ok-last.last c.in_ok-last.ensures)
     (shape-plain first (text_of source) c.opening-shape.result true c.opening-shape.ensures plain blank) blank-not
@@ -46,12 +48,12 @@ returns-then-not-goes_on_with c =
     let rest = bodies_of c.args.rest.now in
     let source = source_of lines_read c.args.number (first ∷ rest) in
     let plain = plain-is c.opening-shape.result (sym c.is_plain.ensures ∙ c.if-not-is_plain.false) in
-    let read : IsRead c.in_ok-standard.standard false source = read-first c.in_ok-standard.standard false c.args.number first (bodies_of c.lines_read-read.result.now) rest c.lines_read-read.ensures c.in_ok-standard.ensures in
-    let some : list_all is_blank (text_of source) ≡ false = sym (blank-whole c.in_ok-standard.standard false source read) ∙ sym c.is_blank.ensures ∙ c.if-is_blank.false in
+    let read : IsRead c.read_fields.new.reader false source = read-first c.read_fields.new.reader false c.args.number first (bodies_of c.lines_read-read.result.now) rest c.lines_read-read.ensures c.in_ok-read_fields.ensures in
+    let some : list_all is_blank (text_of source) ≡ false = sym (blank-whole c.read_fields.new.reader false source read) ∙ sym c.is_blank.ensures ∙ c.if-is_blank.false in
     let shape : shape_of first (text_of source) ≡ Plain = shape-plain first (text_of source) c.opening-shape.result false c.opening-shape.ensures plain some in
     c.with_fields.ensures
-    ∙ filled-made c.args.number c.in_ok-last.last c.args.is_marked false first rest c.in_ok-standard.standard c.of-faults.result (count c.args.rest.now c.args.number c.in_ok-last.last c.in_ok-last.ensures) shape
-    (alternate-is c.args.number first rest c.in_ok-standard.standard read shape ∙ sym c.goes_on_with.ensures ∙ c.if-not-goes_on_with.true) read
+    ∙ filled-made c.args.number c.in_ok-last.last c.args.is_marked false first rest c.read_fields.new.reader c.of-faults.result (count c.args.rest.now c.args.number c.in_ok-last.last c.in_ok-last.ensures) shape
+    (alternate-is c.args.number first rest c.read_fields.new.reader read shape ∙ sym c.goes_on_with.ensures ∙ c.if-not-goes_on_with.true) read
     (faults-first c.args.is_marked first rest (bodies_of c.lines_read-read.result.now) c.have_margin_text.result _ c.of-faults.result c.lines_read-read.ensures c.have_margin_text.ensures (surplus c.args.rest.now) c.of-faults.ensures)
 
 pub returns : goal.returns
@@ -60,13 +62,15 @@ returns c =
     let rest = bodies_of c.args.rest.now in
     let source = source_of lines_read c.args.number (first ∷ rest) in
     let plain = plain-is c.opening-shape.result (sym c.is_plain.ensures ∙ c.if-not-is_plain.false) in
-    let read : IsRead c.in_ok-standard.standard false source = read-first c.in_ok-standard.standard false c.args.number first (bodies_of c.lines_read-read.result.now) rest c.lines_read-read.ensures c.in_ok-standard.ensures in
-    let some : list_all is_blank (text_of source) ≡ false = sym (blank-whole c.in_ok-standard.standard false source read) ∙ sym c.is_blank.ensures ∙ c.if-is_blank.false in
+    let read : IsRead c.read_fields.new.reader false source = read-first c.read_fields.new.reader false c.args.number first (bodies_of c.lines_read-read.result.now) rest c.lines_read-read.ensures c.in_ok-read_fields.ensures in
+    let some : list_all is_blank (text_of source) ≡ false = sym (blank-whole c.read_fields.new.reader false source read) ∙ sym c.is_blank.ensures ∙ c.if-is_blank.false in
     let shape : shape_of first (text_of source) ≡ Plain = shape-plain first (text_of source) c.opening-shape.result false c.opening-shape.ensures plain some in
     let all = source_of (length (first ∷ rest)) c.args.number (first ∷ rest) in
-    c.with_fields-2.ensures
-    ∙ filled-made c.args.number c.in_ok-last.last c.args.is_marked true first rest c.in_ok-whole.whole c.of-faults-2.result (count c.args.rest.now c.args.number c.in_ok-last.last c.in_ok-last.ensures)
+    IfOk-map c.alternate_statement.result
+    (λ s is. is.made
+    ∙ filled-made c.args.number c.in_ok-last.last c.args.is_marked true first rest is.reader (faults_met (list_any has_margin_text rest) false c.args.is_marked) (count c.args.rest.now c.args.number c.in_ok-last.last c.in_ok-last.ensures)
     (shape-plain first (text_of all) c.opening-shape.result false c.opening-shape.ensures plain (all_not_blank c.args.number first rest some))
-    (alternate-is c.args.number first rest c.in_ok-standard.standard read shape ∙ sym c.goes_on_with.ensures ∙ c.if-not-goes_on_with.false)
-    (read-all c.in_ok-whole.whole true c.args.number first rest c.in_ok-whole.ensures)
-    (faults-all c.args.is_marked first rest c.have_margin_text-2.result c.of-faults-2.result c.have_margin_text-2.ensures c.of-faults-2.ensures)
+    (alternate-is c.args.number first rest c.read_fields.new.reader read shape ∙ sym c.goes_on_with.ensures ∙ c.if-not-goes_on_with.false)
+    (read-all is.reader true c.args.number first rest is.read)
+    (faults-all c.args.is_marked first rest (list_any has_margin_text rest) (faults_met (list_any has_margin_text rest) false c.args.is_marked) refl refl))
+    c.alternate_statement.ensures

@@ -1,4 +1,4 @@
-use Rattle.std.proofs.Common.{◌≡◌, ◌∙◌, ◌<◌, [], ℕ, List, length, refl, sym, subst}
+use Rattle.std.proofs.Common.{◌≡◌, ◌∙◌, ◌<◌, [], ◌++◌, ℕ, List, length, refl, sym, ap, subst}
 use Rattle.std.specs.Prelude.{chars}
 use Rattle.std.proofs.lemmas.Bool.{eqb-true}
 use Rattle.std.proofs.lemmas.List.{nil_from_length}
@@ -26,7 +26,7 @@ returns c =
       stage = c.stage_scanned-self.ensures;
       label = refl;
       op = refl;
-      operands = c.in_ok-add.ensures.text;
+      operands = c.in_ok-add.ensures.text ∙ ap (λ front. c.args.self.now.operands ++ front) c.split_columns.ensures.front;
       label_places = refl;
       op_places = refl;
       operand_places = c.in_ok-add.ensures.places;

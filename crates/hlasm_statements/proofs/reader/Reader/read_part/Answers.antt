@@ -6,8 +6,8 @@ use Rattle.hlasm_statements.proofs.reader.Reader.read_part.Goals as goal
 
 pub loop-self-preserved : goal.loop-self-preserved
 loop-self-preserved c = (
-  has-read-more c.args.self.now c.loop-self.self c.read_run.new.self c.args.line c.args.column c.loop-self.at c.in_ok-at.at c.in_ok-count.count (chars c.args.part.now) (chars c.loop-self.rest.now) (chars c.split_columns.result.1.now)
-      c.loop-self.invariant.0 c.in_ok-count.ensures.read c.split_columns.ensures.back c.in_ok-count.ensures.fits c.in_ok-at.ensures,
+  has-read-more c.args.self.now c.loop-self.self c.read_run.new.self c.args.line c.args.column c.loop-self.at c.in_ok-at.at c.in_ok-front.front.count (chars c.args.part.now) (chars c.loop-self.rest.now) (chars c.in_ok-front.front.behind.now)
+      c.loop-self.invariant.0 c.in_ok-front.ensures.read c.in_ok-front.ensures.behind c.in_ok-front.ensures.fits c.in_ok-at.ensures,
   search rules,
 )
 
