@@ -11,3 +11,6 @@ pub mod TextWeights
 pub mod TextStackLaws
 pub mod SplitLaws
 pub mod SplitSublistLaws
+pub mod LogicGrowth
+pub mod LogicCompletions
+pub mod LogicFinds
