@@ -11,3 +11,7 @@ pub mod TextWeights
 pub mod TextStackLaws
 pub mod SplitLaws
 pub mod SplitSublistLaws
+pub mod LogicUnder
+pub mod LogicFolds
+pub mod LogicOperands
+pub mod LogicPoints
