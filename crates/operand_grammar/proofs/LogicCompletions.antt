@@ -1,40 +1,39 @@
 -- Each state of a logical expression has a rest that makes it one of exactly its weight.
-use Rattle.std.proofs.Common.{◌≡◌, ℕ, ◌+◌, ◌≤◌, Bool, true, false, List, [], ◌∷◌, ◌++◌, ◌⊎◌, inl, inr, length, refl, sym, ap, ◌∙◌, subst, arith, append_assoc}
-use Rattle.std.specs.Prelude.{◌==◌, ◌*◌, ◌&&◌, Option, Some, None, IsTrue, map, if◌then◌else◌}
+use Rattle.std.proofs.Common.{◌≡◌, ℕ, ◌+◌, ◌≤◌, Bool, true, false, List, [], ◌∷◌, ◌++◌, inl, inr, length, refl, sym, ap, ◌∙◌, subst, arith, append_assoc}
+use Rattle.std.specs.Prelude.{◌==◌, ◌*◌, ◌&&◌, Option, Some, None, map, if◌then◌else◌}
 use Rattle.std.specs.Char.{digit_value, to_ascii_uppercase}
-use Rattle.hl_base.specs.Symbols.{is_symbol_character}
 use Rattle.expression_grammar.specs.declared.character.Grammar.TheVariants.{Arithmetic}
 use Rattle.expression_grammar.specs.declared.character.Kind.TheVariants as kind
 use Rattle.expression_grammar.specs.declared.tree.Attribute.TheVariants as attribute
 use Rattle.expression_grammar.specs.declared.tree.Form.TheVariants.{Decimal}
 use Rattle.expression_grammar.specs.declared.tree.Reference.TheVariants.{Of}
 use Rattle.expression_grammar.specs.declared.tree.Comparison.{Comparison}
-use Rattle.expression_grammar.specs.declared.tree.Comparison.TheVariants.{Eq, Ne, Lt, Le, Gt, Ge}
+use Rattle.expression_grammar.specs.declared.tree.Comparison.TheVariants.{Eq, Ne, Lt, Gt}
 use Rattle.expression_grammar.specs.declared.tree.Operator.{Operator}
-use Rattle.expression_grammar.specs.declared.tree.Operator.TheVariants.{Add, Subtract, Multiply, Divide, And, Or, Xor}
-use Rattle.expression_grammar.specs.Characters.{kind_of, strength}
-use Rattle.expression_grammar.specs.Spelling as spelling
-use Rattle.expression_grammar.specs.Spelling.{Placed, placed, Piece, Gap, One, Capital, IsGap, IsOf, IsDigits, is_figure, Reads, rank, spell}
+use Rattle.expression_grammar.specs.declared.tree.Operator.TheVariants.{And, Or, Xor}
+use Rattle.expression_grammar.specs.Characters.{kind_of}
+use Rattle.expression_grammar.specs.Spelling.{Placed, placed, Piece, Gap, One, IsGap, IsDigits, is_figure, Reads, rank, spell}
 use Rattle.expression_grammar.specs.Trees.{Tree, Number as NumberTree, Variable, Pair, Paren, Not, Compared, Quoted, NoTrees, NoItems, size}
 use Rattle.expression_grammar.specs.Parts.{symbol_at}
 use Rattle.expression_grammar.specs.Reading as reading
 use Rattle.expression_grammar.specs.Reading.{State}
-use Rattle.operand_grammar.specs.Texts.{IsText, spell_text}
-use Rattle.operand_grammar.specs.TextReading.{TextState, text_weight, text_run, text_accept}
+use Rattle.operand_grammar.specs.Texts.{spell_text}
+use Rattle.operand_grammar.specs.TextReading.{TextState, text_weight}
 use Rattle.operand_grammar.specs.TextStanding.{TextHolds}
 use Rattle.operand_grammar.specs.Logics.{IsNumber, IsCharacters, IsLogical, IsTruth, Joined, Negated, operator_word, comparison_word, not_word, capitals, touches_behind, touches_ahead}
-use Rattle.operand_grammar.specs.LogicReading.{Open, Negation, Both, Group, Against, Point, Want, MaybeNot, Letters, Number, Text, Ended, Comparing, Right, Closed, Had, LogicState, compares, open_size, point_weight, logic_weight}
+use Rattle.operand_grammar.specs.LogicReading.{Open, Negation, Both, Group, Against, Point, Want, MaybeNot, Letters, Number, Text, Ended, Comparing, Right, Closed, Had, LogicState, open_size, point_weight, logic_weight}
 use Rattle.operand_grammar.specs.LogicStanding.{Takes, AreOpen, Opened, Under, Begun, Parenthesized, IsSide, Initial, Partly, PointReads, StateReads, LogicHolds, behind_word, is_empty}
-use Rattle.expression_grammar.proofs.Pieces.{append-nil, reads-join, reads-one, reads-kind_gap, one_of, gap-longer}
+use Rattle.expression_grammar.proofs.Pieces.{append-nil, reads-join, reads-kind_gap, one_of, gap-longer}
 use Rattle.expression_grammar.proofs.Appends.{spell-over}
-use Rattle.expression_grammar.proofs.CharacterLaws.{upper-again}
 use Rattle.expression_grammar.proofs.Steps.{have-join}
 use Rattle.expression_grammar.proofs.Completions.{completes, placed-append}
 use Rattle.operand_grammar.proofs.TextPlain.{test}
 use Rattle.operand_grammar.proofs.TextSteps.{AllTextHold, text_runs}
 use Rattle.operand_grammar.proofs.TextCompletions.{text_ends}
 use Rattle.operand_grammar.proofs.TextFinds.{text_accept-spells}
-use Rattle.operand_grammar.proofs.LogicGrowth.{some-behind, keeps-some, keeps-apart, joined-more, joined-some, opened-some, Innermost, innermost, under-became, takes-high, number-rank}
+use Rattle.operand_grammar.proofs.LogicUnder.{behind-last, some-right, some-last, ahead-kept, capitals-append, comparison-some, joined-some, opened-some, under-became, takes-high}
+use Rattle.operand_grammar.proofs.LogicFolds.{number-rank, characters-blank}
+use Rattle.operand_grammar.proofs.LogicGrowth.{joined-more, Innermost, innermost}
 
 -- a rest, and the tree of the whole
 pub record LogicCompletes (at : ℕ) (text : List Placed) (wanted : ℕ) : Type 0 where
@@ -118,7 +117,7 @@ truth-completes (Group ∷ layers) at tree text t a h =
     same-size at text (open_size layers + (1 + size tree)) (1 + open_size layers + size tree) (omega arith)
     (more-completes at text (41 ∷ []) (open_size layers + (1 + size tree))
     (truth-completes layers (at + 1) (Paren tree) (text ++ p ∷ []) (takes-high layers 7 (omega arith) a) a
-    (i.back (IsTruth (Paren tree)) (p ∷ []) (paren-truth tree i.part p kind-41 i.is) (keeps-some i.part (p ∷ []) (opened-some (IsTruth tree) i.part i.is)))))
+    (i.back (IsTruth (Paren tree)) (p ∷ []) (paren-truth tree i.part p kind-41 i.is) (ahead-kept i.part (p ∷ []) (opened-some (IsTruth tree) i.part i.is)))))
 
 -- what stands innermost becomes a truth with a rest
 grown-completes : (layers : List Open) (IsPart : List Placed → Type 0) (at : ℕ) (text : List Placed) (i : Innermost layers IsPart text) (rest : List ℕ) (tree : Tree) (wanted : ℕ) → AreOpen layers →
@@ -130,6 +129,11 @@ grown-completes layers IsPart at text i rest tree wanted a t k r e =
     (truth-completes layers (at + length rest) tree (text ++ placed at rest) (takes-high layers (rank tree) r a) a (i.back (IsTruth tree) (placed at rest) t k)))
 
 -- What is to come where an operand is wanted: a blank, and a number or a text.
+
+-- nothing that touches a word comes first
+keeps-apart : (front back : List Placed) → touches_ahead back ≡ false → touches_ahead front ≡ false → touches_ahead (front ++ back) ≡ false
+keeps-apart [] back e k = e
+keeps-apart (p ∷ front) back e k = k
 
 abbrev side_rest : Bool → List ℕ
 side_rest false = 32 ∷ 48 ∷ []
@@ -197,13 +201,8 @@ compared-logical : (is_text : Bool) (comparison : Comparison) (left right : Tree
 compared-logical false comparison left right text j = inl j
 compared-logical true comparison left right text j = inr j
 
-comparison-some : (IsLeft IsPart : List Placed → Type 0) (comparison : Comparison) (text : List Placed) → Joined IsLeft (comparison_word comparison) IsPart text → is_empty text ≡ false
-comparison-some IsLeft IsPart Eq text j = joined-some IsLeft IsPart 69 (81 ∷ []) text j
-comparison-some IsLeft IsPart Ne text j = joined-some IsLeft IsPart 78 (69 ∷ []) text j
-comparison-some IsLeft IsPart Lt text j = joined-some IsLeft IsPart 76 (84 ∷ []) text j
-comparison-some IsLeft IsPart Le text j = joined-some IsLeft IsPart 76 (69 ∷ []) text j
-comparison-some IsLeft IsPart Gt text j = joined-some IsLeft IsPart 71 (84 ∷ []) text j
-comparison-some IsLeft IsPart Ge text j = joined-some IsLeft IsPart 71 (69 ∷ []) text j
+compared-some : (IsLeft IsPart : List Placed → Type 0) (comparison : Comparison) (text : List Placed) → Joined IsLeft (comparison_word comparison) IsPart text → is_empty text ≡ false
+compared-some IsLeft IsPart comparison text j = joined-some IsLeft IsPart (comparison_word comparison) text j (comparison-some comparison j.letters j.named)
 
 -- A truth, or an N, is wanted.
 
@@ -255,7 +254,7 @@ maybe-completes layers first at text a h =
     let tree : Tree = Variable (Of attribute.Number) (symbol_at (at + 1) (65 ∷ [])) NoTrees in
     let e : i.part ++ placed at rest ≡ i.is.0 ++ first ∷ placed at rest = ap (λ xs. xs ++ placed at rest) i.is.1 ∙ append_assoc i.is.0 (first ∷ []) (placed at rest) in
     grown-completes layers (PointReads (behind_word layers) (MaybeNot first)) at text i rest tree 1 a (inl (subst (IsNumber tree) (sym e) (count-number i.is.0 first at i.is.2 i.is.3)))
-    (keeps-some i.part (placed at rest) (ap is_empty i.is.1 ∙ some-behind i.is.0 (first ∷ []) refl)) (omega arith) refl
+    (ahead-kept i.part (placed at rest) (ap is_empty i.is.1 ∙ some-last i.is.0 first)) (omega arith) refl
 
 -- Letters of an operator word are to come.
 
@@ -268,10 +267,6 @@ operator-upper And = refl
 operator-upper Or = refl
 operator-upper Xor = refl
 operator-upper _ = refl
-
-capitals-append : (front back : List Placed) → capitals (front ++ back) ≡ capitals front ++ capitals back
-capitals-append [] back = refl
-capitals-append (p ∷ front) back = ap (λ cs. to_ascii_uppercase p.code ∷ cs) (capitals-append front back)
 
 capitals-placed : (at : ℕ) (rest : List ℕ) → capitals (placed at rest) ≡ map to_ascii_uppercase rest
 capitals-placed at [] = refl
@@ -293,7 +288,7 @@ partly-all IsLeft word rest at text l =
     ∙ ap (λ xs. xs ++ placed (at + length rest) (32 ∷ 48 ∷ [])) (append_assoc l.left l.letters (placed at rest))
 
 partly-some : (IsLeft : List Placed → Type 0) (word rest : List ℕ) (text : List Placed) → Partly IsLeft word rest text → is_empty text ≡ false
-partly-some IsLeft word rest text l = ap is_empty l.all ∙ some-behind l.left l.letters l.some
+partly-some IsLeft word rest text l = ap is_empty l.all ∙ some-right l.left l.letters l.some
 
 partly-negated : (rest : List ℕ) (at : ℕ) (text : List Placed) → Partly (IsGap Arithmetic) not_word rest text → Negated (IsTruth (NumberTree Decimal 0)) (text ++ placed at (rest ++ 32 ∷ 48 ∷ []))
 partly-negated rest at text l =
@@ -331,7 +326,7 @@ letters-completes (Negation ∷ layers) rest at text a h =
     let more : List ℕ = rest ++ 32 ∷ 48 ∷ [] in
     more-completes at text more (open_size (Negation ∷ layers) + 1)
     (truth-completes (Negation ∷ layers) (at + length more) (NumberTree Decimal 0) (text ++ placed at more) (omega arith) a
-    (i.back (Negated (IsTruth (NumberTree Decimal 0))) (placed at more) (partly-negated rest at i.part i.is) (keeps-some i.part (placed at more) (partly-some (IsGap Arithmetic) not_word rest i.part i.is))))
+    (i.back (Negated (IsTruth (NumberTree Decimal 0))) (placed at more) (partly-negated rest at i.part i.is) (ahead-kept i.part (placed at more) (partly-some (IsGap Arithmetic) not_word rest i.part i.is))))
 letters-completes (Both operator left ∷ layers) rest at text a h =
     let IsLeft : List Placed → Type 0 = λ part. IsTruth left part × (touches_behind false part ≡ false) in
     let i = innermost layers (Partly IsLeft (operator_word operator) rest) text a.3 h in
@@ -339,7 +334,7 @@ letters-completes (Both operator left ∷ layers) rest at text a h =
     more-completes at text more (open_size (Both operator left ∷ layers) + 1)
     (truth-completes (Both operator left ∷ layers) (at + length more) (NumberTree Decimal 0) (text ++ placed at more) (takes-high (Both operator left ∷ layers) 7 (omega arith) a) a
     (i.back (Joined (IsTruth left) (operator_word operator) (IsTruth (NumberTree Decimal 0))) (placed at more) (partly-joined operator left rest at i.part i.is)
-    (keeps-some i.part (placed at more) (partly-some IsLeft (operator_word operator) rest i.part i.is))))
+    (ahead-kept i.part (placed at more) (partly-some IsLeft (operator_word operator) rest i.part i.is))))
 
 -- Within a number.
 
@@ -351,7 +346,7 @@ number-completes layers None inner touch at text a h =
     let c = completes Arithmetic inner at i.part i.is.0.0 in
     let n : IsNumber c.tree (i.part ++ placed at c.rest) = record { fits = c.fits; reads = c.reads } in
     let exact = c.exact in
-    grown-completes layers IsPart at text i c.rest c.tree (0 + reading.weight inner) a (inl n) (keeps-some i.part (placed at c.rest) i.is.0.1) (omega (arith, number-rank c.tree (i.part ++ placed at c.rest) n)) (omega arith)
+    grown-completes layers IsPart at text i c.rest c.tree (0 + reading.weight inner) a (inl n) (ahead-kept i.part (placed at c.rest) i.is.0.1) (omega (arith, number-rank c.tree (i.part ++ placed at c.rest) n)) (omega arith)
 number-completes layers (Some against) inner touch at text a h =
     let IsPart : List Placed → Type 0 = PointReads (behind_word layers) (Number (Some against) inner touch) in
     let i = innermost layers IsPart text a h in
@@ -361,8 +356,8 @@ number-completes layers (Some against) inner touch at text a h =
     let IsInner : List Placed → Type 0 = λ part. reading.Holds Arithmetic inner part × (is_empty part ≡ false) in
     let word : List ℕ = comparison_word against.comparison in
     grown-completes layers IsPart at text i c.rest (Compared against.comparison against.left c.tree) (size against.left + 1 + reading.weight inner) a
-    (inr (inl (joined-more (IsNumber against.left) IsInner (IsNumber c.tree) word i.part (placed at c.rest) j n (keeps-some j.right (placed at c.rest) j.second.1))))
-    (keeps-some i.part (placed at c.rest) (comparison-some (IsNumber against.left) IsInner against.comparison i.part j)) (omega arith) (ap (λ k. size against.left + 1 + k) c.exact)
+    (inr (inl (joined-more (IsNumber against.left) IsInner (IsNumber c.tree) word i.part (placed at c.rest) j n (ahead-kept j.right (placed at c.rest) j.second.1))))
+    (ahead-kept i.part (placed at c.rest) (compared-some (IsNumber against.left) IsInner against.comparison i.part j)) (omega arith) (ap (λ k. size against.left + 1 + k) c.exact)
 
 -- Texts.
 
@@ -394,25 +389,6 @@ characters-end inner at part b =
       exact = e.exact;
     }
 
--- a text with a blank more behind it
-characters-blank : (tree : Tree) (part : List Placed) (at : ℕ) → IsCharacters tree part → IsCharacters tree (part ++ record { at = at; code = 32 } ∷ [])
-characters-blank tree part at c =
-    let blank : Placed = record { at = at; code = 32 } in
-    record {
-      before = c.before;
-      core = c.core;
-      behind = c.behind ++ blank ∷ [];
-      all = ap (λ xs. xs ++ blank ∷ []) c.all ∙ append_assoc (c.before ++ c.core) c.behind (blank ∷ []);
-      blank_before = c.blank_before;
-      blank_behind = gap-blank c.behind at c.blank_behind;
-      fits = c.fits;
-      reads = c.reads;
-    }
-
-behind-last : (before : Bool) (part : List Placed) (p : Placed) → touches_behind before (part ++ p ∷ []) ≡ is_symbol_character p.code
-behind-last before [] p = refl
-behind-last before (q ∷ part) p = behind-last (is_symbol_character q.code) part p
-
 -- a comparison of a text and a text that is empty
 text-compared : (tree : Tree) (part : List Placed) (at : ℕ) → IsCharacters tree part → IsLogical (Compared Eq tree (Quoted NoItems)) (part ++ placed at (32 ∷ 69 ∷ 81 ∷ 32 ∷ 39 ∷ 39 ∷ []))
 text-compared tree part at c =
@@ -424,10 +400,10 @@ text-compared tree part at c =
       letters = letters;
       right = right;
       all = sym (append_assoc part (blank ∷ []) (letters ++ right)) ∙ sym (append_assoc (part ++ blank ∷ []) letters right);
-      first = characters-blank tree part at c;
+      first = characters-blank tree part blank kind-32 c;
       second = empty-characters [] (at + 1 + 1 + 1) tt;
       named = refl;
-      apart_left = behind-last false part blank;
+      apart_left = behind-last part blank;
       apart_right = refl;
     })
 
@@ -444,7 +420,7 @@ text-completes layers None inner touch at text a h =
     let exact = c.exact in
     grown-completes layers IsPart at text i (c.rest ++ last) tree (2 + text_weight inner) a
     (inr (subst (IsLogical tree) same (text-compared c.tree (i.part ++ placed at c.rest) (at + length c.rest) c.is)))
-    (keeps-some i.part (placed at (c.rest ++ last)) i.is.0.1) (omega arith) (omega arith)
+    (ahead-kept i.part (placed at (c.rest ++ last)) i.is.0.1) (omega arith) (omega arith)
 text-completes layers (Some against) inner touch at text a h =
     let IsPart : List Placed → Type 0 = PointReads (behind_word layers) (Text (Some against) inner touch) in
     let i = innermost layers IsPart text a h in
@@ -453,8 +429,8 @@ text-completes layers (Some against) inner touch at text a h =
     let IsInner : List Placed → Type 0 = λ part. Begun inner part × (is_empty part ≡ false) in
     let word : List ℕ = comparison_word against.comparison in
     grown-completes layers IsPart at text i c.rest (Compared against.comparison against.left c.tree) (size against.left + 1 + text_weight inner) a
-    (inr (inr (joined-more (IsCharacters against.left) IsInner (IsCharacters c.tree) word i.part (placed at c.rest) j c.is (keeps-some j.right (placed at c.rest) j.second.1))))
-    (keeps-some i.part (placed at c.rest) (comparison-some (IsCharacters against.left) IsInner against.comparison i.part j)) (omega arith) (ap (λ k. size against.left + 1 + k) c.exact)
+    (inr (inr (joined-more (IsCharacters against.left) IsInner (IsCharacters c.tree) word i.part (placed at c.rest) j c.is (ahead-kept j.right (placed at c.rest) j.second.1))))
+    (ahead-kept i.part (placed at c.rest) (compared-some (IsCharacters against.left) IsInner against.comparison i.part j)) (omega arith) (ap (λ k. size against.left + 1 + k) c.exact)
 
 ended-completes : (layers : List Open) (tree : Tree) (at : ℕ) (text : List Placed) → AreOpen layers → Under layers (PointReads (behind_word layers) (Ended tree)) text → LogicCompletes at text (open_size layers + (size tree + 2))
 ended-completes layers tree at text a h =
@@ -508,7 +484,7 @@ comparing-completes layers letter is_text left at text a h =
     let one = side-size is_text in
     grown-completes layers IsPart at text i rest (Compared s.comparison left (side_tree is_text)) (size left + 2) a
     (inr (compared-logical is_text s.comparison left (side_tree is_text) (i.part ++ placed at rest) (initial-joined letter is_text left i.part at s n)))
-    (keeps-some i.part (placed at rest) (ap is_empty n.all ∙ some-behind n.side (n.first ∷ []) refl)) (omega arith) (omega arith)
+    (ahead-kept i.part (placed at rest) (ap is_empty n.all ∙ some-last n.side n.first)) (omega arith) (omega arith)
 
 right-completes : (layers : List Open) (is_text : Bool) (against : Against) (touch : Bool) (at : ℕ) (text : List Placed) → AreOpen layers →
     Under layers (PointReads (behind_word layers) (Right is_text against touch)) text → LogicCompletes at text (open_size layers + (size against.left + 2))
@@ -523,7 +499,7 @@ right-completes layers is_text against touch at text a h =
     grown-completes layers IsPart at text i rest (Compared against.comparison against.left tree) (size against.left + 2) a
     (inr (compared-logical is_text against.comparison against.left tree (i.part ++ placed at rest)
     (joined-more (IsSide is_text against.left) IsBlank (IsSide is_text tree) (comparison_word against.comparison) i.part (placed at rest) j (side-is is_text j.right at j.second.0) (keeps-apart j.right (placed at rest) (side-apart is_text at)))))
-    (keeps-some i.part (placed at rest) (comparison-some (IsSide is_text against.left) IsBlank against.comparison i.part j)) (omega arith) (omega arith)
+    (ahead-kept i.part (placed at rest) (compared-some (IsSide is_text against.left) IsBlank against.comparison i.part j)) (omega arith) (omega arith)
 
 -- What is whole.
 
