@@ -11,3 +11,10 @@ pub mod TextWeights
 pub mod TextStackLaws
 pub mod SplitLaws
 pub mod SplitSublistLaws
+pub mod LogicUnder
+pub mod LogicFolds
+pub mod LogicOperands
+pub mod LogicPoints
+pub mod LogicGrowth
+pub mod LogicCompletions
+pub mod LogicFinds

@@ -44,7 +44,7 @@ reached-holds ps state e = subst (λ (s : Option TextState). AllTextHold s ps) e
 spells-same : (found tree : Tree) (cs : List Placed) → Some found ≡ Some tree → IsText found → Reads Arithmetic (spell_text found []) cs → IsText tree × Reads Arithmetic (spell_text tree []) cs
 spells-same found tree cs e i r = let same : found ≡ tree = cc in (subst IsText same i, subst (λ x. Reads Arithmetic (spell_text x []) cs) same r)
 
-text_accept-spells : (cs : List Placed) (state : TextState) (tree : Tree) → TextHolds state cs → text_accept state ≡ Some tree → IsText tree × Reads Arithmetic (spell_text tree []) cs
+pub text_accept-spells : (cs : List Placed) (state : TextState) (tree : Tree) → TextHolds state cs → text_accept state ≡ Some tree → IsText tree × Reads Arithmetic (spell_text tree []) cs
 unfolding text_accept
 text_accept-spells cs (Naming (AsType left) place name) tree h e =
     spells-same (typed left (symbol_at place name) NoTrees) tree cs e (typed-text left (symbol_at place name) NoTrees h.stands tt)

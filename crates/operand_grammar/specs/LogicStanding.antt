@@ -10,7 +10,7 @@ use Rattle.expression_grammar.specs.Spelling.{Placed, Gap, One, IsGap, IsOf, Rea
 use Rattle.expression_grammar.specs.Reading as reading
 use Rattle.expression_grammar.specs.Trees.{Tree, Paren}
 use Rattle.operand_grammar.specs.Logics.{IsNumber, IsCharacters, IsTruth, IsLogical, Joined, Negated, operator_word, comparison_word, is_logical, not_word, capitals, touches_behind, touches_ahead}
-use Rattle.operand_grammar.specs.LogicReading.{Open, Negation, Both, Group, Against, Point, Want, MaybeNot, Letters, Number, Text, Ended, Comparing, Right, Closed, Had, LogicState}
+use Rattle.operand_grammar.specs.LogicReading.{Open, Negation, Both, Group, Against, Point, Want, MaybeNot, Letters, Number, Text, Ended, Comparing, Right, Closed, Had, LogicState, compares}
 use Rattle.operand_grammar.specs.TextStanding.{TextHolds}
 use Rattle.operand_grammar.specs.TextReading.{TextState}
 
@@ -102,7 +102,7 @@ PointReads word (Letters rest) text = ⊥
 PointReads word (Number against inner touch) text = Behind false against (λ part. reading.Holds Arithmetic inner part × (is_empty part ≡ false)) text × (touch ≡ touches_behind false text)
 PointReads word (Text against inner touch) text = Behind true against (λ part. Begun inner part × (is_empty part ≡ false)) text × (touch ≡ touches_behind false text)
 PointReads word (Ended tree) text = IsCharacters tree text × (touches_behind false text ≡ false)
-PointReads word (Comparing letter is_text left) text = Initial letter is_text left text
+PointReads word (Comparing letter is_text left) text = (compares letter ≡ true) × Initial letter is_text left text
 PointReads word (Right is_text against touch) text = Behind is_text (Some against) (λ part. IsGap Arithmetic part × (touch ≡ is_empty part)) text
 PointReads word (Closed inner) text = Parenthesized inner text × (touches_behind false text ≡ false)
 PointReads word (Had tree) text = IsLogical tree text × (4 ≤ rank tree) × (touches_behind false text ≡ false)
