@@ -15,3 +15,4 @@ pub mod LogicUnder
 pub mod LogicFolds
 pub mod LogicOperands
 pub mod LogicPoints
+pub mod LogicSteps

@@ -111,10 +111,10 @@ closed-holds tree touch layers p text a e r =
     }
 
 -- how strongly a number and another truth that stand above others bind
-number-high : (tree : Tree) (touch : Bool) (layers : List Open) (text : List Placed) → Under layers (λ part. IsNumber tree part × (touches_behind false part ≡ touch)) text → 4 ≤ rank tree
+pub number-high : (tree : Tree) (touch : Bool) (layers : List Open) (text : List Placed) → Under layers (λ part. IsNumber tree part × (touches_behind false part ≡ touch)) text → 4 ≤ rank tree
 number-high tree touch layers text r = under-fact layers (Ends IsNumber tree touch) (4 ≤ rank tree) text (λ u w. omega (arith, number-rank tree u w.0)) r
 
-truth-high : (tree : Tree) (touch : Bool) (layers : List Open) (text : List Placed) → Under layers (Whole (TruthOne tree) touch) text → 4 ≤ rank tree
+pub truth-high : (tree : Tree) (touch : Bool) (layers : List Open) (text : List Placed) → Under layers (Whole (TruthOne tree) touch) text → 4 ≤ rank tree
 truth-high tree touch layers text r = under-fact layers (Whole (TruthOne tree) touch) (4 ≤ rank tree) text (λ u w. w.0.1) r
 
 closes-both : (operator : Operator) (left tree : Tree) (touch : Bool) (layers : List Open) (p : Placed) (text : List Placed) → AreOpen (Both operator left ∷ layers) → kind_of p.code ≡ kind.Close →

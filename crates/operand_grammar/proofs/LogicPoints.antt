@@ -63,10 +63,10 @@ number-next against inner next touch layers p text s a r =
           (λ u b. (grows u b.0, sym (behind-last u p))) (λ w u b t. ahead-kept u (p ∷ []) (against-some false against (NumberPart inner) u (λ v h. h.1) b.0) t) r;
     }
 
-number-of : (inner : State) (tree : Tree) (text : List Placed) → reading.accept Arithmetic inner ≡ Some tree → Holds Arithmetic inner text → IsNumber tree text
+pub number-of : (inner : State) (tree : Tree) (text : List Placed) → reading.accept Arithmetic inner ≡ Some tree → Holds Arithmetic inner text → IsNumber tree text
 number-of inner tree text e h = let s = accept-spells Arithmetic text inner tree h e in record { fits = s.0; reads = s.1 }
 
-side-reads : (against : Option Against) (inner : State) (tree : Tree) (text : List Placed) → reading.accept Arithmetic inner ≡ Some tree → Behind false against (NumberPart inner) text → OperandReads (number_side against tree) text
+pub side-reads : (against : Option Against) (inner : State) (tree : Tree) (text : List Placed) → reading.accept Arithmetic inner ≡ Some tree → Behind false against (NumberPart inner) text → OperandReads (number_side against tree) text
 side-reads None inner tree text e b = number-of inner tree text e b.0
 side-reads (Some against) inner tree text e b = (
   inl (record {
@@ -122,7 +122,7 @@ TextPart inner part = Begun inner part × (is_empty part ≡ false)
 text_next-holds : (inner next : TextState) (text : List Placed) (p : Placed) → text_step inner p ≡ Some next → TextHolds inner text → TextHolds next (text ++ p ∷ [])
 text_next-holds inner next text p s h = subst (λ (found : Option TextState). AllTextHold found (text ++ p ∷ [])) s (text_steps inner p text h)
 
-begun-next : (inner next : TextState) (text : List Placed) (p : Placed) → text_step inner p ≡ Some next → Begun inner text → Begun next (text ++ p ∷ [])
+pub begun-next : (inner next : TextState) (text : List Placed) (p : Placed) → text_step inner p ≡ Some next → Begun inner text → Begun next (text ++ p ∷ [])
 begun-next inner next text p s b =
     record {
       before = b.before;
@@ -149,7 +149,7 @@ characters-of inner tree text e b =
     let s = text_accept-spells b.core inner tree b.holds e in
     record { before = b.before; core = b.core; behind = []; all = b.all ∙ sym (append-nil (b.before ++ b.core)); blank_before = b.blank; blank_behind = tt; fits = s.0; reads = s.1 }
 
-text_side-reads : (against : Option Against) (inner : TextState) (tree : Tree) (text : List Placed) → text_accept inner ≡ Some tree → Behind true against (TextPart inner) text → OperandReads (text_side against tree) text
+pub text_side-reads : (against : Option Against) (inner : TextState) (tree : Tree) (text : List Placed) → text_accept inner ≡ Some tree → Behind true against (TextPart inner) text → OperandReads (text_side against tree) text
 text_side-reads None inner tree text e b = characters-of inner tree text e b.0
 text_side-reads (Some against) inner tree text e b = (
   inr (record {
