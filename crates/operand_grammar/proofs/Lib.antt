@@ -16,3 +16,6 @@ pub mod LogicFolds
 pub mod LogicOperands
 pub mod LogicPoints
 pub mod LogicSteps
+pub mod LogicGrowth
+pub mod LogicCompletions
+pub mod LogicFinds
