@@ -16,6 +16,5 @@ pub mod LogicFolds
 pub mod LogicOperands
 pub mod LogicPoints
 pub mod LogicSteps
-pub mod LogicGrowth
 pub mod LogicCompletions
 pub mod LogicFinds

@@ -1,6 +1,6 @@
 -- Each character keeps what is known of the text of a logical expression so far.
-use Rattle.std.proofs.Common.{◌≡◌, ℕ, ◌≤◌, Bool, true, false, List, [], ◌∷◌, ◌++◌, refl, sym, ap, ◌∙◌, subst, arith, append_assoc, inl, inr}
-use Rattle.std.specs.Prelude.{◌==◌, ◌&&◌, Option, Some, None, IsTrue, option_map, option_and_then, if◌then◌else◌}
+use Rattle.std.proofs.Common.{◌≡◌, ℕ, Bool, true, false, List, [], ◌∷◌, ◌++◌, refl, sym, ap, ◌∙◌, subst, arith, append_assoc, inl, inr}
+use Rattle.std.specs.Prelude.{◌==◌, ◌&&◌, Option, Some, None, option_map, option_and_then, if◌then◌else◌}
 use Rattle.std.specs.Char.{to_ascii_uppercase}
 use Rattle.hl_base.specs.Symbols.{is_symbol_character}
 use Rattle.expression_grammar.specs.declared.character.Grammar.TheVariants.{Arithmetic}
@@ -11,22 +11,22 @@ use Rattle.expression_grammar.specs.declared.tree.Comparison.TheVariants.{Eq, Ne
 use Rattle.expression_grammar.specs.declared.tree.Operator.{Operator}
 use Rattle.expression_grammar.specs.Characters.{kind_of}
 use Rattle.expression_grammar.specs.Trees.{Tree, Paren}
-use Rattle.expression_grammar.specs.Spelling.{Placed, Gap, One, IsGap, Reads, rank, spell}
+use Rattle.expression_grammar.specs.Spelling.{Placed, Gap, IsGap, Reads, rank, spell}
 use Rattle.expression_grammar.specs.Reading as reading
 use Rattle.expression_grammar.specs.Reading.{State, Want as WantTerm, Have, Holds}
-use Rattle.operand_grammar.specs.Logics.{IsTruth, Joined, Negated, operator_word, comparison_word, is_logical, not_word, capitals, touches_behind, touches_ahead}
+use Rattle.operand_grammar.specs.Logics.{IsTruth, Joined, Negated, operator_word, comparison_word, not_word, capitals, touches_behind, touches_ahead}
 use Rattle.operand_grammar.specs.LogicReading.{Open, Negation, Both, Group, Against, Point, Want, MaybeNot, Letters, Number, Text, Ended, Comparing, Right, Closed, Had, LogicState, at_point, Operand, NumberOne, TruthOne, TextOne, number_side, text_side, settled, truth_of, LogicFolded, logic_fold, on_number, on_text, letter_begun, touching, truth_apart, truth_begun, right_apart, right_begun, text_begun, number_begun, after_first, spelling, after_letters, least_or, comparison_of, after_comparing, after_closed, point_step, logic_step, whole_over, whole, logic_accept, logic_run}
 use Rattle.operand_grammar.specs.LogicStanding.{AreOpen, Opened, Under, behind_word, is_empty, Parenthesized, IsSide, Initial, PointReads, Partly, WordReads, StateReads, LogicHolds}
-use Rattle.operand_grammar.specs.TextReading.{TextState, WantPart, WantQuote, text_step, text_accept}
+use Rattle.operand_grammar.specs.TextReading.{TextState, WantQuote, text_step, text_accept}
 use Rattle.operand_grammar.specs.TextStanding.{TextHolds}
 use Rattle.expression_grammar.proofs.Appends.{spell-over}
 use Rattle.expression_grammar.proofs.Pieces.{append-nil, reads-join, gap-longer}
 use Rattle.expression_grammar.proofs.Steps.{AllHold, runs}
 use Rattle.operand_grammar.proofs.TextPlain.{test, and-last}
-use Rattle.operand_grammar.proofs.LogicUnder.{open-apart, blank-apart, ahead-apart, ahead-kept, behind-last, some-left, some-right, some-last, capitals-append, comparison-some, joined-some, joined-grows, under-grows, under-became, takes-high}
-use Rattle.operand_grammar.proofs.LogicFolds.{Ends, Folds, fold-truth, truth-some, number-rank}
-use Rattle.operand_grammar.proofs.LogicOperands.{AllLogicHold, OperandReads, Whole, behind_one-holds, number-high, truth-high}
-use Rattle.operand_grammar.proofs.LogicPoints.{gap-holds, begun-next, number-holds, text-holds, number_begun-holds, text_begun-holds, number-first, part-first, number-of, side-reads, text_side-reads, TextPart}
+use Rattle.operand_grammar.proofs.LogicUnder.{open-apart, blank-apart, ahead-apart, ahead-kept, behind-last, some-left, some-right, some-last, capitals-append, comparison-some, joined-some, partly-some, joined-more, under-grows, under-became, takes-high}
+use Rattle.operand_grammar.proofs.LogicFolds.{Ends, Folds, fold-truth}
+use Rattle.operand_grammar.proofs.LogicOperands.{AllLogicHold, Whole, behind_one-holds, number-high, truth-high}
+use Rattle.operand_grammar.proofs.LogicPoints.{gap-holds, begun-next, number-holds, text-holds, number_begun-holds, text_begun-holds, number-first, part-first, number-of, side-reads, text_side-reads, NumberPart, TextPart}
 
 -- Where a truth is wanted.
 
@@ -56,7 +56,7 @@ want-letter touch layers p text n a r =
     let by_t : (b : Bool) → (letter == 84) ≡ b → AllLogicHold (if b then text_begun None p layers else number_begun None p layers) (text ++ p ∷ []) =
     elim [ true ↦ λ t. want-text touch layers p text n a r | false ↦ λ t. want-number touch layers p text n a r ] in
     let by_n : (b : Bool) → (letter == 78) ≡ b →
-        AllLogicHold (if b then Some (at_point layers (MaybeNot p)) else (if letter == 84 then text_begun None p layers else number_begun None p layers)) (text ++ p ∷ []) =
+    AllLogicHold (if b then Some (at_point layers (MaybeNot p)) else (if letter == 84 then text_begun None p layers else number_begun None p layers)) (text ++ p ∷ []) =
     elim [
       | true ↦ λ t. record {
         ordered = a;
@@ -157,17 +157,10 @@ partly-grows IsLeft word rest wanted text p e q =
           ∙ ap (λ c. capitals q.letters ++ c ∷ rest) e ∙ q.named;
     }
 
-partly-some : (IsLeft : List Placed → Type 0) (word rest : List ℕ) (text : List Placed) → Partly IsLeft word rest text → is_empty text ≡ false
-partly-some IsLeft word rest text q = ap is_empty q.all ∙ some-right q.left q.letters q.some
-
-nil-append : (cs : List ℕ) → cs ++ [] ≡ cs
-nil-append [] = refl
-nil-append (c ∷ cs) = ap (λ ds. c ∷ ds) (nil-append cs)
-
 -- a whole NOT, and a whole operator
 not-whole : (text : List Placed) → Partly (IsGap Arithmetic) not_word [] text → Negated (PointReads true (Want true)) text
 not-whole text q =
-    record { before = q.left; letters = q.letters; operand = []; all = q.all ∙ sym (append-nil (q.left ++ q.letters)); blank = q.first; named = sym (nil-append (capitals q.letters)) ∙ q.named; is = (tt, refl); apart = refl }
+    record { before = q.left; letters = q.letters; operand = []; all = q.all ∙ sym (append-nil (q.left ++ q.letters)); blank = q.first; named = sym (append-nil (capitals q.letters)) ∙ q.named; is = (tt, refl); apart = refl }
 
 both-whole : (operator : Operator) (left : Tree) (text : List Placed) → Partly (Ends IsTruth left false) (operator_word operator) [] text →
     Joined (IsTruth left) (operator_word operator) (PointReads true (Want true)) text
@@ -179,7 +172,7 @@ both-whole operator left text q =
       all = q.all ∙ sym (append-nil (q.left ++ q.letters));
       first = q.first.0;
       second = (tt, refl);
-      named = sym (nil-append (capitals q.letters)) ∙ q.named;
+      named = sym (append-nil (capitals q.letters)) ∙ q.named;
       apart_left = q.first.1;
       apart_right = refl;
     }
@@ -322,8 +315,8 @@ right-blank is_text against touch layers p text a e r =
     record {
       ordered = a;
       reads = under-grows layers (PointReads (behind_word layers) (Right is_text against touch)) (PointReads (behind_word layers) (Right is_text against false)) text (p ∷ []) a
-          (λ u j. joined-grows (IsSide is_text against.left) (RightPart touch) (RightPart false) (comparison_word against.comparison) u (p ∷ [])
-          (λ v w. (gap-longer Arithmetic p refl e v w.0, sym (some-last v p))) (λ v w h. ahead-apart v p (blank-apart p.code e) h) j)
+          (λ u j. joined-more (IsSide is_text against.left) (RightPart touch) (RightPart false) (comparison_word against.comparison) u (p ∷ []) j
+          (gap-longer Arithmetic p refl e j.right j.second.0, sym (some-last j.right p)) (ahead-apart j.right p (blank-apart p.code e)))
           (λ b u j h. ahead-kept u (p ∷ []) (right-some is_text against touch u j) h) r;
     }
 
@@ -332,13 +325,13 @@ right-operand : (is_text : Bool) (against : Against) (touch : Bool) (layers : Li
     AllLogicHold (if is_text then text_begun (Some against) p layers else number_begun (Some against) p layers) (text ++ p ∷ [])
 right-operand false against touch layers p text n a r =
     number_begun-holds (Some against) (PointReads (behind_word layers) (Right false against touch)) layers p text a
-    (λ next s u j. joined-grows (IsSide false against.left) (RightPart touch) (λ part. Holds Arithmetic next part × (is_empty part ≡ false)) (comparison_word against.comparison) u (p ∷ [])
-    (λ v w. number-first next v p s w.0) (λ v w h. right-ahead touch p v n w.1 h) j)
+    (λ next s u j. joined-more (IsSide false against.left) (RightPart touch) (NumberPart next) (comparison_word against.comparison) u (p ∷ []) j
+    (number-first next j.right p s j.second.0) (right-ahead touch p j.right n j.second.1))
     (λ b u j h. ahead-kept u (p ∷ []) (right-some false against touch u j) h) r
 right-operand true against touch layers p text n a r =
     text_begun-holds (Some against) (PointReads (behind_word layers) (Right true against touch)) layers p text a
-    (λ next s u j. joined-grows (IsSide true against.left) (RightPart touch) (TextPart next) (comparison_word against.comparison) u (p ∷ [])
-    (λ v w. part-first next v p s w.0) (λ v w h. right-ahead touch p v n w.1 h) j)
+    (λ next s u j. joined-more (IsSide true against.left) (RightPart touch) (TextPart next) (comparison_word against.comparison) u (p ∷ []) j
+    (part-first next j.right p s j.second.0) (right-ahead touch p j.right n j.second.1))
     (λ b u j h. ahead-kept u (p ∷ []) (right-some true against touch u j) h) r
 
 right_apart-holds : (is_text : Bool) (against : Against) (touch : Bool) (k : Kind) (layers : List Open) (p : Placed) (text : List Placed) → touching touch p ≡ false → AreOpen layers → kind_of p.code ≡ k →
@@ -370,16 +363,8 @@ paren-holds inner u c =
       reads = (c.before, c.core, c.all, c.blank, subst (λ ks. Reads Arithmetic ks c.core) (sym (spell-over (Paren inner) [] (Gap ∷ []))) gapped);
     }
 
-quote-holds : (inner : Tree) (core : List Placed) (u : List Placed) (c : Parenthesized inner u) → core ≡ c.core → TextHolds (WantQuote None inner) core
-quote-holds inner core u c e =
-    record {
-      front = core;
-      back = [];
-      both = sym (append-nil core);
-      stands = (tt, c.fits);
-      reads = subst (Reads Arithmetic (One kind.Open ∷ Gap ∷ spell inner (Gap ∷ One kind.Close ∷ []))) (sym e) c.reads;
-      rests = refl;
-    }
+quote-holds : (inner : Tree) (u : List Placed) (c : Parenthesized inner u) → TextHolds (WantQuote None inner) c.core
+quote-holds inner u c = record { front = c.core; back = []; both = sym (append-nil c.core); stands = (tt, c.fits); reads = c.reads; rests = refl }
 
 closed-quote : (inner : Tree) (layers : List Open) (p : Placed) (text : List Placed) → AreOpen layers → Under layers (PointReads (behind_word layers) (Closed inner)) text →
     (found : Option TextState) → text_step (WantQuote None inner) p ≡ found → AllLogicHold (on_text None found None false p layers) (text ++ p ∷ [])
@@ -391,7 +376,7 @@ closed-quote inner layers p text a r (Some next) s =
           (λ u c. (
             (
               begun-next (WantQuote None inner) next u p s
-                  (record { before = c.0.before; core = c.0.core; all = c.0.all; blank = c.0.blank; holds = quote-holds inner c.0.core u c.0 refl }),
+                  (record { before = c.0.before; core = c.0.core; all = c.0.all; blank = c.0.blank; holds = quote-holds inner u c.0 }),
               some-last u p,
             ),
             sym (behind-last u p),
@@ -498,12 +483,12 @@ folded-truth touch folded tree text f e =
 operand-truth : (operand : Operand) (touch : Bool) (layers : List Open) (tree : Tree) (text : List Placed) → AreOpen layers → Under layers (Whole operand touch) text →
     option_and_then (whole layers) (truth_of operand) ≡ Some tree → IsTruth tree text
 operand-truth (NumberOne one) touch layers tree text a r e =
-    let high = number-high one touch layers text r in
+    let high = number-high one touch layers text a r in
     folded-truth touch (logic_fold 0 one layers) tree text
     (fold-truth 0 one layers touch text (omega arith) (omega arith) (takes-high layers (rank one) (omega arith) a) a
     (under-became layers (Whole (NumberOne one) touch) (Ends IsTruth one touch) text (λ u w. (inl w.0, w.1)) r)) e
 operand-truth (TruthOne one) touch layers tree text a r e =
-    let high = truth-high one touch layers text r in
+    let high = truth-high one touch layers text a r in
     folded-truth touch (logic_fold 0 one layers) tree text
     (fold-truth 0 one layers touch text (omega arith) (omega arith) (takes-high layers (rank one) (omega arith) a) a
     (under-became layers (Whole (TruthOne one) touch) (Ends IsTruth one touch) text (λ u w. (inr w.0.0, w.1)) r)) e
