@@ -16,7 +16,8 @@ use Rattle.expression_grammar.proofs.Completions.{placed-append}
 use Rattle.expression_grammar.proofs.Finds.{placed-one, take-all, take-past}
 use Rattle.expression_grammar.proofs.ReadingLaws.{cut-at, take-next, take-size, take-whole}
 use Rattle.operand_grammar.proofs.LogicWeights.{logic_run-least, logic_accept-size}
-use Rattle.operand_grammar.proofs.LogicSteps.{AllLogicHold, logic_runs, logic_starts, logic_accept-spells}
+use Rattle.operand_grammar.proofs.LogicOperands.{AllLogicHold}
+use Rattle.operand_grammar.proofs.LogicSteps.{logic_runs, logic_starts, logic_accept-spells}
 use Rattle.operand_grammar.proofs.LogicLeads.{logic_accepted}
 use Rattle.operand_grammar.proofs.LogicCompletions.{logic_completes}
 
