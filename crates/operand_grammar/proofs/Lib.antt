@@ -18,3 +18,4 @@ pub mod LogicPoints
 pub mod LogicGrowth
 pub mod LogicCompletions
 pub mod LogicFinds
+pub mod Automata
