@@ -15,7 +15,7 @@ pub mod LogicUnder
 pub mod LogicFolds
 pub mod LogicOperands
 pub mod LogicPoints
-pub mod LogicGrowth
+pub mod LogicSteps
 pub mod LogicCompletions
 pub mod LogicFinds
 pub mod Automata

@@ -28,9 +28,8 @@ use Rattle.expression_grammar.proofs.Steps.{have-join}
 use Rattle.expression_grammar.proofs.Completions.{completes, placed-append}
 use Rattle.operand_grammar.proofs.TextPlain.{test}
 use Rattle.operand_grammar.proofs.TextFinds.{text_completes}
-use Rattle.operand_grammar.proofs.LogicUnder.{behind-last, some-right, some-last, ahead-kept, capitals-append, comparison-some, joined-some, opened-some, under-became, takes-high}
+use Rattle.operand_grammar.proofs.LogicUnder.{behind-last, some-last, ahead-kept, capitals-append, comparison-some, joined-some, opened-some, partly-some, under-became, takes-high, joined-more, Innermost, innermost}
 use Rattle.operand_grammar.proofs.LogicFolds.{number-rank, characters-blank}
-use Rattle.operand_grammar.proofs.LogicGrowth.{joined-more, Innermost, innermost}
 
 -- a rest, and the tree of the whole
 pub record LogicCompletes (at : ℕ) (text : List Placed) (wanted : ℕ) : Type 0 where
@@ -114,7 +113,7 @@ truth-completes (Group ∷ layers) at tree text t a h =
     same-size at text (open_size layers + (1 + size tree)) (1 + open_size layers + size tree) (omega arith)
     (more-completes at text (41 ∷ []) (open_size layers + (1 + size tree))
     (truth-completes layers (at + 1) (Paren tree) (text ++ p ∷ []) (takes-high layers 7 (omega arith) a) a
-    (i.back (IsTruth (Paren tree)) (p ∷ []) (paren-truth tree i.part p kind-41 i.is) (ahead-kept i.part (p ∷ []) (opened-some (IsTruth tree) i.part i.is)))))
+    (i.back (IsTruth (Paren tree)) (p ∷ []) (paren-truth tree i.part p kind-41 i.is) (λ w. ahead-kept i.part (p ∷ []) (opened-some (IsTruth tree) i.part i.is)))))
 
 -- what stands innermost becomes a truth with a rest
 grown-completes : (layers : List Open) (IsPart : List Placed → Type 0) (at : ℕ) (text : List Placed) (i : Innermost layers IsPart text) (rest : List ℕ) (tree : Tree) (wanted : ℕ) → AreOpen layers →
@@ -123,7 +122,7 @@ grown-completes : (layers : List Open) (IsPart : List Placed → Type 0) (at : �
 grown-completes layers IsPart at text i rest tree wanted a t k r e =
     same-size at text (open_size layers + size tree) (open_size layers + wanted) (ap (λ n. open_size layers + n) e)
     (more-completes at text rest (open_size layers + size tree)
-    (truth-completes layers (at + length rest) tree (text ++ placed at rest) (takes-high layers (rank tree) r a) a (i.back (IsTruth tree) (placed at rest) t k)))
+    (truth-completes layers (at + length rest) tree (text ++ placed at rest) (takes-high layers (rank tree) r a) a (i.back (IsTruth tree) (placed at rest) t (λ w. k))))
 
 -- What is to come where an operand is wanted: a blank, and a number or a text.
 
@@ -284,9 +283,6 @@ partly-all IsLeft word rest at text l =
     ∙ sym (append_assoc (l.left ++ l.letters) (placed at rest) (placed (at + length rest) (32 ∷ 48 ∷ [])))
     ∙ ap (λ xs. xs ++ placed (at + length rest) (32 ∷ 48 ∷ [])) (append_assoc l.left l.letters (placed at rest))
 
-partly-some : (IsLeft : List Placed → Type 0) (word rest : List ℕ) (text : List Placed) → Partly IsLeft word rest text → is_empty text ≡ false
-partly-some IsLeft word rest text l = ap is_empty l.all ∙ some-right l.left l.letters l.some
-
 partly-negated : (rest : List ℕ) (at : ℕ) (text : List Placed) → Partly (IsGap Arithmetic) not_word rest text → Negated (IsTruth (NumberTree Decimal 0)) (text ++ placed at (rest ++ 32 ∷ 48 ∷ []))
 partly-negated rest at text l =
     record {
@@ -323,7 +319,7 @@ letters-completes (Negation ∷ layers) rest at text a h =
     let more : List ℕ = rest ++ 32 ∷ 48 ∷ [] in
     more-completes at text more (open_size (Negation ∷ layers) + 1)
     (truth-completes (Negation ∷ layers) (at + length more) (NumberTree Decimal 0) (text ++ placed at more) (omega arith) a
-    (i.back (Negated (IsTruth (NumberTree Decimal 0))) (placed at more) (partly-negated rest at i.part i.is) (ahead-kept i.part (placed at more) (partly-some (IsGap Arithmetic) not_word rest i.part i.is))))
+    (i.back (Negated (IsTruth (NumberTree Decimal 0))) (placed at more) (partly-negated rest at i.part i.is) (λ w. ahead-kept i.part (placed at more) (partly-some (IsGap Arithmetic) not_word rest i.part i.is))))
 letters-completes (Both operator left ∷ layers) rest at text a h =
     let IsLeft : List Placed → Type 0 = λ part. IsTruth left part × (touches_behind false part ≡ false) in
     let i = innermost layers (Partly IsLeft (operator_word operator) rest) text a.3 h in
@@ -331,7 +327,7 @@ letters-completes (Both operator left ∷ layers) rest at text a h =
     more-completes at text more (open_size (Both operator left ∷ layers) + 1)
     (truth-completes (Both operator left ∷ layers) (at + length more) (NumberTree Decimal 0) (text ++ placed at more) (takes-high (Both operator left ∷ layers) 7 (omega arith) a) a
     (i.back (Joined (IsTruth left) (operator_word operator) (IsTruth (NumberTree Decimal 0))) (placed at more) (partly-joined operator left rest at i.part i.is)
-    (ahead-kept i.part (placed at more) (partly-some IsLeft (operator_word operator) rest i.part i.is))))
+    (λ w. ahead-kept i.part (placed at more) (partly-some IsLeft (operator_word operator) rest i.part i.is))))
 
 -- Within a number.
 

@@ -11,7 +11,8 @@ use Rattle.operand_grammar.specs.LogicAnswers.{LogicStops}
 use Rattle.operand_grammar.specs.LogicReading.{Want, LogicState, at_point, logic_step, logic_run, logic_accept, logic_weight, logic_advance, LogicReaches}
 use Rattle.operand_grammar.specs.LogicStanding.{LogicHolds}
 use Rattle.operand_grammar.proofs.LogicWeights.{logic_run-least, logic_accept-size}
-use Rattle.operand_grammar.proofs.LogicSteps.{AllLogicHold, logic_runs, logic_starts, logic_accept-spells}
+use Rattle.operand_grammar.proofs.LogicOperands.{AllLogicHold}
+use Rattle.operand_grammar.proofs.LogicSteps.{logic_runs, logic_starts, logic_accept-spells}
 use Rattle.operand_grammar.proofs.LogicLeads.{logic_accepted}
 use Rattle.operand_grammar.proofs.LogicCompletions.{logic_completes}
 use Rattle.operand_grammar.proofs.Automata as automata

@@ -1,10 +1,9 @@
 -- What is whole in a logical expression: it is never empty, blanks may stand behind it, and operators close over it.
-use Rattle.std.proofs.Common.{◌≡◌, ℕ, ◌<◌, ◌≤◌, ◌⊎◌, Bool, true, false, List, [], ◌∷◌, ◌++◌, refl, sym, ap, ◌∙◌, subst, arith, append_assoc, inl, inr}
+use Rattle.std.proofs.Common.{◌≡◌, ℕ, ◌<◌, ◌≤◌, Bool, true, false, List, [], ◌∷◌, ◌++◌, refl, sym, ap, ◌∙◌, subst, arith, append_assoc, inl, inr}
 use Rattle.std.specs.Prelude.{None, IsTrue, nat_le, if◌then◌else◌}
 use Rattle.std.proofs.lemmas.Bool.Decides.{nat_tests}
 use Rattle.expression_grammar.specs.declared.character.Grammar.TheVariants.{Arithmetic}
 use Rattle.expression_grammar.specs.declared.character.Kind.TheVariants as kind
-use Rattle.expression_grammar.specs.declared.tree.Comparison.{Comparison}
 use Rattle.expression_grammar.specs.declared.tree.Operator.{Operator}
 use Rattle.expression_grammar.specs.declared.tree.Operator.TheVariants.{And, Or, Xor}
 use Rattle.expression_grammar.specs.Characters.{kind_of, strength}
@@ -12,15 +11,15 @@ use Rattle.expression_grammar.specs.Trees.{Tree, Pair, Paren, Not, Compared}
 use Rattle.expression_grammar.specs.Spelling.{Placed, Piece, Gap, One, Reads, spell, rank}
 use Rattle.expression_grammar.specs.Reading.{Want, accept}
 use Rattle.operand_grammar.specs.Texts.{spell_text, IsText}
-use Rattle.operand_grammar.specs.Logics.{IsNumber, IsCharacters, IsTruth, IsLogical, Joined, Negated, operator_word, comparison_word, is_logical, touches_behind, touches_ahead}
+use Rattle.operand_grammar.specs.Logics.{IsNumber, IsCharacters, IsTruth, IsLogical, Joined, Negated, operator_word, comparison_word, is_logical, touches_behind}
 use Rattle.operand_grammar.specs.TextReading.{WantPart, text_accept}
 use Rattle.operand_grammar.specs.LogicReading.{Open, Negation, Both, Group, LogicFolded, logic_fold}
-use Rattle.operand_grammar.specs.LogicStanding.{Takes, AreOpen, Under, IsSide, is_empty}
+use Rattle.operand_grammar.specs.LogicStanding.{Takes, AreOpen, Under, is_empty}
 use Rattle.expression_grammar.proofs.Appends.{spell-over}
 use Rattle.expression_grammar.proofs.Pieces.{reads-cut, last-turned, gap-longer}
 use Rattle.expression_grammar.proofs.LeadsOf.{accepted}
 use Rattle.operand_grammar.proofs.TextTrees.{text_accepted}
-use Rattle.operand_grammar.proofs.LogicUnder.{blank-apart, ahead-apart, behind-tail, some-left, some-right, word-some, comparison-some, joined-some, negated-some, joined-grows, negated-grows, under-became, takes-high}
+use Rattle.operand_grammar.proofs.LogicUnder.{blank-apart, ahead-apart, behind-tail, some-left, some-right, word-some, comparison-some, joined-some, negated-some, joined-more, negated-more, under-became, takes-high}
 
 -- What is whole is not empty.
 
@@ -41,19 +40,14 @@ text-some tree [] i r =
 text-some tree (p ∷ core) i r = refl
 
 pub characters-some : (tree : Tree) (text : List Placed) → IsCharacters tree text → is_empty text ≡ false
-characters-some tree text i =
-    subst (λ (xs : List Placed). is_empty xs ≡ false) (sym i.all) (some-left (i.before ++ i.core) i.behind (some-right i.before i.core (text-some tree i.core i.fits i.reads)))
-
-pub side-some : (is_text : Bool) (tree : Tree) (text : List Placed) → IsSide is_text tree text → is_empty text ≡ false
-side-some false tree text i = number-some tree text i
-side-some true tree text i = characters-some tree text i
+characters-some tree text i = ap is_empty i.all ∙ some-left (i.before ++ i.core) i.behind (some-right i.before i.core (text-some tree i.core i.fits i.reads))
 
 pub logical-some : (tree : Tree) (text : List Placed) → IsLogical tree text → is_empty text ≡ false
 logical-some (Pair operator left right) text i = joined-some (IsTruth left) (IsTruth right) (operator_word operator) text i.3 (word-some operator i.3.letters i.0 i.3.named)
 logical-some (Not operand) text i = negated-some (IsTruth operand) text i.1
 logical-some (Compared comparison left right) text (inl j) = joined-some (IsNumber left) (IsNumber right) (comparison_word comparison) text j (comparison-some comparison j.letters j.named)
 logical-some (Compared comparison left right) text (inr j) = joined-some (IsCharacters left) (IsCharacters right) (comparison_word comparison) text j (comparison-some comparison j.letters j.named)
-logical-some (Paren inner) text i = subst (λ (xs : List Placed). is_empty xs ≡ false) (sym i.all) (some-right i.before (i.opening ∷ (i.inner ++ i.closing ∷ i.behind)) refl)
+logical-some (Paren inner) text i = ap is_empty i.all ∙ some-right i.before (i.opening ∷ (i.inner ++ i.closing ∷ i.behind)) refl
 logical-some _ text i = absurd i
 
 pub truth-some : (tree : Tree) (text : List Placed) → IsTruth tree text → is_empty text ≡ false
@@ -93,17 +87,18 @@ logical-blank (Pair operator left right) text p e i = (
   i.0,
   i.1,
   i.2,
-  joined-grows (IsTruth left) (IsTruth right) (IsTruth right) (operator_word operator) text (p ∷ [])
-      (λ u t. truth-blank_of right u p e (λ v l. logical-blank right v p e l) t) (λ u t a. ahead-apart u p (blank-apart p.code e) a) i.3,
+  joined-more (IsTruth left) (IsTruth right) (IsTruth right) (operator_word operator) text (p ∷ []) i.3
+      (truth-blank_of right i.3.right p e (λ u l. logical-blank right u p e l) i.3.second) (ahead-apart i.3.right p (blank-apart p.code e)),
 )
 logical-blank (Not operand) text p e i = (
   i.0,
-  negated-grows (IsTruth operand) (IsTruth operand) text (p ∷ []) (λ u t. truth-blank_of operand u p e (λ v l. logical-blank operand v p e l) t) (λ u t a. ahead-apart u p (blank-apart p.code e) a) i.1,
+  negated-more (IsTruth operand) (IsTruth operand) text (p ∷ []) i.1
+      (truth-blank_of operand i.1.operand p e (λ u l. logical-blank operand u p e l) i.1.is) (ahead-apart i.1.operand p (blank-apart p.code e)),
 )
 logical-blank (Compared comparison left right) text p e (inl j) =
-    inl (joined-grows (IsNumber left) (IsNumber right) (IsNumber right) (comparison_word comparison) text (p ∷ []) (λ u t. number-blank right u p e t) (λ u t a. ahead-apart u p (blank-apart p.code e) a) j)
+    inl (joined-more (IsNumber left) (IsNumber right) (IsNumber right) (comparison_word comparison) text (p ∷ []) j (number-blank right j.right p e j.second) (ahead-apart j.right p (blank-apart p.code e)))
 logical-blank (Compared comparison left right) text p e (inr j) =
-    inr (joined-grows (IsCharacters left) (IsCharacters right) (IsCharacters right) (comparison_word comparison) text (p ∷ []) (λ u t. characters-blank right u p e t) (λ u t a. ahead-apart u p (blank-apart p.code e) a) j)
+    inr (joined-more (IsCharacters left) (IsCharacters right) (IsCharacters right) (comparison_word comparison) text (p ∷ []) j (characters-blank right j.right p e j.second) (ahead-apart j.right p (blank-apart p.code e)))
 logical-blank (Paren inner) text p e i =
     record {
       before = i.before;

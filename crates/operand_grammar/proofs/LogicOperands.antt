@@ -1,9 +1,7 @@
 -- What a character does behind an operand of a logical expression keeps what is known of the text.
-use Rattle.std.proofs.Common.{◌≡◌, ℕ, ◌<◌, ◌≤◌, Bool, true, false, List, [], ◌∷◌, ◌++◌, refl, sym, ap, ◌∙◌, subst, arith, append_assoc, inl, inr}
+use Rattle.std.proofs.Common.{◌≡◌, ℕ, ◌≤◌, Bool, true, false, List, [], ◌∷◌, ◌++◌, refl, sym, ap, ◌∙◌, subst, arith, append_assoc, inl, inr}
 use Rattle.std.specs.Prelude.{◌==◌, nat_le, Option, Some, None, IsTrue, if◌then◌else◌}
 use Rattle.std.specs.Char.{to_ascii_uppercase}
-use Rattle.std.proofs.lemmas.Bool.Decides.{nat_tests}
-use Rattle.hl_base.specs.Symbols.{is_symbol_character}
 use Rattle.expression_grammar.specs.declared.character.Grammar.TheVariants.{Arithmetic}
 use Rattle.expression_grammar.specs.declared.character.Kind.{Kind}
 use Rattle.expression_grammar.specs.declared.character.Kind.TheVariants as kind
@@ -12,14 +10,14 @@ use Rattle.expression_grammar.specs.declared.tree.Operator.TheVariants.{And, Or,
 use Rattle.expression_grammar.specs.Characters.{kind_of, strength}
 use Rattle.expression_grammar.specs.Trees.{Tree, Pair, Paren, Not}
 use Rattle.expression_grammar.specs.Spelling.{Placed, Gap, One, Reads, spell, rank}
-use Rattle.operand_grammar.specs.Logics.{IsNumber, IsCharacters, IsTruth, IsLogical, Joined, Negated, operator_word, is_logical, touches_behind, touches_ahead}
-use Rattle.operand_grammar.specs.LogicReading.{Open, Negation, Both, Group, Point, Ended, Comparing, Closed, Had, LogicState, at_point, Operand, NumberOne, TruthOne, TextOne, truth_of, LogicFolded, logic_fold, blanked, grouped, closing, pushed, joining, compares, comparing, lettered, behind_one}
-use Rattle.operand_grammar.specs.LogicStanding.{AreOpen, Opened, Under, behind_word, is_empty, Parenthesized, Partly, PointReads, LogicHolds}
+use Rattle.operand_grammar.specs.Logics.{IsNumber, IsCharacters, IsTruth, IsLogical, operator_word, is_logical, touches_behind}
+use Rattle.operand_grammar.specs.LogicReading.{Open, Negation, Both, Group, Ended, Comparing, Closed, Had, LogicState, at_point, Operand, NumberOne, TruthOne, TextOne, truth_of, LogicFolded, logic_fold, blanked, grouped, closing, pushed, joining, compares, comparing, lettered, behind_one}
+use Rattle.operand_grammar.specs.LogicStanding.{AreOpen, Opened, Under, behind_word, Partly, PointReads, LogicHolds}
 use Rattle.expression_grammar.proofs.Appends.{spell-over}
 use Rattle.expression_grammar.proofs.Pieces.{reads-join, reads-kind, one_of}
 use Rattle.operand_grammar.proofs.TextPlain.{test}
-use Rattle.operand_grammar.proofs.LogicUnder.{blank-apart, close-apart, ahead-apart, ahead-kept, behind-last, opened-some, under-grows, under-became, under-fact, takes-high, logical-strength}
-use Rattle.operand_grammar.proofs.LogicFolds.{number-some, characters-some, logical-some, truth-some, logical-blank, characters-blank, number-rank, Ends, Folds, fold-logical, fold-not, fold-pair, fold-truth}
+use Rattle.operand_grammar.proofs.LogicUnder.{blank-apart, close-apart, ahead-apart, ahead-kept, behind-last, opened-some, under-grows, under-became, innermost, takes-high, logical-strength}
+use Rattle.operand_grammar.proofs.LogicFolds.{number-some, characters-some, truth-some, logical-blank, characters-blank, number-rank, Ends, Folds, fold-logical, fold-not, fold-pair, fold-truth}
 
 -- what holds of a state, if there is one
 abbrev pub AllLogicHold : Option LogicState → List Placed → Type 0
@@ -70,19 +68,23 @@ grouped-holds tree touch (Group ∷ layers) p text a e r =
     record {
       ordered = a;
       reads = under-grows layers (Opened (Ends IsLogical tree touch)) (PointReads (behind_word layers) (Had (Paren tree))) text (p ∷ []) a
-          (λ u o. (record {
-            before = o.before;
-            opening = o.opening;
-            inner = o.inner;
-            closing = p;
-            behind = [];
-            all = ap (λ xs. xs ++ p ∷ []) o.all ∙ append_assoc o.before (o.opening ∷ o.inner) (p ∷ []);
-            blank_before = o.blank;
-            blank_behind = tt;
-            opens = o.opens;
-            closes = e;
-            is = o.is.0;
-          }, omega arith, behind-last u p ∙ close-apart p.code e))
+          (λ u o. (
+            record {
+              before = o.before;
+              opening = o.opening;
+              inner = o.inner;
+              closing = p;
+              behind = [];
+              all = ap (λ xs. xs ++ p ∷ []) o.all ∙ append_assoc o.before (o.opening ∷ o.inner) (p ∷ []);
+              blank_before = o.blank;
+              blank_behind = tt;
+              opens = o.opens;
+              closes = e;
+              is = o.is.0;
+            },
+            omega arith,
+            behind-last u p ∙ close-apart p.code e,
+          ))
           (λ b u o t. ahead-kept u (p ∷ []) (opened-some (Ends IsLogical tree touch) u o) t) r;
     }
 
@@ -92,30 +94,33 @@ closed-holds tree touch layers p text a e r =
     record {
       ordered = a;
       reads = under-grows layers (Opened (Ends IsNumber tree touch)) (PointReads (behind_word layers) (Closed tree)) text (p ∷ []) a
-          (λ u o. (record {
-            before = o.before;
-            core = o.opening ∷ (o.inner ++ p ∷ []);
-            all = ap (λ xs. xs ++ p ∷ []) o.all ∙ append_assoc o.before (o.opening ∷ o.inner) (p ∷ []);
-            blank = o.blank;
-            fits = o.is.0.fits;
-            reads = (
-              o.opening ∷ [],
-              o.inner ++ p ∷ [],
-              refl,
-              one_of kind.Open o.opening o.opens,
-              subst (λ ks. Reads Arithmetic (Gap ∷ ks) (o.inner ++ p ∷ [])) (sym (spell-over tree (Gap ∷ []) (One kind.Close ∷ [])))
-                  (reads-join Arithmetic (Gap ∷ spell tree (Gap ∷ [])) (One kind.Close ∷ []) o.inner (p ∷ []) o.is.0.reads (reads-kind Arithmetic kind.Close p e)),
-            );
-          }, behind-last u p ∙ close-apart p.code e))
+          (λ u o. (
+            record {
+              before = o.before;
+              core = o.opening ∷ (o.inner ++ p ∷ []);
+              all = ap (λ xs. xs ++ p ∷ []) o.all ∙ append_assoc o.before (o.opening ∷ o.inner) (p ∷ []);
+              blank = o.blank;
+              fits = o.is.0.fits;
+              reads = (
+                o.opening ∷ [],
+                o.inner ++ p ∷ [],
+                refl,
+                one_of kind.Open o.opening o.opens,
+                subst (λ ks. Reads Arithmetic (Gap ∷ ks) (o.inner ++ p ∷ [])) (sym (spell-over tree (Gap ∷ []) (One kind.Close ∷ [])))
+                    (reads-join Arithmetic (Gap ∷ spell tree (Gap ∷ [])) (One kind.Close ∷ []) o.inner (p ∷ []) o.is.0.reads (reads-kind Arithmetic kind.Close p e)),
+              );
+            },
+            behind-last u p ∙ close-apart p.code e,
+          ))
           (λ b u o t. ahead-kept u (p ∷ []) (opened-some (Ends IsNumber tree touch) u o) t) r;
     }
 
 -- how strongly a number and another truth that stand above others bind
-number-high : (tree : Tree) (touch : Bool) (layers : List Open) (text : List Placed) → Under layers (λ part. IsNumber tree part × (touches_behind false part ≡ touch)) text → 4 ≤ rank tree
-number-high tree touch layers text r = under-fact layers (Ends IsNumber tree touch) (4 ≤ rank tree) text (λ u w. omega (arith, number-rank tree u w.0)) r
+pub number-high : (tree : Tree) (touch : Bool) (layers : List Open) (text : List Placed) → AreOpen layers → Under layers (λ part. IsNumber tree part × (touches_behind false part ≡ touch)) text → 4 ≤ rank tree
+number-high tree touch layers text a r = let i = innermost layers (Ends IsNumber tree touch) text a r in omega (arith, number-rank tree i.part i.is.0)
 
-truth-high : (tree : Tree) (touch : Bool) (layers : List Open) (text : List Placed) → Under layers (Whole (TruthOne tree) touch) text → 4 ≤ rank tree
-truth-high tree touch layers text r = under-fact layers (Whole (TruthOne tree) touch) (4 ≤ rank tree) text (λ u w. w.0.1) r
+pub truth-high : (tree : Tree) (touch : Bool) (layers : List Open) (text : List Placed) → AreOpen layers → Under layers (Whole (TruthOne tree) touch) text → 4 ≤ rank tree
+truth-high tree touch layers text a r = let i = innermost layers (Whole (TruthOne tree) touch) text a r in i.is.0.1
 
 closes-both : (operator : Operator) (left tree : Tree) (touch : Bool) (layers : List Open) (p : Placed) (text : List Placed) → AreOpen (Both operator left ∷ layers) → kind_of p.code ≡ kind.Close →
     Under (Both operator left ∷ layers) (λ part. IsNumber tree part × (touches_behind false part ≡ touch)) text →
@@ -123,7 +128,7 @@ closes-both : (operator : Operator) (left tree : Tree) (touch : Bool) (layers : 
 closes-both operator left tree touch layers p text a e r =
     let otherwise : LogicFolded = record { tree = tree; layers = Both operator left ∷ layers } in
     let whole : LogicFolded = logic_fold 0 (Pair operator left tree) layers in
-    let high = number-high tree touch (Both operator left ∷ layers) text r in
+    let high = number-high tree touch (Both operator left ∷ layers) text a r in
     let t = under-became (Both operator left ∷ layers) (Ends IsNumber tree touch) (Ends IsTruth tree touch) text (λ u w. (inl w.0, w.1)) r in
     let f = fold-pair 0 operator left tree layers touch text (omega arith) (omega arith) (omega (arith, logical-strength operator a.0)) a t in
     let go : (b : Bool) → nat_le 0 (strength operator) ≡ b → AllLogicHold (grouped (if b then whole else otherwise).tree (if b then whole else otherwise).layers) (text ++ p ∷ []) =
@@ -135,7 +140,7 @@ closing-holds : (operand : Operand) (touch : Bool) (layers : List Open) (p : Pla
 closing-holds (NumberOne tree) touch [] p text a e r = tt
 closing-holds (NumberOne tree) touch (Negation ∷ layers) p text a e r =
     let whole : LogicFolded = logic_fold 0 (Not tree) layers in
-    let high = number-high tree touch (Negation ∷ layers) text r in
+    let high = number-high tree touch (Negation ∷ layers) text a r in
     let t = under-became (Negation ∷ layers) (Ends IsNumber tree touch) (Ends IsTruth tree touch) text (λ u w. (inl w.0, w.1)) r in
     let f = fold-not 0 tree layers touch text (omega arith) (omega arith) a t in
     grouped-holds whole.tree touch whole.layers p text f.ordered e f.reads
@@ -143,7 +148,7 @@ closing-holds (NumberOne tree) touch (Both operator left ∷ layers) p text a e 
 closing-holds (NumberOne tree) touch (Group ∷ layers) p text a e r = closed-holds tree touch layers p text a e r
 closing-holds (TruthOne tree) touch layers p text a e r =
     let whole : LogicFolded = logic_fold 0 tree layers in
-    let high = truth-high tree touch layers text r in
+    let high = truth-high tree touch layers text a r in
     let f = fold-logical 0 tree layers touch text (omega arith) (omega arith) (takes-high layers (rank tree) (omega arith) a) a
     (under-became layers (Whole (TruthOne tree) touch) (Ends IsLogical tree touch) text (λ u w. (w.0.0, w.1)) r) in
     grouped-holds whole.tree touch whole.layers p text f.ordered e f.reads
@@ -172,10 +177,10 @@ joins operator rest tree layers p text h a i e r =
 joining-holds : (operator : Operator) (rest : List ℕ) (operand : Operand) (layers : List Open) (p : Placed) (text : List Placed) → AreOpen layers → IsTrue (is_logical operator) →
     to_ascii_uppercase p.code ∷ rest ≡ operator_word operator → Under layers (Whole operand false) text → AllLogicHold (joining operator rest (truth_of operand) layers) (text ++ p ∷ [])
 joining-holds operator rest (NumberOne tree) layers p text a i e r =
-    joins operator rest tree layers p text (number-high tree false layers text r) a i e
+    joins operator rest tree layers p text (number-high tree false layers text a r) a i e
     (under-became layers (Ends IsNumber tree false) (Ends IsTruth tree false) text (λ u w. (inl w.0, w.1)) r)
 joining-holds operator rest (TruthOne tree) layers p text a i e r =
-    joins operator rest tree layers p text (truth-high tree false layers text r) a i e
+    joins operator rest tree layers p text (truth-high tree false layers text a r) a i e
     (under-became layers (Whole (TruthOne tree) false) (Ends IsTruth tree false) text (λ u w. (inr w.0.0, w.1)) r)
 joining-holds operator rest (TextOne tree) layers p text a i e r = tt
 
@@ -222,15 +227,15 @@ lettered-holds operand layers p text a r =
       | false ↦ λ t. comparing-holds operand layers p text a r
     ] in
     let by_o : (b : Bool) → (letter == 79) ≡ b →
-        AllLogicHold (if b then joining Or (82 ∷ []) truth layers else (if letter == 88 then joining Xor (79 ∷ 82 ∷ []) truth layers else comparing operand letter layers)) (text ++ p ∷ []) =
+    AllLogicHold (if b then joining Or (82 ∷ []) truth layers else (if letter == 88 then joining Xor (79 ∷ 82 ∷ []) truth layers else comparing operand letter layers)) (text ++ p ∷ []) =
     elim [
       | true ↦ λ t. joining-holds Or (82 ∷ []) operand layers p text a refl (ap (λ c. c ∷ 82 ∷ []) (test letter 79 t)) r
       | false ↦ λ t. by_x (letter == 88) refl
     ] in
     let by_a : (b : Bool) → (letter == 65) ≡ b →
-        AllLogicHold
-        (if b then joining And (78 ∷ 68 ∷ []) truth layers
-        else (if letter == 79 then joining Or (82 ∷ []) truth layers else (if letter == 88 then joining Xor (79 ∷ 82 ∷ []) truth layers else comparing operand letter layers))) (text ++ p ∷ []) =
+    AllLogicHold
+    (if b then joining And (78 ∷ 68 ∷ []) truth layers
+    else (if letter == 79 then joining Or (82 ∷ []) truth layers else (if letter == 88 then joining Xor (79 ∷ 82 ∷ []) truth layers else comparing operand letter layers))) (text ++ p ∷ []) =
     elim [
       | true ↦ λ t. joining-holds And (78 ∷ 68 ∷ []) operand layers p text a refl (ap (λ c. c ∷ 78 ∷ 68 ∷ []) (test letter 65 t)) r
       | false ↦ λ t. by_o (letter == 79) refl

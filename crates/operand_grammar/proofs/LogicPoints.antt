@@ -1,22 +1,20 @@
 -- Within an operand of a logical expression, and where one begins, each character keeps what is known of the text.
-use Rattle.std.proofs.Common.{◌≡◌, ℕ, ◌≤◌, Bool, true, false, List, [], ◌∷◌, ◌++◌, refl, sym, ap, ◌∙◌, subst, arith, append_assoc, inl, inr}
-use Rattle.std.specs.Prelude.{◌==◌, ◌&&◌, Option, Some, None, option_map, option_and_then, if◌then◌else◌}
-use Rattle.std.specs.Char.{to_ascii_uppercase}
+use Rattle.std.proofs.Common.{◌≡◌, Bool, true, false, List, [], ◌∷◌, ◌++◌, refl, sym, ap, ◌∙◌, subst, arith, append_assoc, inl, inr}
+use Rattle.std.specs.Prelude.{Option, Some, None, option_map, option_and_then}
 use Rattle.hl_base.specs.Symbols.{is_symbol_character}
 use Rattle.expression_grammar.specs.declared.character.Grammar.TheVariants.{Arithmetic}
-use Rattle.expression_grammar.specs.declared.character.Kind.{Kind}
 use Rattle.expression_grammar.specs.declared.character.Kind.TheVariants as kind
 use Rattle.expression_grammar.specs.declared.part.Part.{Part}
 use Rattle.expression_grammar.specs.Characters.{kind_of}
-use Rattle.expression_grammar.specs.Trees.{Tree, Paren}
-use Rattle.expression_grammar.specs.Spelling.{Placed, Gap, One, IsGap, IsOf, Reads, rank, spell}
+use Rattle.expression_grammar.specs.Trees.{Tree}
+use Rattle.expression_grammar.specs.Spelling.{Placed, Gap, IsGap}
 use Rattle.expression_grammar.specs.Parts.{finish}
 use Rattle.expression_grammar.specs.Reading as reading
 use Rattle.expression_grammar.specs.Reading.{Layer, State, Want as WantTerm, Have, Within, Holds}
-use Rattle.operand_grammar.specs.Logics.{IsNumber, IsCharacters, IsTruth, IsLogical, Joined, Negated, comparison_word, capitals, touches_behind, touches_ahead}
-use Rattle.operand_grammar.specs.LogicReading.{Open, Against, Point, Want, Number, Text, LogicState, at_point, Operand, NumberOne, TruthOne, TextOne, number_side, text_side, settled, behind, on_number, on_text, number_begun, text_begun, touching}
+use Rattle.operand_grammar.specs.Logics.{IsNumber, IsCharacters, comparison_word, touches_ahead}
+use Rattle.operand_grammar.specs.LogicReading.{Open, Against, Number, Text, at_point, number_side, text_side, settled, behind, on_number, on_text, number_begun, text_begun}
 use Rattle.operand_grammar.specs.LogicStanding.{AreOpen, Under, behind_word, is_empty, Begun, IsSide, Behind, PointReads, LogicHolds}
-use Rattle.operand_grammar.specs.TextReading.{TextState, WantPart, WantQuote, text_step, text_accept}
+use Rattle.operand_grammar.specs.TextReading.{TextState, WantPart, text_step, text_accept}
 use Rattle.operand_grammar.specs.TextStanding.{TextHolds}
 use Rattle.expression_grammar.proofs.Pieces.{append-nil, reads-one}
 use Rattle.expression_grammar.proofs.Leads.{as_tree, as_part, step-behind}
@@ -24,20 +22,20 @@ use Rattle.expression_grammar.proofs.Steps.{AllHold, steps}
 use Rattle.expression_grammar.proofs.Finds.{accept-spells}
 use Rattle.operand_grammar.proofs.TextSteps.{AllTextHold, text_steps, text_starts}
 use Rattle.operand_grammar.proofs.TextFinds.{text_accept-spells}
-use Rattle.operand_grammar.proofs.LogicUnder.{ahead-kept, behind-last, some-last, some-right, comparison-some, joined-some, joined-grows, under-grows, under-became}
+use Rattle.operand_grammar.proofs.LogicUnder.{ahead-kept, behind-last, some-last, comparison-some, joined-some, joined-more, under-grows, under-became}
 use Rattle.operand_grammar.proofs.LogicOperands.{AllLogicHold, OperandReads, Whole, TakesBlank, behind_one-holds}
 
 -- A comparison with its left side, and what stands behind it.
 
-pub against-grows : (is_text : Bool) (against : Option Against) (P Q : List Placed → Type 0) (text ds : List Placed) → ((u : List Placed) → P u → Q (u ++ ds)) →
-    ((u : List Placed) → P u → touches_ahead u ≡ false → touches_ahead (u ++ ds) ≡ false) → Behind is_text against P text → Behind is_text against Q (text ++ ds)
-against-grows is_text None P Q text ds g h b = g text b
-against-grows is_text (Some against) P Q text ds g h b = joined-grows (IsSide is_text against.left) P Q (comparison_word against.comparison) text ds g h b
+pub against-grows : (is_text : Bool) (against : Option Against) (IsPart IsOther : List Placed → Type 0) (text ds : List Placed) → ((u : List Placed) → IsPart u → IsOther (u ++ ds)) →
+    ((u : List Placed) → IsPart u → touches_ahead u ≡ false → touches_ahead (u ++ ds) ≡ false) → Behind is_text against IsPart text → Behind is_text against IsOther (text ++ ds)
+against-grows is_text None IsPart IsOther text ds g h b = g text b
+against-grows is_text (Some against) IsPart IsOther text ds g h b = joined-more (IsSide is_text against.left) IsPart IsOther (comparison_word against.comparison) text ds b (g b.right b.second) (h b.right b.second)
 
-pub against-some : (is_text : Bool) (against : Option Against) (P : List Placed → Type 0) (text : List Placed) → ((u : List Placed) → P u → is_empty u ≡ false) → Behind is_text against P text → is_empty text ≡ false
-against-some is_text None P text f b = f text b
-against-some is_text (Some against) P text f b =
-    joined-some (IsSide is_text against.left) P (comparison_word against.comparison) text b (comparison-some against.comparison b.letters b.named)
+pub against-some : (is_text : Bool) (against : Option Against) (IsPart : List Placed → Type 0) (text : List Placed) → ((u : List Placed) → IsPart u → is_empty u ≡ false) → Behind is_text against IsPart text → is_empty text ≡ false
+against-some is_text None IsPart text f b = f text b
+against-some is_text (Some against) IsPart text f b =
+    joined-some (IsSide is_text against.left) IsPart (comparison_word against.comparison) text b (comparison-some against.comparison b.letters b.named)
 
 -- Numbers.
 
@@ -63,10 +61,10 @@ number-next against inner next touch layers p text s a r =
           (λ u b. (grows u b.0, sym (behind-last u p))) (λ w u b t. ahead-kept u (p ∷ []) (against-some false against (NumberPart inner) u (λ v h. h.1) b.0) t) r;
     }
 
-number-of : (inner : State) (tree : Tree) (text : List Placed) → reading.accept Arithmetic inner ≡ Some tree → Holds Arithmetic inner text → IsNumber tree text
+pub number-of : (inner : State) (tree : Tree) (text : List Placed) → reading.accept Arithmetic inner ≡ Some tree → Holds Arithmetic inner text → IsNumber tree text
 number-of inner tree text e h = let s = accept-spells Arithmetic text inner tree h e in record { fits = s.0; reads = s.1 }
 
-side-reads : (against : Option Against) (inner : State) (tree : Tree) (text : List Placed) → reading.accept Arithmetic inner ≡ Some tree → Behind false against (NumberPart inner) text → OperandReads (number_side against tree) text
+pub side-reads : (against : Option Against) (inner : State) (tree : Tree) (text : List Placed) → reading.accept Arithmetic inner ≡ Some tree → Behind false against (NumberPart inner) text → OperandReads (number_side against tree) text
 side-reads None inner tree text e b = number-of inner tree text e b.0
 side-reads (Some against) inner tree text e b = (
   inl (record {
@@ -122,7 +120,7 @@ TextPart inner part = Begun inner part × (is_empty part ≡ false)
 text_next-holds : (inner next : TextState) (text : List Placed) (p : Placed) → text_step inner p ≡ Some next → TextHolds inner text → TextHolds next (text ++ p ∷ [])
 text_next-holds inner next text p s h = subst (λ (found : Option TextState). AllTextHold found (text ++ p ∷ [])) s (text_steps inner p text h)
 
-begun-next : (inner next : TextState) (text : List Placed) (p : Placed) → text_step inner p ≡ Some next → Begun inner text → Begun next (text ++ p ∷ [])
+pub begun-next : (inner next : TextState) (text : List Placed) (p : Placed) → text_step inner p ≡ Some next → Begun inner text → Begun next (text ++ p ∷ [])
 begun-next inner next text p s b =
     record {
       before = b.before;
@@ -149,7 +147,7 @@ characters-of inner tree text e b =
     let s = text_accept-spells b.core inner tree b.holds e in
     record { before = b.before; core = b.core; behind = []; all = b.all ∙ sym (append-nil (b.before ++ b.core)); blank_before = b.blank; blank_behind = tt; fits = s.0; reads = s.1 }
 
-text_side-reads : (against : Option Against) (inner : TextState) (tree : Tree) (text : List Placed) → text_accept inner ≡ Some tree → Behind true against (TextPart inner) text → OperandReads (text_side against tree) text
+pub text_side-reads : (against : Option Against) (inner : TextState) (tree : Tree) (text : List Placed) → text_accept inner ≡ Some tree → Behind true against (TextPart inner) text → OperandReads (text_side against tree) text
 text_side-reads None inner tree text e b = characters-of inner tree text e b.0
 text_side-reads (Some against) inner tree text e b = (
   inr (record {
@@ -186,33 +184,33 @@ text-holds against inner touch layers p text a r (Some next) s = text-next again
 
 -- Where an operand begins, above a text that goes on so.
 
-pub number_begun-holds : (against : Option Against) (P : List Placed → Type 0) (layers : List Open) (p : Placed) (text : List Placed) → AreOpen layers →
-    ((next : State) → reading.step Arithmetic (WantTerm []) p ≡ Some next → (u : List Placed) → P u → Behind false against (λ part. Holds Arithmetic next part × (is_empty part ≡ false)) (u ++ p ∷ [])) →
-    (behind_word layers ≡ true → (u : List Placed) → P u → touches_ahead u ≡ false → touches_ahead (u ++ p ∷ []) ≡ false) → Under layers P text →
+pub number_begun-holds : (against : Option Against) (IsPart : List Placed → Type 0) (layers : List Open) (p : Placed) (text : List Placed) → AreOpen layers →
+    ((next : State) → reading.step Arithmetic (WantTerm []) p ≡ Some next → (u : List Placed) → IsPart u → Behind false against (λ part. Holds Arithmetic next part × (is_empty part ≡ false)) (u ++ p ∷ [])) →
+    (behind_word layers ≡ true → (u : List Placed) → IsPart u → touches_ahead u ≡ false → touches_ahead (u ++ p ∷ []) ≡ false) → Under layers IsPart text →
     AllLogicHold (number_begun against p layers) (text ++ p ∷ [])
-number_begun-holds against P layers p text a g h r =
+number_begun-holds against IsPart layers p text a g h r =
     let go : (found : Option State) → reading.step Arithmetic (WantTerm []) p ≡ found → AllLogicHold (on_number against found None false p layers) (text ++ p ∷ []) =
     elim [
       | None ↦ λ s. tt
       | Some next ↦ λ s. record {
         ordered = a;
-        reads = under-grows layers P (PointReads (behind_word layers) (Number against next (is_symbol_character p.code))) text (p ∷ []) a
+        reads = under-grows layers IsPart (PointReads (behind_word layers) (Number against next (is_symbol_character p.code))) text (p ∷ []) a
             (λ u b. (g next s u b, sym (behind-last u p))) h r;
       }
     ] in
     go (reading.step Arithmetic (WantTerm []) p) refl
 
-pub text_begun-holds : (against : Option Against) (P : List Placed → Type 0) (layers : List Open) (p : Placed) (text : List Placed) → AreOpen layers →
-    ((next : TextState) → text_step (WantPart None) p ≡ Some next → (u : List Placed) → P u → Behind true against (λ part. Begun next part × (is_empty part ≡ false)) (u ++ p ∷ [])) →
-    (behind_word layers ≡ true → (u : List Placed) → P u → touches_ahead u ≡ false → touches_ahead (u ++ p ∷ []) ≡ false) → Under layers P text →
+pub text_begun-holds : (against : Option Against) (IsPart : List Placed → Type 0) (layers : List Open) (p : Placed) (text : List Placed) → AreOpen layers →
+    ((next : TextState) → text_step (WantPart None) p ≡ Some next → (u : List Placed) → IsPart u → Behind true against (λ part. Begun next part × (is_empty part ≡ false)) (u ++ p ∷ [])) →
+    (behind_word layers ≡ true → (u : List Placed) → IsPart u → touches_ahead u ≡ false → touches_ahead (u ++ p ∷ []) ≡ false) → Under layers IsPart text →
     AllLogicHold (text_begun against p layers) (text ++ p ∷ [])
-text_begun-holds against P layers p text a g h r =
+text_begun-holds against IsPart layers p text a g h r =
     let go : (found : Option TextState) → text_step (WantPart None) p ≡ found → AllLogicHold (on_text against found None false p layers) (text ++ p ∷ []) =
     elim [
       | None ↦ λ s. tt
       | Some next ↦ λ s. record {
         ordered = a;
-        reads = under-grows layers P (PointReads (behind_word layers) (Text against next (is_symbol_character p.code))) text (p ∷ []) a
+        reads = under-grows layers IsPart (PointReads (behind_word layers) (Text against next (is_symbol_character p.code))) text (p ∷ []) a
             (λ u b. (g next s u b, sym (behind-last u p))) h r;
       }
     ] in
@@ -221,10 +219,6 @@ text_begun-holds against P layers p text a g h r =
 -- a gap, and the first character of a number or of a text
 pub number-first : (next : State) (gap : List Placed) (p : Placed) → reading.step Arithmetic (WantTerm []) p ≡ Some next → IsGap Arithmetic gap → NumberPart next (gap ++ p ∷ [])
 number-first next gap p s i = (next-holds (WantTerm []) next gap p s (gap-holds gap i), some-last gap p)
-
-pub text-first : (inner next : TextState) (gap core : List Placed) (p : Placed) → text_step inner p ≡ Some next → IsGap Arithmetic gap → TextHolds inner core → TextPart next ((gap ++ core) ++ p ∷ [])
-text-first inner next gap core p s i h =
-    (begun-next inner next (gap ++ core) p s (record { before = gap; core = core; all = refl; blank = i; holds = h }), some-last (gap ++ core) p)
 
 pub part-first : (next : TextState) (gap : List Placed) (p : Placed) → text_step (WantPart None) p ≡ Some next → IsGap Arithmetic gap → TextPart next (gap ++ p ∷ [])
 part-first next gap p s i =

@@ -1,5 +1,5 @@
 -- What is open, and what stands above it: ends of texts, words, and how it grows at its end.
-use Rattle.std.proofs.Common.{◌≡◌, ℕ, ◌≤◌, Bool, false, true, List, [], ◌∷◌, ◌++◌, refl, sym, ap, ◌∙◌, subst, arith, append_assoc}
+use Rattle.std.proofs.Common.{◌≡◌, ℕ, ◌≤◌, Bool, false, true, List, [], ◌∷◌, ◌++◌, refl, ap, ◌∙◌, arith, append_assoc}
 use Rattle.std.specs.Prelude.{IsTrue}
 use Rattle.std.specs.Char.{to_ascii_uppercase}
 use Rattle.std.proofs.lemmas.Bool.Decides.{nat_tests}
@@ -13,7 +13,7 @@ use Rattle.expression_grammar.specs.Characters.{kind_of, strength}
 use Rattle.expression_grammar.specs.Spelling.{Placed}
 use Rattle.operand_grammar.specs.Logics.{IsTruth, Joined, Negated, operator_word, comparison_word, is_logical, capitals, touches_behind, touches_ahead}
 use Rattle.operand_grammar.specs.LogicReading.{Open, Negation, Both, Group}
-use Rattle.operand_grammar.specs.LogicStanding.{Takes, AreOpen, Opened, Under, behind_word, is_empty}
+use Rattle.operand_grammar.specs.LogicStanding.{Takes, AreOpen, Opened, Under, behind_word, is_empty, Partly}
 
 -- Ends of texts.
 
@@ -98,92 +98,112 @@ logical-strength _ t = let no : ⊥ = cc in absurd no
 
 -- What words make is not empty.
 
-pub joined-some : (P Q : List Placed → Type 0) (word : List ℕ) (text : List Placed) (j : Joined P word Q text) → is_empty j.letters ≡ false → is_empty text ≡ false
-joined-some P Q word text j e = subst (λ (xs : List Placed). is_empty xs ≡ false) (sym j.all) (some-left (j.left ++ j.letters) j.right (some-right j.left j.letters e))
+pub joined-some : (IsLeft IsPart : List Placed → Type 0) (word : List ℕ) (text : List Placed) (j : Joined IsLeft word IsPart text) → is_empty j.letters ≡ false → is_empty text ≡ false
+joined-some IsLeft IsPart word text j e = ap is_empty j.all ∙ some-left (j.left ++ j.letters) j.right (some-right j.left j.letters e)
 
-pub negated-some : (P : List Placed → Type 0) (text : List Placed) → Negated P text → is_empty text ≡ false
-negated-some P text n =
-    subst (λ (xs : List Placed). is_empty xs ≡ false) (sym n.all)
-    (some-left (n.before ++ n.letters) n.operand (some-right n.before n.letters (capitals-some n.letters 78 (79 ∷ 84 ∷ []) n.named)))
+pub negated-some : (IsPart : List Placed → Type 0) (text : List Placed) → Negated IsPart text → is_empty text ≡ false
+negated-some IsPart text n = ap is_empty n.all ∙ some-left (n.before ++ n.letters) n.operand (some-right n.before n.letters (capitals-some n.letters 78 (79 ∷ 84 ∷ []) n.named))
 
-pub opened-some : (P : List Placed → Type 0) (text : List Placed) → Opened P text → is_empty text ≡ false
-opened-some P text o = subst (λ (xs : List Placed). is_empty xs ≡ false) (sym o.all) (some-right o.before (o.opening ∷ o.inner) refl)
+pub opened-some : (IsPart : List Placed → Type 0) (text : List Placed) → Opened IsPart text → is_empty text ≡ false
+opened-some IsPart text o = ap is_empty o.all ∙ some-right o.before (o.opening ∷ o.inner) refl
 
--- Further text behind them.
+pub partly-some : (IsLeft : List Placed → Type 0) (word rest : List ℕ) (text : List Placed) → Partly IsLeft word rest text → is_empty text ≡ false
+partly-some IsLeft word rest text q = ap is_empty q.all ∙ some-right q.left q.letters q.some
 
-pub joined-grows : (IsLeft P Q : List Placed → Type 0) (word : List ℕ) (text ds : List Placed) → ((u : List Placed) → P u → Q (u ++ ds)) →
-    ((u : List Placed) → P u → touches_ahead u ≡ false → touches_ahead (u ++ ds) ≡ false) → Joined IsLeft word P text → Joined IsLeft word Q (text ++ ds)
-joined-grows IsLeft P Q word text ds g h j =
-    record {
-      left = j.left;
-      letters = j.letters;
-      right = j.right ++ ds;
-      all = ap (λ xs. xs ++ ds) j.all ∙ append_assoc (j.left ++ j.letters) j.right ds;
-      first = j.first;
-      second = g j.right j.second;
-      named = j.named;
-      apart_left = j.apart_left;
-      apart_right = h j.right j.second j.apart_right;
-    }
+-- What stands in what is open, with more behind.
 
-pub negated-grows : (P Q : List Placed → Type 0) (text ds : List Placed) → ((u : List Placed) → P u → Q (u ++ ds)) →
-    ((u : List Placed) → P u → touches_ahead u ≡ false → touches_ahead (u ++ ds) ≡ false) → Negated P text → Negated Q (text ++ ds)
-negated-grows P Q text ds g h n =
+pub negated-more : (IsPart IsOther : List Placed → Type 0) (text more : List Placed) (n : Negated IsPart text) → IsOther (n.operand ++ more) →
+    (touches_ahead n.operand ≡ false → touches_ahead (n.operand ++ more) ≡ false) → Negated IsOther (text ++ more)
+negated-more IsPart IsOther text more n i k =
     record {
       before = n.before;
       letters = n.letters;
-      operand = n.operand ++ ds;
-      all = ap (λ xs. xs ++ ds) n.all ∙ append_assoc (n.before ++ n.letters) n.operand ds;
+      operand = n.operand ++ more;
+      all = ap (λ xs. xs ++ more) n.all ∙ append_assoc (n.before ++ n.letters) n.operand more;
       blank = n.blank;
       named = n.named;
-      is = g n.operand n.is;
-      apart = h n.operand n.is n.apart;
+      is = i;
+      apart = k n.apart;
     }
 
-pub opened-grows : (P Q : List Placed → Type 0) (text ds : List Placed) → ((u : List Placed) → P u → Q (u ++ ds)) → Opened P text → Opened Q (text ++ ds)
-opened-grows P Q text ds g o =
+pub joined-more : (IsLeft IsPart IsOther : List Placed → Type 0) (word : List ℕ) (text more : List Placed) (j : Joined IsLeft word IsPart text) → IsOther (j.right ++ more) →
+    (touches_ahead j.right ≡ false → touches_ahead (j.right ++ more) ≡ false) → Joined IsLeft word IsOther (text ++ more)
+joined-more IsLeft IsPart IsOther word text more j i k =
+    record {
+      left = j.left;
+      letters = j.letters;
+      right = j.right ++ more;
+      all = ap (λ xs. xs ++ more) j.all ∙ append_assoc (j.left ++ j.letters) j.right more;
+      first = j.first;
+      second = i;
+      named = j.named;
+      apart_left = j.apart_left;
+      apart_right = k j.apart_right;
+    }
+
+pub opened-more : (IsPart IsOther : List Placed → Type 0) (text more : List Placed) (o : Opened IsPart text) → IsOther (o.inner ++ more) → Opened IsOther (text ++ more)
+opened-more IsPart IsOther text more o i =
     record {
       before = o.before;
       opening = o.opening;
-      inner = o.inner ++ ds;
-      all = ap (λ xs. xs ++ ds) o.all ∙ append_assoc o.before (o.opening ∷ o.inner) ds;
+      inner = o.inner ++ more;
+      all = ap (λ xs. xs ++ more) o.all ∙ append_assoc o.before (o.opening ∷ o.inner) more;
       blank = o.blank;
       opens = o.opens;
-      is = g o.inner o.is;
+      is = i;
     }
 
--- further text above what is open, which touches no word
-pub under-grows : (layers : List Open) (P Q : List Placed → Type 0) (text ds : List Placed) → AreOpen layers → ((u : List Placed) → P u → Q (u ++ ds)) →
-    (behind_word layers ≡ true → (u : List Placed) → P u → touches_ahead u ≡ false → touches_ahead (u ++ ds) ≡ false) → Under layers P text → Under layers Q (text ++ ds)
-under-grows [] P Q text ds a g h r = g text r
-under-grows (Negation ∷ layers) P Q text ds a g h r =
-    under-grows layers (Negated P) (Negated Q) text ds a (λ u n. negated-grows P Q u ds g (h refl) n) (λ w u n e. ahead-kept u ds (negated-some P u n) e) r
-under-grows (Both operator left ∷ layers) P Q text ds a g h r =
-    under-grows layers (Joined (IsTruth left) (operator_word operator) P) (Joined (IsTruth left) (operator_word operator) Q) text ds a.3
-    (λ u j. joined-grows (IsTruth left) P Q (operator_word operator) u ds g (h refl) j)
-    (λ w u j e. ahead-kept u ds (joined-some (IsTruth left) P (operator_word operator) u j (word-some operator j.letters a.0 j.named)) e) r
-under-grows (Group ∷ layers) P Q text ds a g h r =
-    under-grows layers (Opened P) (Opened Q) text ds a (λ u o. opened-grows P Q u ds g o) (λ w u o e. ahead-kept u ds (opened-some P u o) e) r
+-- the innermost part, and how another with more text takes its place, which touches no word
+pub record Innermost (layers : List Open) (IsPart : List Placed → Type 0) (text : List Placed) : Type 1 where
+  pub part : List Placed
+  pub is : IsPart part
+  pub back : (IsOther : List Placed → Type 0) (more : List Placed) → IsOther (part ++ more) → (behind_word layers ≡ true → touches_ahead part ≡ false → touches_ahead (part ++ more) ≡ false) →
+      Under layers IsOther (text ++ more)
+
+pub innermost : (layers : List Open) (IsPart : List Placed → Type 0) (text : List Placed) → AreOpen layers → Under layers IsPart text → Innermost layers IsPart text
+innermost [] IsPart text a h = record { part = text; is = h; back = λ IsOther more q k. q }
+innermost (Negation ∷ layers) IsPart text a h =
+    let i = innermost layers (Negated IsPart) text a h in
+    record {
+      part = i.is.operand;
+      is = i.is.is;
+      back = λ IsOther more q k. i.back (Negated IsOther) more (negated-more IsPart IsOther i.part more i.is q (k refl)) (λ w. ahead-kept i.part more (negated-some IsPart i.part i.is));
+    }
+innermost (Both operator left ∷ layers) IsPart text a h =
+    let i = innermost layers (Joined (IsTruth left) (operator_word operator) IsPart) text a.3 h in
+    record {
+      part = i.is.right;
+      is = i.is.second;
+      back = λ IsOther more q k. i.back (Joined (IsTruth left) (operator_word operator) IsOther) more
+          (joined-more (IsTruth left) IsPart IsOther (operator_word operator) i.part more i.is q (k refl))
+          (λ w. ahead-kept i.part more (joined-some (IsTruth left) IsPart (operator_word operator) i.part i.is (word-some operator i.is.letters a.0 i.is.named)));
+    }
+innermost (Group ∷ layers) IsPart text a h =
+    let i = innermost layers (Opened IsPart) text a h in
+    record {
+      part = i.is.inner;
+      is = i.is.is;
+      back = λ IsOther more q k. i.back (Opened IsOther) more (opened-more IsPart IsOther i.part more i.is q) (λ w. ahead-kept i.part more (opened-some IsPart i.part i.is));
+    }
+
+pub under-grows : (layers : List Open) (IsPart IsOther : List Placed → Type 0) (text ds : List Placed) → AreOpen layers → ((u : List Placed) → IsPart u → IsOther (u ++ ds)) →
+    (behind_word layers ≡ true → (u : List Placed) → IsPart u → touches_ahead u ≡ false → touches_ahead (u ++ ds) ≡ false) → Under layers IsPart text → Under layers IsOther (text ++ ds)
+under-grows layers IsPart IsOther text ds a g h r =
+    let i = innermost layers IsPart text a r in
+    i.back IsOther ds (g i.part i.is) (λ w. h w i.part i.is)
 
 -- something else of the same text
-pub under-became : (layers : List Open) (P Q : List Placed → Type 0) (text : List Placed) → ((u : List Placed) → P u → Q u) → Under layers P text → Under layers Q text
-under-became [] P Q text f r = f text r
-under-became (Negation ∷ layers) P Q text f r =
-    under-became layers (Negated P) (Negated Q) text
+pub under-became : (layers : List Open) (IsPart IsOther : List Placed → Type 0) (text : List Placed) → ((u : List Placed) → IsPart u → IsOther u) → Under layers IsPart text → Under layers IsOther text
+under-became [] IsPart IsOther text f r = f text r
+under-became (Negation ∷ layers) IsPart IsOther text f r =
+    under-became layers (Negated IsPart) (Negated IsOther) text
     (λ u n. record { before = n.before; letters = n.letters; operand = n.operand; all = n.all; blank = n.blank; named = n.named; is = f n.operand n.is; apart = n.apart }) r
-under-became (Both operator left ∷ layers) P Q text f r =
-    under-became layers (Joined (IsTruth left) (operator_word operator) P) (Joined (IsTruth left) (operator_word operator) Q) text
+under-became (Both operator left ∷ layers) IsPart IsOther text f r =
+    under-became layers (Joined (IsTruth left) (operator_word operator) IsPart) (Joined (IsTruth left) (operator_word operator) IsOther) text
     (λ u j. record { left = j.left; letters = j.letters; right = j.right; all = j.all; first = j.first; second = f j.right j.second; named = j.named; apart_left = j.apart_left; apart_right = j.apart_right }) r
-under-became (Group ∷ layers) P Q text f r =
-    under-became layers (Opened P) (Opened Q) text
+under-became (Group ∷ layers) IsPart IsOther text f r =
+    under-became layers (Opened IsPart) (Opened IsOther) text
     (λ u o. record { before = o.before; opening = o.opening; inner = o.inner; all = o.all; blank = o.blank; opens = o.opens; is = f o.inner o.is }) r
-
--- a fact of what stands above what is open
-pub under-fact : (layers : List Open) (P : List Placed → Type 0) (C : Type 0) (text : List Placed) → ((u : List Placed) → P u → C) → Under layers P text → C
-under-fact [] P C text f r = f text r
-under-fact (Negation ∷ layers) P C text f r = under-fact layers (Negated P) C text (λ u n. f n.operand n.is) r
-under-fact (Both operator left ∷ layers) P C text f r = under-fact layers (Joined (IsTruth left) (operator_word operator) P) C text (λ u j. f j.right j.second) r
-under-fact (Group ∷ layers) P C text f r = under-fact layers (Opened P) C text (λ u o. f o.inner o.is) r
 
 -- every tree that binds as strongly as NOT may stand above what is open
 pub takes-high : (layers : List Open) (high : ℕ) → 3 ≤ high → AreOpen layers → Takes layers high
