@@ -18,3 +18,4 @@ pub mod LogicPoints
 pub mod LogicSteps
 pub mod LogicCompletions
 pub mod LogicFinds
+pub mod Automata

@@ -19,7 +19,6 @@ use Rattle.expression_grammar.specs.Reading as reading
 use Rattle.expression_grammar.specs.Reading.{State}
 use Rattle.operand_grammar.specs.Texts.{spell_text}
 use Rattle.operand_grammar.specs.TextReading.{TextState, text_weight}
-use Rattle.operand_grammar.specs.TextStanding.{TextHolds}
 use Rattle.operand_grammar.specs.Logics.{IsNumber, IsCharacters, IsLogical, IsTruth, Joined, Negated, operator_word, comparison_word, not_word, capitals, touches_behind, touches_ahead}
 use Rattle.operand_grammar.specs.LogicReading.{Open, Negation, Both, Group, Against, Point, Want, MaybeNot, Letters, Number, Text, Ended, Comparing, Right, Closed, Had, LogicState, open_size, point_weight, logic_weight}
 use Rattle.operand_grammar.specs.LogicStanding.{Takes, AreOpen, Opened, Under, Begun, Parenthesized, IsSide, Initial, Partly, PointReads, StateReads, LogicHolds, behind_word, is_empty}
@@ -28,9 +27,7 @@ use Rattle.expression_grammar.proofs.Appends.{spell-over}
 use Rattle.expression_grammar.proofs.Steps.{have-join}
 use Rattle.expression_grammar.proofs.Completions.{completes, placed-append}
 use Rattle.operand_grammar.proofs.TextPlain.{test}
-use Rattle.operand_grammar.proofs.TextSteps.{AllTextHold, text_runs}
-use Rattle.operand_grammar.proofs.TextCompletions.{text_ends}
-use Rattle.operand_grammar.proofs.TextFinds.{text_accept-spells}
+use Rattle.operand_grammar.proofs.TextFinds.{text_completes}
 use Rattle.operand_grammar.proofs.LogicUnder.{behind-last, some-last, ahead-kept, capitals-append, comparison-some, joined-some, opened-some, partly-some, under-became, takes-high, joined-more, Innermost, innermost}
 use Rattle.operand_grammar.proofs.LogicFolds.{number-rank, characters-blank}
 
@@ -366,23 +363,21 @@ record CharactersEnd (at : ℕ) (part : List Placed) (wanted : ℕ) : Type 0 whe
 
 characters-end : (inner : TextState) (at : ℕ) (part : List Placed) → Begun inner part → CharactersEnd at part (text_weight inner)
 characters-end inner at part b =
-    let e = text_ends at inner b.core b.holds in
-    let held : TextHolds e.last (b.core ++ placed at e.rest) = subst (λ (s : Option TextState). AllTextHold s (b.core ++ placed at e.rest)) e.runs (text_runs (placed at e.rest) inner b.core b.holds) in
-    let s = text_accept-spells (b.core ++ placed at e.rest) e.last e.tree held e.accepts in
+    let c = text_completes inner at b.core b.holds in
     record {
-      rest = e.rest;
-      tree = e.tree;
+      rest = c.rest;
+      tree = c.tree;
       is = record {
         before = b.before;
-        core = b.core ++ placed at e.rest;
+        core = b.core ++ placed at c.rest;
         behind = [];
-        all = ap (λ xs. xs ++ placed at e.rest) b.all ∙ append_assoc b.before b.core (placed at e.rest) ∙ sym (append-nil (b.before ++ (b.core ++ placed at e.rest)));
+        all = ap (λ xs. xs ++ placed at c.rest) b.all ∙ append_assoc b.before b.core (placed at c.rest) ∙ sym (append-nil (b.before ++ (b.core ++ placed at c.rest)));
         blank_before = b.blank;
         blank_behind = tt;
-        fits = s.0;
-        reads = s.1;
+        fits = c.fits;
+        reads = c.reads;
       };
-      exact = e.exact;
+      exact = c.exact;
     }
 
 -- a comparison of a text and a text that is empty

@@ -1,39 +1,25 @@
 -- What the reading of a character expression finds: its tree, or where no character expression goes on.
-use Rattle.std.proofs.Common.{◌≡◌, ℕ, suc, ◌+◌, ◌-◌, ◌<◌, ◌≤◌, Bool, true, false, List, [], ◌∷◌, ◌++◌, length, take, get_or, refl, sym, ap, ◌∙◌, subst, arith, append_assoc, length-append, zero-add}
+use Rattle.std.proofs.Common.{◌≡◌, ℕ, ◌+◌, ◌<◌, List, [], ◌∷◌, ◌++◌, length, take, get_or, refl, sym, subst, arith}
 use Rattle.std.specs.Prelude.{nat_le, Option, Some, None, option_and_then, if◌then◌else◌}
-use Rattle.std.proofs.lemmas.Bool.Decides.{nat_tests}
 use Rattle.expression_grammar.specs.declared.character.Grammar.TheVariants.{Arithmetic}
 use Rattle.expression_grammar.specs.declared.character.Kind.TheVariants as kind
 use Rattle.expression_grammar.specs.declared.fault.SyntaxFault.{SyntaxFault}
 use Rattle.expression_grammar.specs.declared.fault.SyntaxFault.TheVariants.{At, OutOfMemory}
-use Rattle.expression_grammar.specs.Trees.{Tree, Quoted, NoTrees}
+use Rattle.expression_grammar.specs.Trees.{Tree, Quoted, NoTrees, size}
 use Rattle.expression_grammar.specs.Parts.{symbol_at}
-use Rattle.expression_grammar.specs.Spelling.{Placed, placed, One, Reads, IsExpression, IsViable, IsAt, most_parts}
-use Rattle.operand_grammar.specs.Texts.{spell_text, IsText, SpellsText}
+use Rattle.expression_grammar.specs.Spelling.{Placed, placed, One, Reads, IsExpression, IsAt, most_parts}
 use Rattle.expression_grammar.specs.Answers.{IsFault}
+use Rattle.operand_grammar.specs.Texts.{spell_text, IsText, SpellsText}
 use Rattle.operand_grammar.specs.TextAnswers.{TextStops}
-use Rattle.operand_grammar.specs.TextReading.{AsType, TextState, WantPart, Naming, Closed, Word, Done, built, with_plain, typed, typed_name, text_step, text_run, text_accept, text_weight, text_kept, text_advance, TextReaches}
+use Rattle.operand_grammar.specs.TextReading.{AsType, TextState, WantPart, Naming, Closed, Word, Done, built, with_plain, typed, typed_name, text_step, text_run, text_accept, text_weight, text_advance, TextReaches}
 use Rattle.operand_grammar.specs.TextStanding.{text_pieces, TextHolds}
-use Rattle.expression_grammar.proofs.Pieces.{append-nil}
-use Rattle.expression_grammar.proofs.Completions.{placed-append}
-use Rattle.expression_grammar.proofs.Finds.{placed-one, take-all, take-past}
-use Rattle.expression_grammar.proofs.ReadingLaws.{cut-at, take-next, take-size, take-whole}
 use Rattle.operand_grammar.proofs.TextPlain.{with_plain-are}
 use Rattle.operand_grammar.proofs.TextWeights.{text_run-least, text_accept-size}
 use Rattle.operand_grammar.proofs.TextSteps.{AllTextHold, text_runs, text_starts, whole-of, plain-items, built-pieces, built-text, typed-pieces, typed-text, typed_name-pieces, typed_name-text}
-use Rattle.operand_grammar.proofs.TextLeads.{text_run-step}
 use Rattle.operand_grammar.proofs.TextCompletions.{text_ends}
 use Rattle.operand_grammar.proofs.TextTrees.{text_accepted}
-
-text_run-append_of : (ps qs : List Placed) (next : TextState) (found : Option TextState) → ((s : TextState) → text_run s ps ≡ Some next → text_run s (ps ++ qs) ≡ text_run next qs) →
-    option_and_then (λ s. text_run s ps) found ≡ Some next → option_and_then (λ s. text_run s (ps ++ qs)) found ≡ text_run next qs
-text_run-append_of ps qs next None go e = cc
-text_run-append_of ps qs next (Some state) go e = go state e
-
--- a run is a run of its parts
-text_run-append : (ps qs : List Placed) (state next : TextState) → text_run state ps ≡ Some next → text_run state (ps ++ qs) ≡ text_run next qs
-text_run-append [] qs state next e = let same : state ≡ next = cc in ap (λ x. text_run x qs) same
-text_run-append (p ∷ ps) qs state next e = text_run-append_of ps qs next (text_step state p) (λ s f. text_run-append ps qs s next f) e
+use Rattle.operand_grammar.proofs.Automata as automata
+use Rattle.operand_grammar.proofs.Automata.{Automaton, Reached, placed-more}
 
 -- what holds of the state that a text leads to
 reached-holds : (ps : List Placed) (state : TextState) → text_run (WantPart None) ps ≡ Some state → TextHolds state ps
@@ -60,149 +46,81 @@ text_accept-spells cs (Word left place name) tree h e =
 text_accept-spells cs (Done found) tree h e = spells-same found tree cs e h.stands (whole-of (text_pieces (Done found)) cs h.front h.back h.both h.rests h.reads)
 text_accept-spells cs _ tree h e = cc
 
-reaches-viable : (limit : ℕ) (text : List ℕ) (state : TextState) → TextReaches limit text state → IsViable SpellsText limit text
-reaches-viable limit text state r =
-    let c = text_ends (length text) state (placed 0 text) (reached-holds (placed 0 text) state r.runs) in
-    let small = r.small in let exact = c.exact in
-    let e : placed 0 text ++ placed (length text) c.rest ≡ placed 0 (text ++ c.rest) =
-    ap (λ n. placed 0 text ++ placed n c.rest) (sym (zero-add (length text))) ∙ sym (placed-append 0 text c.rest) in
-    let all : text_run (WantPart None) (placed 0 (text ++ c.rest)) ≡ Some c.last =
-    ap (text_run (WantPart None)) (sym e) ∙ text_run-append (placed 0 text) (placed (length text) c.rest) (WantPart None) state r.runs ∙ c.runs in
-    let s = text_accept-spells (placed 0 (text ++ c.rest)) c.last c.tree (reached-holds (placed 0 (text ++ c.rest)) c.last all) c.accepts in
-    record { rest = c.rest; tree = c.tree; expression = record { spells = record { fits = s.0; reads = s.1 }; small = omega arith } }
+-- a rest, and the tree of the whole
+pub record TextCompletes (at : ℕ) (cs : List Placed) (wanted : ℕ) : Type 0 where
+  pub rest : List ℕ
+  pub tree : Tree
+  pub fits : IsText tree
+  pub reads : Reads Arithmetic (spell_text tree []) (cs ++ placed at rest)
+  pub exact : size tree ≡ wanted
 
-reaches-start : (limit : ℕ) → 1 ≤ limit → TextReaches limit [] (WantPart None)
-reaches-start limit h = record { runs = refl; small = h }
+-- whatever was read can be completed
+pub text_completes : (state : TextState) (at : ℕ) (cs : List Placed) → TextHolds state cs → TextCompletes at cs (text_weight state)
+text_completes state at cs h =
+    let e = text_ends at state cs h in
+    let held : TextHolds e.last (cs ++ placed at e.rest) = subst (λ (s : Option TextState). AllTextHold s (cs ++ placed at e.rest)) e.runs (text_runs (placed at e.rest) state cs h) in
+    let s = text_accept-spells (cs ++ placed at e.rest) e.last e.tree held e.accepts in
+    record { rest = e.rest; tree = e.tree; fits = s.0; reads = s.1; exact = e.exact }
 
-record Advanced (limit : ℕ) (found : Option TextState) (next : TextState) : Type 0 where
-  steps : found ≡ Some next
-  small : text_weight next ≤ limit
-
-kept-some : (limit : ℕ) (state next : TextState) (b : Bool) → nat_le (text_weight state) limit ≡ b → (if b then Some state else None) ≡ Some next → (state ≡ next) × (text_weight next ≤ limit)
-kept-some limit state next true t e = let same : state ≡ next = cc in (same, subst (λ x. text_weight x ≤ limit) same (grind (arith, nat_tests)))
-kept-some limit state next false t e = cc
-
-advanced : (limit : ℕ) (found : Option TextState) (next : TextState) → option_and_then (text_kept limit) found ≡ Some next → Advanced limit found next
-advanced limit None next e = cc
-advanced limit (Some state) next e =
-    let k = kept-some limit state next (nat_le (text_weight state) limit) refl e in
-    record { steps = ap Some k.0; small = k.1 }
-
-reaches-next : (limit : ℕ) (text : List ℕ) (c : ℕ) (state next : TextState) → TextReaches limit text state →
-    text_advance limit state (record { at = length text; code = c }) ≡ Some next → TextReaches limit (text ++ c ∷ []) next
+text-advances : (limit : ℕ) (state : TextState) (p : Placed) → text_advance limit state p ≡ option_and_then (λ next. if nat_le (text_weight next) limit then Some next else None) (text_step state p)
 unfolding text_advance
-reaches-next limit text c state next r e =
-    let p : Placed = record { at = length text; code = c } in
-    let a = advanced limit (text_step state p) next e in
+text-advances limit state p = refl
+
+text-spells : (text : List ℕ) (state : TextState) (tree : Tree) → text_run (WantPart None) (placed 0 text) ≡ Some state → text_accept state ≡ Some tree → SpellsText text tree
+text-spells text state tree r a = let s = text_accept-spells (placed 0 text) state tree (reached-holds (placed 0 text) state r) a in record { fits = s.0; reads = s.1 }
+
+text-completed : (text : List ℕ) (state : TextState) → text_run (WantPart None) (placed 0 text) ≡ Some state → (rest : List ℕ) × (tree : Tree) × SpellsText (text ++ rest) tree × (size tree ≡ text_weight state)
+text-completed text state r =
+    let c = text_completes state (length text) (placed 0 text) (reached-holds (placed 0 text) state r) in
+    (c.rest, c.tree, record { fits = c.fits; reads = subst (Reads Arithmetic (spell_text c.tree [])) (placed-more text c.rest) c.reads }, c.exact)
+
+-- the reader of character expressions
+abbrev text_automaton : Automaton SpellsText TextState
+text_automaton =
     record {
-      runs = ap (text_run (WantPart None)) (placed-one text c []) ∙ text_run-append (placed 0 text) (p ∷ []) (WantPart None) state r.runs ∙ text_run-step state next p [] a.steps;
-      small = a.small;
+      start = WantPart None;
+      step = text_step;
+      run = text_run;
+      accept = text_accept;
+      weight = text_weight;
+      advance = text_advance;
+      ends = λ state. refl;
+      goes = λ state p ps. refl;
+      advances = text-advances;
+      least = text_run-least;
+      exact = text_accept-size;
+      accepted = λ text tree s. let a = text_accepted tree (placed 0 text) s.fits s.reads in (a.last, a.runs, a.accepts);
+      spells = text-spells;
+      completes = text-completed;
     }
 
--- what is not kept is too large
-kept-none : (limit : ℕ) (state : TextState) (b : Bool) → nat_le (text_weight state) limit ≡ b → (if b then Some state else None) ≡ None → limit < text_weight state
-kept-none limit state true t e = cc
-kept-none limit state false t e = grind (arith, nat_tests)
-
-stuck : (limit : ℕ) (found : Option TextState) (ps : List Placed) (last : TextState) → option_and_then (text_kept limit) found ≡ None →
-    option_and_then (λ next. text_run next ps) found ≡ Some last → limit < text_weight last
-stuck limit None ps last a e = cc
-stuck limit (Some state) ps last a e = let over = kept-none limit state (nat_le (text_weight state) limit) refl a in let least = text_run-least ps state last e in omega arith
-
--- where no state follows, no expression goes on
-no-expression : (limit : ℕ) (text : List ℕ) (c : ℕ) (state : TextState) → TextReaches limit text state →
-    text_advance limit state (record { at = length text; code = c }) ≡ None → (rest : List ℕ) (tree : Tree) → IsExpression SpellsText limit (text ++ c ∷ rest) tree → ⊥
-unfolding text_advance
-no-expression limit text c state r a rest tree e =
-    let p : Placed = record { at = length text; code = c } in
-    let all = text_accepted tree (placed 0 (text ++ c ∷ rest)) e.spells.fits e.spells.reads in
-    let small = e.small in
-    let size = text_accept-size all.last tree all.accepts in
-    let runs : text_run state (p ∷ placed (length text + 1) rest) ≡ Some all.last =
-    sym (text_run-append (placed 0 text) (p ∷ placed (length text + 1) rest) (WantPart None) state r.runs) ∙ ap (text_run (WantPart None)) (sym (placed-one text c rest)) ∙ all.runs in
-    let over = stuck limit (text_step state p) (placed (length text + 1) rest) all.last a runs in
-    absurd (omega arith)
-
-stops : (limit : ℕ) (text : List ℕ) (c : ℕ) (rest : List ℕ) (state : TextState) → TextReaches limit text state →
-    text_advance limit state (record { at = length text; code = c }) ≡ None → IsAt SpellsText limit (text ++ c ∷ rest) (length text)
-stops limit text c rest state r a =
-    record {
-      within = omega (arith, length-append text (c ∷ rest));
-      viable = subst (IsViable SpellsText limit) (sym (take-all text (c ∷ rest))) (reaches-viable limit text state r);
-      longest = λ more h w v.
-          let qs : List ℕ = take (more - length text - 1) rest in
-          let whole : take more (text ++ c ∷ rest) ++ v.rest ≡ text ++ c ∷ (qs ++ v.rest) = ap (λ xs. xs ++ v.rest) (take-past text c rest more h) ∙ append_assoc text (c ∷ qs) v.rest in
-          no-expression limit text c state r a (qs ++ v.rest) v.tree (subst (λ xs. IsExpression SpellsText limit xs v.tree) whole v.expression);
-      none = λ tree e. no-expression limit text c state r a rest tree e;
-    }
-
-accepts-of : (limit : ℕ) (text : List ℕ) (state : TextState) (tree : Tree) → TextReaches limit text state → IsExpression SpellsText limit text tree → text_accept state ≡ Some tree
-accepts-of limit text state tree r e =
-    let all = text_accepted tree (placed 0 text) e.spells.fits e.spells.reads in
-    let same : state ≡ all.last = let a = r.runs in let b = all.runs in cc in
-    ap (text_accept) same ∙ all.accepts
-
--- at the end no tree is there
-ends-open : (limit : ℕ) (text : List ℕ) (state : TextState) → TextReaches limit text state → text_accept state ≡ None → IsAt SpellsText limit text (length text)
-ends-open limit text state r n =
-    record {
-      within = omega arith;
-      viable = subst (IsViable SpellsText limit) (sym (take-all text []) ∙ ap (take (length text)) (append-nil text)) (reaches-viable limit text state r);
-      longest = λ more h w v. absurd (omega arith);
-      none = λ tree e. let a = accepts-of limit text state tree r e in cc;
-    }
-
--- at the end a tree is there
-ends-whole : (limit : ℕ) (text : List ℕ) (state : TextState) (tree : Tree) → TextReaches limit text state → text_accept state ≡ Some tree → IsExpression SpellsText limit text tree
-ends-whole limit text state tree r a =
-    let s = text_accept-spells (placed 0 text) state tree (reached-holds (placed 0 text) state r.runs) a in
-    let size = text_accept-size state tree a in let small = r.small in
-    record { spells = record { fits = s.0; reads = s.1 }; small = omega arith }
+reached : (limit : ℕ) (text : List ℕ) (state : TextState) → TextReaches limit text state → Reached text_automaton limit text state
+reached limit text state r = record { runs = r.runs; small = r.small }
 
 -- a text has one tree
 pub one_text-tree : (text : List ℕ) (tree other : Tree) → SpellsText text tree → SpellsText text other → tree ≡ other
-one_text-tree text tree other s t =
-    let a = text_accepted tree (placed 0 text) s.fits s.reads in
-    let b = text_accepted other (placed 0 text) t.fits t.reads in
-    let same : a.last ≡ b.last = let x = a.runs in let y = b.runs in cc in
-    let e : text_accept a.last ≡ Some other = ap (text_accept) same ∙ b.accepts in
-    let f = a.accepts in cc
+one_text-tree text tree other s t = automata.one-tree text_automaton text tree other s t
 
 -- In the words of the reader.
 
 pub text_starts_here : (all : List ℕ) → TextReaches most_parts (take 0 all) (WantPart None)
-text_starts_here all = reaches-start most_parts (omega arith)
+text_starts_here all = record { runs = refl; small = omega arith }
 
 -- no state follows here
 pub text_stop_here : (all : List ℕ) (n c at : ℕ) (state : TextState) (fault : SyntaxFault) → n < length all → c ≡ get_or all n c → at ≡ n → TextReaches most_parts (take n all) state →
     TextStops state (record { at = at; code = c }) fault → IsFault SpellsText all fault
-text_stop_here all n c at state (At count) h e a r s =
-    let cut = cut-at all n c h e in
-    let size : length (take n all) ≡ n = take-size all n (omega arith) in
-    let none : text_advance most_parts state (record { at = length (take n all); code = c }) ≡ None =
-    ap (λ k. text_advance most_parts state (record { at = k; code = c })) (size ∙ sym a) ∙ s.1 in
-    let found : IsAt SpellsText most_parts (take n all ++ c ∷ cut.rest) (length (take n all)) = stops most_parts (take n all) c cut.rest state r none in
-    let same : length (take n all) ≡ count = size ∙ sym a ∙ sym s.0 in
-    subst (λ (xs : List ℕ). IsAt SpellsText most_parts xs count) (sym cut.both) (subst (λ (k : ℕ). IsAt SpellsText most_parts (take n all ++ c ∷ cut.rest) k) same found)
+text_stop_here all n c at state (At count) h e a r s = automata.stop_here text_automaton all n c at count state h e a (reached most_parts (take n all) state r) s.0 s.1
 text_stop_here all n c at state OutOfMemory h e a r s = tt
 
 -- a state follows here
 pub text_go_on_here : (all : List ℕ) (n c at m : ℕ) (state next : TextState) → n < length all → c ≡ get_or all n c → at ≡ n → m ≡ n + 1 → TextReaches most_parts (take n all) state →
     text_advance most_parts state (record { at = at; code = c }) ≡ Some next → TextReaches most_parts (take m all) next
 text_go_on_here all n c at m state next h e a f r s =
-    let size : length (take n all) ≡ n = take-size all n (omega arith) in
-    let some : text_advance most_parts state (record { at = length (take n all); code = c }) ≡ Some next =
-    ap (λ k. text_advance most_parts state (record { at = k; code = c })) (size ∙ sym a) ∙ s in
-    let count : suc n ≡ m = omega arith in
-    let same : take n all ++ c ∷ [] ≡ take m all = sym (take-next all n c h e) ∙ ap (λ k. take k all) count in
-    subst (λ (xs : List ℕ). TextReaches most_parts xs next) same (reaches-next most_parts (take n all) c state next r some)
+    let x = automata.go_on_here text_automaton all n c at m state next h e a f (reached most_parts (take n all) state r) s in
+    record { runs = x.runs; small = x.small }
 
 pub text_end_some : (all : List ℕ) (n : ℕ) (state : TextState) (tree : Tree) → n ≡ length all → TextReaches most_parts (take n all) state → Some tree ≡ text_accept state → IsExpression SpellsText most_parts all tree
-text_end_some all n state tree e r a =
-    let whole : take n all ≡ all = ap (λ k. take k all) e ∙ take-whole all in
-    ends-whole most_parts all state tree (subst (λ (xs : List ℕ). TextReaches most_parts xs state) whole r) (sym a)
+text_end_some all n state tree e r a = automata.end_some text_automaton all n state tree e (reached most_parts (take n all) state r) a
 
 pub text_end_none : (all : List ℕ) (n at : ℕ) (state : TextState) → n ≡ length all → at ≡ n → TextReaches most_parts (take n all) state → None ≡ text_accept state → IsAt SpellsText most_parts all at
-text_end_none all n at state e f r a =
-    let whole : take n all ≡ all = ap (λ k. take k all) e ∙ take-whole all in
-    subst (λ (k : ℕ). IsAt SpellsText most_parts all k) (sym (f ∙ e)) (ends-open most_parts all state (subst (λ (xs : List ℕ). TextReaches most_parts xs state) whole r) (sym a))
+text_end_none all n at state e f r a = automata.end_none text_automaton all n at state e f (reached most_parts (take n all) state r) a
