@@ -12,3 +12,9 @@ pub mod TextStackLaws
 pub mod SplitLaws
 pub mod SplitSublistLaws
 pub mod LogicWeights
+pub mod LogicLaws
+pub mod LogicTouches
+pub mod LogicStands
+pub mod LogicNumbers
+pub mod LogicTexts
+pub mod LogicLeads
