@@ -19,3 +19,10 @@ pub mod LogicSteps
 pub mod LogicCompletions
 pub mod LogicFinds
 pub mod Automata
+pub mod LogicWeights
+pub mod LogicLaws
+pub mod LogicTouches
+pub mod LogicStands
+pub mod LogicNumbers
+pub mod LogicTexts
+pub mod LogicLeads
