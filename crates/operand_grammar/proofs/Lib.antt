@@ -11,3 +11,4 @@ pub mod TextWeights
 pub mod TextStackLaws
 pub mod SplitLaws
 pub mod SplitSublistLaws
+pub mod LogicStackLaws
