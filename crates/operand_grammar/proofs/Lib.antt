@@ -26,3 +26,4 @@ pub mod LogicStands
 pub mod LogicNumbers
 pub mod LogicTexts
 pub mod LogicLeads
+pub mod LogicStackLaws

@@ -1,5 +1,7 @@
+pub mod LogicAnswers
 pub mod LogicReading
 pub mod LogicStanding
+pub mod LogicViews
 pub mod Logics
 pub mod Split
 pub mod SplitSublist

@@ -10,7 +10,11 @@
 #![tactic(auto)]
 
 pub mod laws;
+mod logic_behind;
+mod logic_point;
+mod logic_reader;
 mod parse_text;
+mod parse_truth;
 mod quoted;
 mod split;
 mod split_elements;
@@ -22,9 +26,12 @@ pub use expression_grammar::{
     Symbol, SyntaxFault, parse_arith, parse_ordinary,
 };
 pub use parse_text::parse_char;
+pub use parse_truth::parse_logic;
 pub use split::{Operands, split_operands};
 pub use split_elements::split_sublist;
 
+#[cfg(test)]
+mod logic_tests;
 #[cfg(test)]
 mod split_tests;
 #[cfg(test)]

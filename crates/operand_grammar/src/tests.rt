@@ -1,5 +1,5 @@
 use crate::{
-    Attribute, Expr, Item, Operator, Reference, Sign, Symbol, SyntaxFault, parse_arith,
+    Attribute, Comparison, Expr, Item, Operator, Reference, Sign, Symbol, SyntaxFault, parse_arith,
     parse_ordinary,
 };
 use std::alloc::{AllocError, Global};
@@ -29,7 +29,20 @@ fn mark(operator: Operator) -> &'static str {
         Operator::Subtract => "-",
         Operator::Multiply => "*",
         Operator::Divide => "/",
-        _ => "?",
+        Operator::And => "and",
+        Operator::Or => "or",
+        Operator::Xor => "xor",
+    }
+}
+
+fn compares(comparison: Comparison) -> &'static str {
+    match comparison {
+        Comparison::Eq => "eq",
+        Comparison::Ne => "ne",
+        Comparison::Lt => "lt",
+        Comparison::Le => "le",
+        Comparison::Gt => "gt",
+        Comparison::Ge => "ge",
     }
 }
 
@@ -77,7 +90,15 @@ fn shown(alloc: Global, e: &Expr) -> Result<String, AllocError> {
         Expr::Joined(left, right) => {
             format!(in alloc; "({} . {})", shown(alloc, left)?, shown(alloc, right)?)
         }
-        _ => format!(in alloc; "?"),
+        Expr::Not(operand) => format!(in alloc; "(not {})", shown(alloc, operand)?),
+        Expr::Compared(comparison, left, right) => {
+            format!(in alloc;
+                "({} {} {})",
+                compares(*comparison),
+                shown(alloc, left)?,
+                shown(alloc, right)?
+            )
+        }
     }
 }
 

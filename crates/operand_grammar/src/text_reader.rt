@@ -2,7 +2,7 @@
 //!
 //! A character expression nests only through the arithmetic expressions in it, so it is where it stands, and within
 //! one of these the automaton of arithmetic. No call recurses on the text.
-ghost use Rattle.std.specs.Prelude.{◌≡◌, ◌+◌, ◌<◌, ◌^◌, [], ◌∷◌, IfOk, IfSome, IsTrue, is_some, option_map, Some, true};
+ghost use Rattle.std.specs.Prelude.{◌≡◌, ◌+◌, ◌<◌, ◌≤◌, ◌^◌, [], ◌∷◌, IfOk, IfSome, IsTrue, is_some, option_map, Some, true};
 ghost use Rattle.expression_grammar.specs.Characters as characters;
 ghost use Rattle.expression_grammar.specs.Parts as parts;
 ghost use Rattle.expression_grammar.specs.Reading as reading;
@@ -55,7 +55,7 @@ fn arithmetic(alloc: Global, frame: Frame) -> TextPoint
 }
 
 /// A quoted text begins.
-fn quotation(alloc: Global, left: Option<Expr>, factor: Option<Expr>) -> TextPoint
+pub(crate) fn quotation(alloc: Global, left: Option<Expr>, factor: Option<Expr>) -> TextPoint
     ensures { text_state result ≡ texts.Inside (record { left = left_of left; factor = left_of factor }) NoItems [] }
 {
     TextPoint::Inside(
@@ -66,8 +66,14 @@ fn quotation(alloc: Global, left: Option<Expr>, factor: Option<Expr>) -> TextPoi
 }
 
 /// A character where a part is wanted.
-fn begin_part(alloc: Global, left: Option<Expr>, kind: Kind, c: char) -> Option<TextMoved>
-    ensures { TextMoves (texts.begin_part (left_of left) kind c) (texts.left_size (left_of left) + 1) result }
+pub(crate) fn begin_part(
+    alloc: Global,
+    left: Option<Expr>,
+    kind: Kind,
+    c: char,
+) -> Option<TextMoved>
+    ensures moves { TextMoves (texts.begin_part (left_of left) kind c) (texts.left_size (left_of left) + 1) result }
+    ensures small { IfSome result (λ moved. moved.more ≤ 2) }
 {
     match kind {
         Kind::Quote => moved(quotation(alloc, left, None), 0),
@@ -404,7 +410,7 @@ pub(crate) enum Settled {
 
 /// Whether an arithmetic expression may end here.
 #[tactic(auto, unfolding(expression_grammar::specs::Parts::finish))]
-fn settle(alloc: Global, inner: Point) -> Settled
+pub(crate) fn settle(alloc: Global, inner: Point) -> Settled
     ensures { Settles inner result }
 {
     match inner {
