@@ -71,13 +71,13 @@ fold-over floor n tree (SubscriptLayer asked symbol others ∷ layers) = refl
 pub data Above (inner : State) (n : ℕ) (p : Placed) (next : State) : Type 0 where
   stays : (found : State) → step Arithmetic inner p ≡ Some found → next ≡ over found (opens n) → Above inner n p next
   leaves : (fewer : ℕ) (tree : Tree) → n ≡ suc fewer → step Arithmetic inner p ≡ None → accept Arithmetic inner ≡ Some tree → kind_of p.code ≡ kind.Close →
-    next ≡ Have (Paren tree) (opens fewer) → Above inner n p next
+      next ≡ Have (Paren tree) (opens fewer) → Above inner n p next
 
 -- the same, of what a step finds
 data Found (found : Option State) (settles : Option Folded) (k : Kind) (n : ℕ) (next : State) : Type 0 where
   found_stays : (one : State) → found ≡ Some one → next ≡ over one (opens n) → Found found settles k n next
   found_leaves : (fewer : ℕ) (tree : Tree) → n ≡ suc fewer → found ≡ None → option_and_then whole settles ≡ Some tree → k ≡ kind.Close →
-    next ≡ Have (Paren tree) (opens fewer) → Found found settles k n next
+      next ≡ Have (Paren tree) (opens fewer) → Found found settles k n next
 
 mapped : (found : Option State) (settles : Option Folded) (k : Kind) (n : ℕ) (next : State) → option_map (λ s. over s (opens n)) found ≡ Some next → Found found settles k n next
 mapped None settles k n next e = cc
