@@ -20,7 +20,8 @@ use Rattle.hlasm_statements.specs.Faults.{where_met, faults_of, has_margin_text}
 use Rattle.hlasm_statements.specs.Statements.{lines_read, read_of, statement_in}
 use Rattle.hlasm_statements.specs.Building.{is_plain, empty_statement, filled_statement, whole_statement}
 use Rattle.hlasm_statements.specs.Reading.{IsRead, opening_of, whole_source, bodies_of}
-use Rattle.hlasm_statements.proofs.ReadingLaws.{label-whole, op-whole, operands-whole, text_of-append}
+use Rattle.hlasm_statements.proofs.FieldLaws.{text_of-append}
+use Rattle.hlasm_statements.proofs.ReadingLaws.{label-whole, op-whole, operands-whole}
 use Rattle.hlasm_statements.proofs.SourceLaws.{operation_text, text_of-label, text_of-operation, blank_fields, continued-append}
 
 -- ---- shapes

@@ -15,7 +15,9 @@ use Rattle.hlasm_statements.specs.Fields.{keeps_groups, ends_field}
 use Rattle.hlasm_statements.specs.Reading.{is_ascii_ink, is_simple, EndsSimply, IsSimpleScan, Passes, EndsAt, IsScan, Scans}
 use Rattle.hlasm_statements.proofs.ListLaws.{prefix_len-pass, prefix_len-stop, prefix_len-twice, length_found, length_all}
 use Rattle.hlasm_statements.proofs.CharLaws.{front-chars}
-use Rattle.hlasm_statements.proofs.ReadingLaws.{all_while, behind-cons, behind-push}
+use Rattle.hlasm_statements.proofs.FieldLaws.{all_while}
+use Rattle.hlasm_statements.proofs.OperandLaws.{behind-cons}
+use Rattle.hlasm_statements.proofs.ScanLaws.{behind-push}
 
 pub blank_small : (b : ℕ) → is_blank b ≡ true → b < 128
 blank_small b h = elim (or_cases (b == 32) (b == 9) h) [
