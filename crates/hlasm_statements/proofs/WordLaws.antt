@@ -1,23 +1,18 @@
 -- What blanks and words before the operands add to the fields.
-use Rattle.std.proofs.Common.{◌≡◌, ◌∙◌, ℕ, ◌+◌, ◌<◌, ◌≤◌, Bool, true, false, cond, not, Option, Some, None, List, [], ◌∷◌, ◌++◌, length, take, drop, get_or, refl, sym, ap, subst, inl, inr, arith, append-nil, append_assoc, take-append-drop, take_all, drop-cons, add-one, suc, length-append}
-use Rattle.std.specs.Prelude.{take_while, ◌==◌, ◌&&◌, reverse, slice_index, nat_lt}
+use Rattle.std.proofs.Common.{◌≡◌, ◌∙◌, ℕ, ◌+◌, ◌<◌, Bool, true, false, None, List, [], ◌∷◌, ◌++◌, length, take, refl, sym, ap, subst, inl, inr, arith, append-nil, append_assoc}
+use Rattle.std.specs.Prelude.{take_while}
 use Rattle.std.specs.List.{list_all, prefix_len}
-use Rattle.std.proofs.lemmas.Bool.{cases_Bool, and_parts, and_from, eq-eqb, eqb-true, true≢false, ltb-true, ltb-false}
-use Rattle.std.proofs.lemmas.Bool.Decides.{nat_tests}
-use Rattle.std.proofs.lemmas.List.{reverse-append, length-take-le}
+use Rattle.std.proofs.lemmas.Bool.{cases_Bool, and_parts, and_from, true≢false}
 use Rattle.hl_base.specs.Quoting.{IsBehind}
 use Rattle.hl_base.specs.declared.quoting.Nesting.{Nesting}
 use Rattle.hlasm_statements.specs.declared.reader.Stage.{Stage}
 use Rattle.hlasm_statements.specs.declared.reader.Stage.TheVariants.{Label, Gap, Operation, OperandGap, Operands, Remarks, Done}
 use Rattle.hlasm_statements.specs.declared.reader.Reader.{Reader}
-use Rattle.hlasm_statements.specs.declared.reader.Scan.{Scan}
-use Rattle.hlasm_statements.specs.Columns.{Placed, placed, is_blank, is_ink, text_of, places_of}
+use Rattle.hlasm_statements.specs.Columns.{Placed, placed, is_blank, is_ink, text_of}
 use Rattle.hlasm_statements.specs.Places.{side_by_side}
-use Rattle.hlasm_statements.specs.Shape.{skip_while, label_of, operation_of}
-use Rattle.hlasm_statements.specs.Fields.{keeps_groups, ends_field, is_remark, operand_field, behind_operation, operands_of}
-use Rattle.hlasm_statements.specs.Reading.{word, behind_word, behind_blanks, stage_behind_blanks, precedes, is_before_operands, is_past, label_after, op_after, rest_after, backwards, IsRead, ReadsOn, is_done, Passes, EndsAt, IsScan, Scans, stage_scanned}
-use Rattle.hlasm_statements.proofs.SourceLaws.{placed-append}
-use Rattle.hlasm_statements.proofs.ListLaws.{take_while-pass, take_while-stop, skip_while-pass, skip_while-stop}
+use Rattle.hlasm_statements.specs.Fields.{keeps_groups, operand_field}
+use Rattle.hlasm_statements.specs.Reading.{word, behind_word, behind_blanks, stage_behind_blanks, precedes, is_before_operands, label_after, op_after, rest_after, backwards, ReadsOn, is_done}
+use Rattle.hlasm_statements.proofs.ListLaws.{take_while-pass}
 use Rattle.hlasm_statements.proofs.FieldLaws.{word-blank, behind_word-blank, behind_blanks-ink, all_while, no_blank, word-all, behind_word-all, behind_blanks-all, read-on, text-more, places-more}
 
 -- ---- blanks before the operands

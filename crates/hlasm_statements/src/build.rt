@@ -248,5 +248,12 @@ pub fn push_lines(
     requires { 0 < length bodies.now }
     ensures { OnOk result (statements.new ≡ statements.old ++ whole_statement number is_marked (bodies_of bodies.now) ∷ []) }
 {
-    push_statement(statements, alloc, number, bodies[0], &bodies[1..], is_marked)
+    push_statement(
+        statements,
+        alloc,
+        number,
+        bodies[0],
+        &bodies[1..],
+        is_marked,
+    )
 }
