@@ -1,5 +1,5 @@
 //! Owned text, seen as the list of its characters.
-ghost use Rattle.std.specs.Prelude.{◌≡◌, ◌↔◌, [], ◌++◌, IfOk, OnOk, OnErr, IsTrue, IsUtf8, encode_utf8_all, string_bytes};
+ghost use Rattle.std.specs.Prelude.{◌≡◌, ◌↔◌, [], ◌++◌, IfOk, OnOk, OnErr, IsTrue, encode_utf8_all, string_bytes};
 ghost use Rattle.std.specs.Str.{chars};
 ghost use Rattle.hl_base.specs.Content.{content_bytes};
 

@@ -1,5 +1,5 @@
 -- The statement that some lines make up.
-use Rattle.std.proofs.Common.{◌≡◌, ◌∙◌, ℕ, ◌+◌, ◌-◌, ◌<◌, ◌≤◌, Bool, true, false, cond, not, List, [], ◌∷◌, ◌++◌, length, take, drop, refl, sym, ap, subst, arith, take_all, take-append-drop, append_assoc, append-nil, get_or, suc}
+use Rattle.std.proofs.Common.{◌≡◌, ◌∙◌, ℕ, ◌+◌, ◌-◌, ◌<◌, Bool, true, false, cond, not, List, [], ◌∷◌, ◌++◌, length, take, drop, refl, sym, ap, subst, arith, take_all, take-append-drop, append_assoc, append-nil, get_or}
 use Rattle.std.specs.Prelude.{◌==◌, ◌&&◌, slice_index, nat_lt, take_while, encode_utf8_all, chars}
 use Rattle.hl_base.specs.Symbols.{symbol_of}
 use Rattle.std.specs.List.{list_all, list_any}
@@ -20,8 +20,9 @@ use Rattle.hlasm_statements.specs.Faults.{where_met, faults_of, has_margin_text}
 use Rattle.hlasm_statements.specs.Statements.{lines_read, read_of, statement_in}
 use Rattle.hlasm_statements.specs.Building.{is_plain, empty_statement, filled_statement, whole_statement}
 use Rattle.hlasm_statements.specs.Reading.{IsRead, opening_of, whole_source, bodies_of}
-use Rattle.hlasm_statements.proofs.ReadingLaws.{label-whole, op-whole, operands-whole, text_of-append}
-use Rattle.hlasm_statements.proofs.SourceLaws.{operation_text, text_of-label, text_of-operation, blank_fields, continued-append}
+use Rattle.hlasm_statements.proofs.FieldLaws.{text_of-append}
+use Rattle.hlasm_statements.proofs.ReadingLaws.{label-whole, op-whole, operands-whole}
+use Rattle.hlasm_statements.proofs.SourceLaws.{text_of-label, text_of-operation, blank_fields, continued-append}
 
 -- ---- shapes
 

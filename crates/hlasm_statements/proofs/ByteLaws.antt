@@ -1,8 +1,8 @@
 -- Bytes at the front of a text that are characters.
-use Rattle.std.proofs.Common.{◌≡◌, ◌∙◌, ℕ, ◌+◌, ◌-◌, ◌<◌, ◌≤◌, Bool, true, false, cond, not, List, [], ◌∷◌, ◌++◌, length, take, get_or, suc, zero, refl, sym, ap, subst, inl, inr, arith}
-use Rattle.std.specs.Prelude.{◌==◌, ◌&&◌, ◌||◌, chars, IsUtf8, nat_lt, position, slice_index, reverse, take_while, Option, Some, None}
+use Rattle.std.proofs.Common.{◌≡◌, ◌∙◌, ℕ, ◌+◌, ◌-◌, ◌<◌, Bool, true, false, not, List, [], ◌∷◌, ◌++◌, length, take, get_or, suc, refl, sym, ap, subst, inl, inr, arith}
+use Rattle.std.specs.Prelude.{◌==◌, ◌&&◌, ◌||◌, chars, IsUtf8, nat_lt, position, slice_index, reverse, Option, Some, None}
 use Rattle.std.specs.List.{prefix_len, list_all}
-use Rattle.std.proofs.lemmas.Bool.{cases_Bool, and_parts, and_from, eqb-true, eq-eqb, or_cases, true≢false, ltb-true, false_from_ne_true}
+use Rattle.std.proofs.lemmas.Bool.{cases_Bool, and_parts, and_from, eqb-true, or_cases, true≢false, ltb-true, false_from_ne_true}
 use Rattle.std.proofs.lemmas.Bool.Decides.{nat_tests}
 use Rattle.std.proofs.lemmas.List.{take_more}
 use Rattle.std.proofs.lemmas.Str.{chars-nil}
@@ -11,11 +11,13 @@ use Rattle.hl_base.proofs.LineLaws.{chars-ascii, utf8_tail}
 use Rattle.hlasm_statements.specs.declared.reader.Scan.{Scan}
 use Rattle.hlasm_statements.specs.declared.reader.Reader.{Reader}
 use Rattle.hlasm_statements.specs.Columns.{is_blank, is_ink}
-use Rattle.hlasm_statements.specs.Fields.{keeps_groups, ends_field}
+use Rattle.hlasm_statements.specs.Fields.{ends_field}
 use Rattle.hlasm_statements.specs.Reading.{is_ascii_ink, is_simple, EndsSimply, IsSimpleScan, Passes, EndsAt, IsScan, Scans}
 use Rattle.hlasm_statements.proofs.ListLaws.{prefix_len-pass, prefix_len-stop, prefix_len-twice, length_found, length_all}
 use Rattle.hlasm_statements.proofs.CharLaws.{front-chars}
-use Rattle.hlasm_statements.proofs.ReadingLaws.{all_while, behind-cons, behind-push}
+use Rattle.hlasm_statements.proofs.FieldLaws.{all_while}
+use Rattle.hlasm_statements.proofs.OperandLaws.{behind-cons}
+use Rattle.hlasm_statements.proofs.ScanLaws.{behind-push}
 
 pub blank_small : (b : ℕ) → is_blank b ≡ true → b < 128
 blank_small b h = elim (or_cases (b == 32) (b == 9) h) [

@@ -1,5 +1,5 @@
 -- Words and blanks at the front of a text, of which each byte is a character.
-use Rattle.std.proofs.Common.{◌≡◌, ◌∙◌, ℕ, ◌<◌, ◌≤◌, Bool, true, false, List, [], ◌∷◌, length, take, drop, zero, suc, sym, ap, subst, inl, inr, arith}
+use Rattle.std.proofs.Common.{◌≡◌, ◌∙◌, ℕ, ◌<◌, ◌≤◌, Bool, true, List, [], ◌∷◌, length, take, drop, zero, suc, sym, ap, subst, inl, inr, arith}
 use Rattle.std.specs.Prelude.{chars, IsUtf8, min}
 use Rattle.std.specs.Str.{IsAscii}
 use Rattle.std.specs.List.{prefix_len}
@@ -8,7 +8,7 @@ use Rattle.std.proofs.lemmas.List.Sums.{prefix_len-le-length}
 use Rattle.hlasm_statements.specs.Columns.{is_blank}
 use Rattle.hlasm_statements.specs.Reading.{is_ascii_ink}
 use Rattle.hlasm_statements.proofs.ListLaws.{prefix_len-pass, prefix_len-stop}
-use Rattle.hlasm_statements.proofs.CharLaws.{ascii-cut, ascii-front, ascii-back}
+use Rattle.hlasm_statements.proofs.CharLaws.{ascii-front, ascii-back}
 use Rattle.hlasm_statements.proofs.ByteLaws.{blank_small, ascii_parts}
 
 ascii-cons : (b : ℕ) (bs : List ℕ) → b < 128 → IsAscii bs → IsAscii (b ∷ bs)

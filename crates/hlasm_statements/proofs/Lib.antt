@@ -2,6 +2,10 @@ pub mod CharLaws
 pub mod ListLaws
 pub mod ResultLaws
 pub mod PlacesLaws
+pub mod FieldLaws
+pub mod WordLaws
+pub mod OperandLaws
+pub mod ScanLaws
 pub mod ReadingLaws
 pub mod ByteLaws
 pub mod SourceLaws

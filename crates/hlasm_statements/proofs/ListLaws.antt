@@ -4,7 +4,6 @@ use Rattle.std.specs.Prelude.{take_while, ◌==◌, nat_lt, position}
 use Rattle.std.specs.List.{prefix_len, position_or_len}
 use Rattle.std.proofs.lemmas.Bool.{cases_Bool, true≢false, ltb-false}
 use Rattle.std.proofs.lemmas.List.Sums.{prefix_len-le-length}
-use Rattle.hlasm_statements.specs.Columns.{is_blank, is_ink}
 use Rattle.std.proofs.lemmas.List.Folds.{length-prefix_len}
 use Rattle.hlasm_statements.specs.Shape.{skip_while}
 

@@ -1,7 +1,6 @@
 -- Lines fall into groups, one after the other.
-use Rattle.std.proofs.Common.{◌≡◌, ◌∙◌, ℕ, ◌+◌, ◌<◌, Bool, true, false, cond, List, [], ◌∷◌, ◌++◌, length, refl, sym, ap, arith, append-nil, append_assoc, take, drop, map, get_or-drop, length-append}
-use Rattle.std.specs.Prelude.{◌==◌, slice_index_or, chars}
-use Rattle.std.proofs.lemmas.Bool.{eqb-true, eqb-false}
+use Rattle.std.proofs.Common.{◌≡◌, ◌∙◌, ℕ, ◌+◌, ◌<◌, true, false, cond, List, [], ◌∷◌, ◌++◌, length, refl, sym, ap, arith, append-nil, append_assoc, drop, map, get_or-drop}
+use Rattle.std.specs.Prelude.{slice_index_or, chars}
 use Rattle.std.proofs.lemmas.List.{nil_from_length, length-map, map-append}
 use Rattle.hl_base.specs.Texts.{lines}
 use Rattle.std.specs.List.{AllByRecursion, onto_first}

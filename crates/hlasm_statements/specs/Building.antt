@@ -1,5 +1,5 @@
 -- Statements as they are put together. This project.
-use Rattle.std.specs.Prelude.{◌≡◌, ℕ, Bool, true, false, List, [], ◌∷◌}
+use Rattle.std.specs.Prelude.{◌≡◌, ℕ, Bool, true, false, List, [], ◌∷◌, ◌++◌}
 use Rattle.std.specs.List.{list_any}
 use Rattle.hlasm_statements.specs.declared.fault.ColumnFault.{ColumnFault}
 use Rattle.hlasm_statements.specs.declared.reader.Reader.{Reader}
@@ -48,11 +48,11 @@ filled_statement first last reader faults = record {
   operand_places = reader.operand_places;
 }
 
--- the plain statement of these lines, of which all are read in the alternate format
-pub record IsAlternateStatement (statement : Statement) (number last : ℕ) (marked : Bool) (first : List ℕ) (rest : List (List ℕ)) : Type 0 where
+-- the plain statement of these lines, of which all are read in the alternate format, stands behind others
+pub record AddsAlternate (old new : List Statement) (number last : ℕ) (marked : Bool) (first : List ℕ) (rest : List (List ℕ)) : Type 0 where
   pub reader : Reader
   pub read : IsRead reader true (whole_source number (first ∷ rest))
-  pub made : statement ≡ filled_statement number last reader (faults_met (list_any has_margin_text rest) false marked)
+  pub added : new ≡ old ++ filled_statement number last reader (faults_met (list_any has_margin_text rest) false marked) ∷ []
 
 -- the statement whose lines have these columns 1 to 71
 abbrev pub whole_statement : (number : ℕ) (marked : Bool) → List (List ℕ) → Statement

@@ -1,6 +1,6 @@
 -- The operand field, and the format in which it is written. HLASM Language Reference SC26-4940, "Instruction statement
 -- format", "Attributes" and "Alternate format for continuation lines".
-use Rattle.std.specs.Prelude.{ℕ, ◌+◌, Bool, true, false, not, ◌||◌, ◌&&◌, ◌==◌, List, [], ◌∷◌, Option, Some, None, codes, nat_lt, slice_index, reverse, encode_utf8_all, if◌then◌else◌}
+use Rattle.std.specs.Prelude.{ℕ, Bool, true, false, not, ◌||◌, ◌&&◌, ◌==◌, List, [], ◌∷◌, Option, Some, None, codes, nat_lt, slice_index, reverse, encode_utf8_all, if◌then◌else◌}
 use Rattle.std.specs.List.{list_any}
 use Rattle.std.specs.Str.{str_eq_ignore_ascii_case}
 use Rattle.hl_base.specs.Quoting.{is_quoted, depth}

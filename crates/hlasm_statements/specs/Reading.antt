@@ -1,10 +1,10 @@
 -- What the reader of a source keeps of the characters so far. This project.
-use Rattle.std.specs.Prelude.{◌≡◌, ℕ, ◌+◌, ◌-◌, not, ◌<◌, ◌≤◌, ⊤, Bool, true, false, ◌&&◌, ◌==◌, List, [], ◌∷◌, ◌++◌, Option, Some, None, take, drop, take_while, nat_lt, length, slice_index, slice_index_or, reverse, map, chars, if◌then◌else◌}
+use Rattle.std.specs.Prelude.{◌≡◌, ℕ, ◌+◌, ◌-◌, not, ◌<◌, ◌≤◌, ⊤, Bool, true, false, ◌&&◌, ◌==◌, List, [], ◌∷◌, ◌++◌, Some, None, take, drop, take_while, nat_lt, length, slice_index, slice_index_or, reverse, map, chars, if◌then◌else◌}
 use Rattle.std.specs.List.{prefix_len}
 use Rattle.std.specs.Borrow.{Bor}
 use Rattle.hl_base.specs.Quoting.{IsBehind}
 use Rattle.hlasm_statements.specs.declared.statement.Shape.{Shape}
-use Rattle.hlasm_statements.specs.declared.statement.Shape.TheVariants.{Plain, Comment, InnerComment, Blank}
+use Rattle.hlasm_statements.specs.declared.statement.Shape.TheVariants.{Plain, Comment, InnerComment}
 use Rattle.hlasm_statements.specs.declared.reader.Stage.{Stage}
 use Rattle.hlasm_statements.specs.declared.reader.Stage.TheVariants.{Label, Gap, Operation, OperandGap, Operands, Remarks, Done}
 use Rattle.hlasm_statements.specs.declared.reader.Reader.{Reader}
@@ -12,7 +12,7 @@ use Rattle.hlasm_statements.specs.declared.reader.Scan.{Scan}
 use Rattle.hlasm_statements.specs.declared.column.Front.{Front}
 use Rattle.hlasm_statements.specs.Columns.{Placed, placed, continued, is_blank, is_ink, text_of, places_of}
 use Rattle.hlasm_statements.specs.Shape.{skip_while, label_of, operation_of}
-use Rattle.hlasm_statements.specs.Fields.{keeps_groups, ends_field, operand_field, behind_operation, operands_of}
+use Rattle.hlasm_statements.specs.Fields.{keeps_groups, ends_field, operand_field, operands_of}
 
 -- what begins with a character that is no blank, and what begins behind it
 abbrev pub word : List Placed → List Placed

@@ -1,19 +1,19 @@
 //! The statement that some lines make up.
-ghost use Rattle.std.specs.Prelude.{◌≡◌, false, ◌<◌, ◌+◌, [], ◌∷◌, ◌&&◌, not, ◌==◌, map, take, length, IfOk, OnOk};
+ghost use Rattle.std.specs.Prelude.{◌≡◌, false, ◌<◌, ◌+◌, [], ◌∷◌, ◌++◌, ◌&&◌, not, ◌==◌, map, take, length, IfOk, OnOk};
 ghost use Rattle.std.specs.List.{list_any};
 ghost use Rattle.std.specs.Str.{chars};
 ghost use Rattle.hlasm_statements.specs.Faults as spec;
 ghost use Rattle.hlasm_statements.specs.Fields as fields;
 ghost use Rattle.hlasm_statements.specs.Reading.{IsRead, whole_source, bodies_of};
 ghost use Rattle.hl_base.specs.Symbols.{symbol_of};
-ghost use Rattle.hlasm_statements.specs.Building.{is_plain, empty_statement, filled_statement, whole_statement, IsAlternateStatement};
+ghost use Rattle.hlasm_statements.specs.Building.{is_plain, empty_statement, filled_statement, whole_statement, AddsAlternate};
 ghost use Rattle.hlasm_statements.specs.Statements.{lines_read};
 
 use crate::column::{is_all_blank, split_columns};
 use crate::places::Places;
 use crate::reader::Reader;
 use crate::shape::opening;
-use crate::{Faults, Shape, Statement};
+use crate::{Faults, Shape, Statement, Statements};
 use hl_base::{Name, OutOfMemory, Text};
 use instruction_table::{Operation, operation};
 use std::alloc::Global;
@@ -176,69 +176,84 @@ fn is_plain(shape: Shape) -> bool
     }
 }
 
-/// The plain statement of the first line and of the lines that continue it, in the alternate format.
+/// Adds the plain statement of the first line and of the lines that continue it, in the alternate format.
 #[inline(never)]
-fn alternate_statement(
+fn push_alternate(
+    statements: &mut Statements,
     alloc: Global,
     number: u32,
     last: u32,
     first: &str,
     rest: &[&str],
     is_marked: bool,
-) -> Result<Statement, OutOfMemory>
-    ensures { IfOk result (λ s. IsAlternateStatement s number last is_marked (chars first.now) (bodies_of rest.now)) }
+) -> Result<(), OutOfMemory>
+    ensures { OnOk result (AddsAlternate statements.old statements.new number last is_marked (chars first.now) (bodies_of rest.now)) }
 {
     let mut whole = Reader::new(alloc);
     read_fields(&mut whole, true, number, first, rest)?;
     let faults = Faults::of(have_margin_text(rest), false, is_marked);
-    Ok(with_fields(number, last, whole, faults))
+    statements.push(with_fields(number, last, whole, faults))
 }
 
-/// The statement of the first line and of the lines that continue it, of which the last is marked or not.
+/// Adds the statement of the first line and of the lines that continue it, of which the last is marked or not.
 #[inline(always)]
-fn statement(
+fn push_statement(
+    statements: &mut Statements,
     alloc: Global,
     number: u32,
     first: &str,
     rest: &[&str],
     is_marked: bool,
-) -> Result<Statement, OutOfMemory>
-    ensures { IfOk result (λ s. s ≡ whole_statement number is_marked (chars first.now ∷ bodies_of rest.now)) }
+) -> Result<(), OutOfMemory>
+    ensures { OnOk result (statements.new ≡ statements.old ++ whole_statement number is_marked (chars first.now ∷ bodies_of rest.now) ∷ []) }
 {
     let last = count_on(number, rest.len())?;
     let read = lines_read(rest);
     let faults = Faults::of(have_margin_text(read), rest.len() > LINES_READ, is_marked);
     let shape = opening(first);
     if !is_plain(shape) {
-        return Ok(without_fields(alloc, number, last, shape, faults));
+        return statements.push(without_fields(alloc, number, last, shape, faults));
     }
     let mut standard = Reader::new(alloc);
     read_fields(&mut standard, false, number, first, read)?;
     if standard.is_blank() {
-        return Ok(without_fields(alloc, number, last, Shape::Blank, faults));
+        return statements.push(without_fields(alloc, number, last, Shape::Blank, faults));
     }
     if !goes_on_with(rest, &standard.op) {
-        return Ok(with_fields(number, last, standard, faults));
+        return statements.push(with_fields(number, last, standard, faults));
     }
-    alternate_statement(alloc, number, last, first, rest, is_marked)
+    push_alternate(statements, alloc, number, last, first, rest, is_marked)
 }
 
-/// The statement of one line that does not go on, of which columns 1 to 71 are given.
-pub fn statement_of_line(alloc: Global, number: u32, body: &str) -> Result<Statement, OutOfMemory>
-    ensures { IfOk result (λ s. s ≡ whole_statement number false (chars body.now ∷ [])) }
+/// Adds the statement of one line that does not go on, of which columns 1 to 71 are given. What an `Err` leaves is of no use.
+pub fn push_line(
+    statements: &mut Statements,
+    alloc: Global,
+    number: u32,
+    body: &str,
+) -> Result<(), OutOfMemory>
+    ensures { OnOk result (statements.new ≡ statements.old ++ whole_statement number false (chars body.now ∷ []) ∷ []) }
 {
-    statement(alloc, number, body, &[], false)
+    push_statement(statements, alloc, number, body, &[], false)
 }
 
-/// The statement of some lines, of which columns 1 to 71 are given.
-pub fn statement_of_lines(
+/// Adds the statement of some lines, of which columns 1 to 71 are given. What an `Err` leaves is of no use.
+pub fn push_lines(
+    statements: &mut Statements,
     alloc: Global,
     number: u32,
     bodies: &[&str],
     is_marked: bool,
-) -> Result<Statement, OutOfMemory>
+) -> Result<(), OutOfMemory>
     requires { 0 < length bodies.now }
-    ensures { IfOk result (λ s. s ≡ whole_statement number is_marked (bodies_of bodies.now)) }
+    ensures { OnOk result (statements.new ≡ statements.old ++ whole_statement number is_marked (bodies_of bodies.now) ∷ []) }
 {
-    statement(alloc, number, bodies[0], &bodies[1..], is_marked)
+    push_statement(
+        statements,
+        alloc,
+        number,
+        bodies[0],
+        &bodies[1..],
+        is_marked,
+    )
 }

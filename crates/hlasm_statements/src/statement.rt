@@ -4,7 +4,7 @@ ghost use Rattle.std.specs.Str.{chars};
 ghost use Rattle.hlasm_statements.specs.Statements.{statements_of};
 
 use crate::Faults;
-use crate::build::{count_on, statement_of_line, statement_of_lines};
+use crate::build::{count_on, push_line, push_lines};
 use crate::column::{begins_marked, split_columns};
 use crate::places::Places;
 use hl_base::{OutOfMemory, Text, lines};
@@ -44,10 +44,10 @@ pub struct Statement {
     pub first: u32,
     pub last: u32,
     pub shape: Shape,
+    pub faults: Faults,
     pub label: Text,
     pub op: Text,
     pub operands: Text,
-    pub faults: Faults,
     /// Where the characters of each field stand; `place` answers from them.
     pub(crate) label_places: Places,
     pub(crate) op_places: Places,
@@ -133,13 +133,13 @@ pub fn read_statements(alloc: Global, text: &str) -> Result<Statements, OutOfMem
         let (body, behind) = split_columns(line, TEXT_COLUMNS);
         let is_marked = begins_marked(behind);
         if bodies.is_empty() && !is_marked {
-            statements.push(statement_of_line(alloc, number, body)?)?;
+            push_line(&mut statements, alloc, number, body)?;
             number = count_on(number, 1)?;
             continue;
         }
         bodies.push(body)?;
         if !is_marked {
-            statements.push(statement_of_lines(alloc, number, bodies.as_slice(), false)?)?;
+            push_lines(&mut statements, alloc, number, bodies.as_slice(), false)?;
             number = count_on(number, bodies.len())?;
             bodies.clear();
         }
@@ -147,6 +147,6 @@ pub fn read_statements(alloc: Global, text: &str) -> Result<Statements, OutOfMem
     if bodies.is_empty() {
         return Ok(statements);
     }
-    statements.push(statement_of_lines(alloc, number, bodies.as_slice(), true)?)?;
+    push_lines(&mut statements, alloc, number, bodies.as_slice(), true)?;
     Ok(statements)
 }

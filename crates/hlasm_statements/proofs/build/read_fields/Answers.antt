@@ -1,4 +1,4 @@
-use Rattle.std.proofs.Common.{◌≡◌, ◌∙◌, ◌+◌, ◌++◌, ◌∷◌, [], ℕ, List, sym, ap, subst, arith, append-nil}
+use Rattle.std.proofs.Common.{◌≡◌, ◌+◌, [], List, sym, subst, arith, append-nil}
 use Rattle.std.specs.Prelude.{chars}
 use Rattle.hlasm_statements.specs.Columns.{Placed, placed}
 use Rattle.hlasm_statements.specs.Reading.{IsRead}

@@ -1,4 +1,3 @@
-use Rattle.std.proofs.Common.{◌∙◌}
 use Rattle.hlasm_statements.specs.Reading.{is_ascii_ink}
 use Rattle.hlasm_statements.proofs.ByteLaws.{found-twice, all-twice}
 use Rattle.hlasm_statements.proofs.column.ascii_length.Goals as goal

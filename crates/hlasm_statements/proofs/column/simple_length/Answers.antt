@@ -1,4 +1,3 @@
-use Rattle.std.proofs.Common.{◌∙◌}
 use Rattle.hlasm_statements.specs.Reading.{is_simple}
 use Rattle.hlasm_statements.proofs.ByteLaws.{found-twice, all-twice}
 use Rattle.hlasm_statements.proofs.column.simple_length.Goals as goal

@@ -1,4 +1,4 @@
-use Rattle.std.proofs.Common.{◌≡◌, ◌∙◌, ◌+◌, ◌-◌, ◌<◌, ◌≤◌, ℕ, refl, sym, ap, arith, get_or, length}
+use Rattle.std.proofs.Common.{◌≡◌, ◌∙◌, ◌+◌, ◌<◌, ◌≤◌, refl, sym, ap, arith, get_or, length}
 use Rattle.hlasm_statements.specs.Places.{places_in}
 use Rattle.hlasm_statements.proofs.PlacesLaws.{left-init, left-here, left-next, left-last, left-last-below}
 use Rattle.hlasm_statements.proofs.places.Places.at.Goals as goal

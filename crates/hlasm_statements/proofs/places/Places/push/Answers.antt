@@ -1,1 +1,0 @@
-use Rattle.hlasm_statements.proofs.places.Places.push.Goals as goal

@@ -6,7 +6,8 @@ use Rattle.hlasm_statements.specs.Columns.{placed}
 use Rattle.hlasm_statements.specs.Reading.{ReadsOn}
 use Rattle.hlasm_statements.proofs.CharLaws.{none-chars}
 use Rattle.hlasm_statements.proofs.ListLaws.{above_zero}
-use Rattle.hlasm_statements.proofs.ReadingLaws.{reads-none, reads-past, read-scanned}
+use Rattle.hlasm_statements.proofs.OperandLaws.{reads-past, read-scanned}
+use Rattle.hlasm_statements.proofs.ReadingLaws.{reads-none}
 use Rattle.hlasm_statements.proofs.reader.Reader.read_operands.Goals as goal
 
 pub returns-then-is_empty : goal.returns-then-is_empty

@@ -2,7 +2,8 @@ use Rattle.std.proofs.Common.{◌∙◌, refl, ap}
 use Rattle.std.specs.Prelude.{chars}
 use Rattle.std.specs.List.{list_all}
 use Rattle.hlasm_statements.specs.Columns.{is_ink}
-use Rattle.hlasm_statements.proofs.ReadingLaws.{all_while, read-blanks}
+use Rattle.hlasm_statements.proofs.FieldLaws.{all_while}
+use Rattle.hlasm_statements.proofs.WordLaws.{read-blanks}
 use Rattle.hlasm_statements.proofs.reader.Reader.read_run.Goals as goal
 
 pub returns-then-blanks-gt0-clause-read : goal.returns-then-blanks-gt0-clause-read

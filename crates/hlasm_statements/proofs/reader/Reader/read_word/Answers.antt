@@ -1,7 +1,7 @@
 use Rattle.std.proofs.Common.{◌∙◌, ◌++◌, ◌<◌, length, refl, ap, arith}
 use Rattle.std.specs.Prelude.{chars}
 use Rattle.hlasm_statements.specs.Places.{side_by_side}
-use Rattle.hlasm_statements.proofs.ReadingLaws.{label-on, operation-on}
+use Rattle.hlasm_statements.proofs.WordLaws.{label-on, operation-on}
 use Rattle.hlasm_statements.proofs.reader.Reader.read_word.Goals as goal
 
 pub returns-in_ok-add-in-Label : goal.returns-in_ok-add-in-Label

@@ -1,12 +1,11 @@
-use Rattle.std.proofs.Common.{◌≡◌, ◌∙◌, ◌++◌, ◌∷◌, [], ◌+◌, ◌<◌, ℕ, List, Bool, length, take, get_or, sym, ap, subst, refl, arith}
-use Rattle.std.specs.Prelude.{chars, reverse, ◌==◌, slice_index}
+use Rattle.std.proofs.Common.{◌≡◌, ◌∙◌, ◌+◌, ◌<◌, ℕ, List, length, take, get_or, sym, ap, subst, refl, arith}
+use Rattle.std.specs.Prelude.{chars, reverse}
 use Rattle.std.proofs.lemmas.Iterator.{YieldsList-from_chars}
 use Rattle.std.proofs.lemmas.Iterator.Consumers.{YieldsList-so_far, YieldsList-turn, YieldsList-end}
 use Rattle.std.proofs.lemmas.List.{map-id, length_push}
-use Rattle.hl_base.specs.Quoting.{IsBehind}
 use Rattle.hlasm_statements.specs.Fields.{keeps_groups}
 use Rattle.hlasm_statements.proofs.ResultLaws.{some_value}
-use Rattle.hlasm_statements.proofs.ReadingLaws.{IsScanning, scanning-none, scanning-more, scanned-whole, scanned-ended}
+use Rattle.hlasm_statements.proofs.ScanLaws.{IsScanning, scanning-none, scanning-more, scanned-whole, scanned-ended}
 use Rattle.hlasm_statements.proofs.reader.Reader.scan_characters.Goals as goal
 
 pub loop-c-init : goal.loop-c-init

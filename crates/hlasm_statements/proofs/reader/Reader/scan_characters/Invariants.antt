@@ -1,9 +1,8 @@
-use Rattle.std.proofs.Common.{◌≡◌, ◌++◌, ℕ, List, length}
+use Rattle.std.proofs.Common.{◌≡◌, length}
 use Rattle.std.specs.Prelude.{reverse, slice_index, ◌==◌}
 use Rattle.hl_base.specs.Quoting.{IsBehind}
 use Rattle.hlasm_statements.specs.Fields.{keeps_groups}
-use Rattle.hlasm_statements.specs.Reading.{Passes}
-use Rattle.hlasm_statements.proofs.ReadingLaws.{IsScanning}
+use Rattle.hlasm_statements.proofs.ScanLaws.{IsScanning}
 use Rattle.hlasm_statements.proofs.reader.Reader.scan_characters.Given as goal
 
 -- the characters so far go on with the field
