@@ -12,3 +12,5 @@ pub mod TextStackLaws
 pub mod SplitLaws
 pub mod SplitSublistLaws
 pub mod LogicStackLaws
+pub mod LogicWeights
+pub mod LogicMoveLaws
