@@ -27,3 +27,4 @@ pub mod LogicNumbers
 pub mod LogicTexts
 pub mod LogicLeads
 pub mod LogicStackLaws
+pub mod LogicMoveLaws

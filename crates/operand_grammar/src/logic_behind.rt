@@ -1,5 +1,5 @@
 //! What may stand behind an operand of a logical expression.
-ghost use Rattle.std.specs.Prelude.{◌≡◌, ◌+◌, List, [], IfOk, IfSome, is_some, option_map};
+ghost use Rattle.std.specs.Prelude.{◌≡◌, ◌+◌, List, [], ◌∷◌, IfOk, IfSome, Some, is_some};
 ghost use Rattle.std.specs.Char.{to_ascii_uppercase};
 ghost use Rattle.expression_grammar.specs.Trees.{size};
 ghost use Rattle.expression_grammar.specs.Views.{tree_of};
@@ -7,7 +7,7 @@ ghost use Rattle.operand_grammar.specs.LogicReading as logic;
 ghost use Rattle.operand_grammar.specs.LogicViews.{LogicMoves, closed_on, letter_of, letters_of, opening_of, open_of, operand_of, operand_weight, point_of};
 
 use crate::logic_point::{
-    Initial, LogicMoved, LogicPoint, Opening, Operand, Remainder, logic_moved, negated, truth_of,
+    Initial, LogicMoved, LogicPoint, Opening, Operand, Remainder, logic_moved, negated,
 };
 use expression_grammar::character::Kind;
 use expression_grammar::pending::Point;
@@ -163,8 +163,23 @@ fn closing(
     }
 }
 
-/// The first letter of an operator word between truths.
-#[tactic(auto, using(crate::proofs::LogicStackLaws::open_of_push))]
+/// The first letter of an operator word behind a truth.
+fn push_operator(
+    alloc: Global,
+    operator: Operator,
+    rest: Remainder,
+    tree: Expr,
+    stack: &mut Vec<Opening>,
+) -> Result<Option<LogicMoved>, OutOfMemory>
+    ensures { IfOk result (λ moved. LogicMoves (logic.joining operator (letters_of rest) (Some (tree_of tree)) (open_of stack.old.items []))
+        (logic.open_size (open_of stack.old.items []) + size (tree_of tree)) moved (open_of stack.new.items [])) }
+{
+    let left = logic_fold(alloc, operator.strength(), tree, stack)?;
+    stack.push(Opening::Both(operator, left))?;
+    Ok(logic_moved(LogicPoint::Letters(rest), 2))
+}
+
+/// The first letter of an operator word behind an operand.
 fn joining(
     alloc: Global,
     operator: Operator,
@@ -175,13 +190,10 @@ fn joining(
     ensures { IfOk result (λ moved. LogicMoves (logic.joining operator (letters_of rest) (logic.truth_of (operand_of operand)) (open_of stack.old.items []))
         (logic.open_size (open_of stack.old.items []) + operand_weight (operand_of operand)) moved (open_of stack.new.items [])) }
 {
-    match truth_of(operand) {
-        Some(tree) => {
-            let left = logic_fold(alloc, operator.strength(), tree, stack)?;
-            stack.push(Opening::Both(operator, left))?;
-            Ok(logic_moved(LogicPoint::Letters(rest), 2))
-        }
-        None => Ok(None),
+    match operand {
+        Operand::Number(tree) => push_operator(alloc, operator, rest, tree, stack),
+        Operand::Truth(tree) => push_operator(alloc, operator, rest, tree, stack),
+        Operand::Text(_) => Ok(None),
     }
 }
 

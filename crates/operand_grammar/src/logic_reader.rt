@@ -2,7 +2,7 @@
 //!
 //! A stack holds what is open, and a point stands above it, which reads numbers by the automaton of arithmetic and texts by
 //! that of character expressions. No call recurses on the text.
-ghost use Rattle.std.specs.Prelude.{◌≡◌, ℕ, ◌+◌, ◌<◌, ◌^◌, List, [], ◌∷◌, true, false, IfOk, IfSome, None, Some, is_some, option_map, if◌then◌else◌};
+ghost use Rattle.std.specs.Prelude.{◌≡◌, ℕ, ◌+◌, ◌<◌, ◌^◌, List, [], ◌∷◌, ◌&&◌, true, IfOk, IfSome, None, Some, is_some, option_map, if◌then◌else◌};
 ghost use Rattle.std.specs.Char.{to_ascii_uppercase};
 ghost use Rattle.expression_grammar.specs.Characters as characters;
 ghost use Rattle.expression_grammar.specs.Reading as reading;
@@ -190,6 +190,13 @@ fn may_end_text(inner: &TextPoint, kind: Kind) -> bool
     }
 }
 
+/// Whether a character stands behind a text that may end here, and does not belong to it.
+fn ends_text(inner: &TextPoint, kind: Kind) -> bool
+    ensures { result ≡ (is_some (texts.text_accept (text_state inner.now)) && may_end_text inner.now kind) }
+{
+    is_whole(inner) && may_end_text(inner, kind)
+}
+
 /// A character within a text, or behind it.
 fn go_text(
     alloc: Global,
@@ -203,7 +210,7 @@ fn go_text(
     ensures { IfOk result (λ found. LogicMoves (logic.point_step (logic.Text (option_map against_of against) (text_state inner) touch) (record { at = at; code = c }) (open_of layers.old.items []))
         (logic.open_size (open_of layers.old.items []) + logic.point_weight (logic.Text (option_map against_of against) (text_state inner) touch)) found (open_of layers.new.items [])) }
 {
-    if !is_whole(&inner) || !may_end_text(&inner, kind_of(c)) {
+    if !ends_text(&inner, kind_of(c)) {
         let found = step_text(alloc, against, inner, c, at)?;
         return Ok(found);
     }
