@@ -7,7 +7,6 @@ use Rattle.hl_base.specs.Symbols.{is_symbol_character}
 use Rattle.expression_grammar.specs.declared.character.Grammar.TheVariants.{Arithmetic}
 use Rattle.expression_grammar.specs.declared.character.Kind.{Kind}
 use Rattle.expression_grammar.specs.declared.character.Kind.TheVariants as kind
-use Rattle.expression_grammar.specs.declared.tree.Operator.{Operator}
 use Rattle.expression_grammar.specs.declared.tree.Operator.TheVariants.{Add, Subtract, Multiply}
 use Rattle.expression_grammar.specs.declared.tree.Attribute.TheVariants as attribute
 use Rattle.expression_grammar.specs.declared.part.Part.{Part}
@@ -21,9 +20,8 @@ use Rattle.expression_grammar.specs.Parts.{after, after_word, finish, opening}
 use Rattle.expression_grammar.specs.Reading as reading
 use Rattle.expression_grammar.specs.Reading.{Layer, SignLayer, PairLayer, OpenLayer, SubscriptLayer, State, Have, Within, Folded, fold, closed, parted, joined, begun, ended, moved, step, run, whole, whole_over, accept}
 use Rattle.operand_grammar.specs.Logics.{touches_behind, touches_ahead, IsNumber}
-use Rattle.operand_grammar.specs.LogicReading.{Open, Group, Against, Point, Want, MaybeNot, Number, Right, Closed, LogicState, at_point, Operand, NumberOne, TruthOne, number_side, settled, closing, behind_one, on_number, text_begun, number_begun, letter_begun, truth_apart, right_apart, after_first, after_closed, point_step, logic_run}
+use Rattle.operand_grammar.specs.LogicReading.{Open, Group, Against, Point, Want, MaybeNot, Number, Right, Closed, LogicState, at_point, Operand, NumberOne, TruthOne, number_side, settled, closing, on_number, text_begun, number_begun, truth_apart, right_apart, after_first, after_closed, point_step, logic_run}
 use Rattle.expression_grammar.proofs.Pieces.{append-nil}
-use Rattle.expression_grammar.proofs.Finds.{whole-some}
 use Rattle.expression_grammar.proofs.Leads.{capital-runs}
 use Rattle.expression_grammar.proofs.LeadsOf.{accepted}
 use Rattle.operand_grammar.proofs.TextPlain.{test}
@@ -71,13 +69,13 @@ fold-over floor n tree (SubscriptLayer asked symbol others ∷ layers) = refl
 pub data Above (inner : State) (n : ℕ) (p : Placed) (next : State) : Type 0 where
   stays : (found : State) → step Arithmetic inner p ≡ Some found → next ≡ over found (opens n) → Above inner n p next
   leaves : (fewer : ℕ) (tree : Tree) → n ≡ suc fewer → step Arithmetic inner p ≡ None → accept Arithmetic inner ≡ Some tree → kind_of p.code ≡ kind.Close →
-    next ≡ Have (Paren tree) (opens fewer) → Above inner n p next
+      next ≡ Have (Paren tree) (opens fewer) → Above inner n p next
 
 -- the same, of what a step finds
 data Found (found : Option State) (settles : Option Folded) (k : Kind) (n : ℕ) (next : State) : Type 0 where
   found_stays : (one : State) → found ≡ Some one → next ≡ over one (opens n) → Found found settles k n next
   found_leaves : (fewer : ℕ) (tree : Tree) → n ≡ suc fewer → found ≡ None → option_and_then whole settles ≡ Some tree → k ≡ kind.Close →
-    next ≡ Have (Paren tree) (opens fewer) → Found found settles k n next
+      next ≡ Have (Paren tree) (opens fewer) → Found found settles k n next
 
 mapped : (found : Option State) (settles : Option Folded) (k : Kind) (n : ℕ) (next : State) → option_map (λ s. over s (opens n)) found ≡ Some next → Found found settles k n next
 mapped None settles k n next e = cc

@@ -8,8 +8,8 @@ use Rattle.expression_grammar.specs.declared.character.Kind.{Kind}
 use Rattle.expression_grammar.specs.declared.character.Kind.TheVariants as kind
 use Rattle.expression_grammar.specs.declared.tree.Symbol.{Symbol}
 use Rattle.expression_grammar.specs.Characters.{kind_of}
-use Rattle.expression_grammar.specs.Spelling.{Placed, IsGap}
-use Rattle.expression_grammar.specs.Trees.{Tree, Items, Paren, Compared, NoTrees, Inserted}
+use Rattle.expression_grammar.specs.Spelling.{Placed}
+use Rattle.expression_grammar.specs.Trees.{Tree, Items, Compared, NoTrees, Inserted}
 use Rattle.expression_grammar.specs.Parts.{symbol_at}
 use Rattle.expression_grammar.specs.Reading as reading
 use Rattle.expression_grammar.specs.Reading.{State}
@@ -263,7 +263,7 @@ text-on against layers (p ∷ ps) state last touch s e = text-on_of against laye
 data TextFollows (layers : List Open) (touch : Bool) (state : TextState) (logic : LogicState) : Type 0 where
   at_part : state ≡ WantPart None → logic ≡ at_point layers (Want false) → TextFollows layers touch state logic
   at_factor : (n : ℕ) (inner : State) (point : Point) → state ≡ Within (Factor None) inner → logic ≡ at_point (groups n (Group ∷ layers)) point → Follows n touch inner point →
-    TextFollows layers touch state logic
+      TextFollows layers touch state logic
   at_quote : (factor : Tree) → state ≡ WantQuote None factor → logic ≡ at_point layers (Closed factor) → TextFollows layers touch state logic
   at_text : logic ≡ at_point layers (Text None state touch) → TextShows state touch → TextFollows layers touch state logic
 

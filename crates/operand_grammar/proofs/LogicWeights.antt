@@ -1,8 +1,7 @@
 -- How large each state of a logical expression is, beside the one before it.
-use Rattle.std.proofs.Common.{◌≡◌, ℕ, ◌+◌, ◌≤◌, Bool, true, false, List, [], ◌∷◌, refl, sym, ap, ◌∙◌, subst, arith}
+use Rattle.std.proofs.Common.{◌≡◌, ℕ, ◌+◌, ◌≤◌, Bool, true, false, List, [], ◌∷◌, refl, sym, ◌∙◌, subst, arith}
 use Rattle.std.specs.Prelude.{◌==◌, nat_le, Option, Some, None, option_and_then, option_map, if◌then◌else◌}
 use Rattle.std.specs.Char.{to_ascii_uppercase}
-use Rattle.hl_base.specs.Symbols.{is_symbol_character}
 use Rattle.expression_grammar.specs.declared.character.Grammar.TheVariants.{Arithmetic}
 use Rattle.expression_grammar.specs.declared.character.Kind.{Kind}
 use Rattle.expression_grammar.specs.declared.character.Kind.TheVariants as kind
@@ -15,7 +14,7 @@ use Rattle.expression_grammar.specs.Spelling.{Placed}
 use Rattle.expression_grammar.specs.Reading as reading
 use Rattle.expression_grammar.specs.Reading.{State, Have, Want as WantTerm}
 use Rattle.operand_grammar.specs.TextReading.{TextState, WantPart, WantQuote, text_step, text_accept, text_weight}
-use Rattle.operand_grammar.specs.LogicReading.{Open, Negation, Both, Group, Against, Point, Want, MaybeNot, Letters, Number, Text, Ended, Comparing, Right, Closed, Had, LogicState, at_point, Operand, NumberOne, TruthOne, TextOne, number_side, text_side, settled, truth_of, LogicFolded, logic_fold, blanked, grouped, closing, pushed, joining, compares, comparing, lettered, behind_one, behind, on_number, on_text, number_begun, text_begun, letter_begun, touching, truth_apart, truth_begun, right_apart, right_begun, after_first, spelling, after_letters, after_comparing, comparison_of, after_closed, point_step, logic_step, whole_over, whole, logic_accept, one_size, open_size, against_size, text_against_size, point_weight, logic_weight, logic_run}
+use Rattle.operand_grammar.specs.LogicReading.{Open, Negation, Both, Group, Against, Point, Want, MaybeNot, Letters, Number, Text, Ended, Comparing, Right, Closed, Had, LogicState, at_point, Operand, NumberOne, TruthOne, TextOne, number_side, text_side, settled, truth_of, LogicFolded, logic_fold, blanked, grouped, closing, joining, compares, comparing, lettered, behind_one, behind, on_number, on_text, number_begun, text_begun, letter_begun, touching, truth_apart, right_apart, after_first, spelling, after_letters, after_comparing, comparison_of, after_closed, point_step, logic_step, whole_over, whole, logic_accept, open_size, against_size, text_against_size, point_weight, logic_weight, logic_run}
 use Rattle.expression_grammar.proofs.Weights.{step-weight, run-least, accept-size}
 use Rattle.operand_grammar.proofs.TextWeights.{text_step-least, text_accept-size}
 
@@ -171,9 +170,6 @@ two-least : (first p : Placed) (found : Option State) → reading.run Arithmetic
 two-least first p None e = tt
 two-least first p (Some next) e = let least : reading.weight (WantTerm []) ≤ reading.weight next = run-least Arithmetic (first ∷ p ∷ []) (WantTerm []) next e in omega arith
 
-text-least : (inner : TextState) (p : Placed) → TextLeast (text_weight inner) (text_step inner p)
-text-least inner p = text_step-least inner p
-
 -- Where an operand is wanted.
 
 number_begun-least : (against : Option Against) (p : Placed) (layers : List Open) → LogicLeast (open_size layers + (against_size against + 1)) (number_begun against p layers)
@@ -182,7 +178,7 @@ number_begun-least against p layers =
 
 text_begun-least : (against : Option Against) (p : Placed) (layers : List Open) → LogicLeast (open_size layers + (text_against_size against + 1)) (text_begun against p layers)
 text_begun-least against p layers =
-    on_text-least 1 against (text_step (WantPart None) p) None false p layers (text-least (WantPart None) p) tt
+    on_text-least 1 against (text_step (WantPart None) p) None false p layers (text_step-least (WantPart None) p) tt
 
 truth-text : (p : Placed) (layers : List Open) → LogicLeast (open_size layers + 1) (text_begun None p layers)
 truth-text p layers = lower (open_size layers + 1) (open_size layers + (2 + 1)) (text_begun None p layers) (omega arith) (text_begun-least None p layers)
@@ -235,7 +231,7 @@ after_comparing-least (Some comparison) is_text left layers = omega arith
 closed-quote : (inner : Tree) (p : Placed) (layers : List Open) → LogicLeast (open_size layers + (1 + size inner)) (on_text None (text_step (WantQuote None inner) p) None false p layers)
 closed-quote inner p layers =
     lower (open_size layers + (1 + size inner)) (open_size layers + (2 + (0 + size inner + 2))) (on_text None (text_step (WantQuote None inner) p) None false p layers) (omega arith)
-    (on_text-least (0 + size inner + 2) None (text_step (WantQuote None inner) p) None false p layers (text-least (WantQuote None inner) p) tt)
+    (on_text-least (0 + size inner + 2) None (text_step (WantQuote None inner) p) None false p layers (text_step-least (WantQuote None inner) p) tt)
 
 closed-number : (inner : Tree) (p : Placed) (layers : List Open) →
     LogicLeast (open_size layers + (1 + size inner)) (on_number None (reading.step Arithmetic (Have (Paren inner) []) p) (Some (NumberOne (Paren inner))) false p layers)
@@ -257,7 +253,7 @@ point_step-least (Number against inner touch) p layers =
     (step-least inner p (reading.step Arithmetic inner p) refl) (settled-sized (Number against inner touch))
 point_step-least (Text against inner touch) p layers =
     on_text-least (text_weight inner) against (text_step inner p) (settled (Text against inner touch)) touch p layers
-    (text-least inner p) (settled-sized (Text against inner touch))
+    (text_step-least inner p) (settled-sized (Text against inner touch))
 point_step-least (Ended text) p layers = behind-least (size text + 2) (Some (TextOne text)) false p layers refl
 point_step-least (Comparing letter is_text left) p layers = after_comparing-least (comparison_of letter (to_ascii_uppercase p.code)) is_text left layers
 point_step-least (Right is_text against touch) p layers =
