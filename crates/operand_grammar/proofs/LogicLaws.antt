@@ -10,10 +10,10 @@ use Rattle.expression_grammar.specs.declared.character.Kind.TheVariants as kind
 use Rattle.expression_grammar.specs.declared.tree.Operator.{Operator}
 use Rattle.expression_grammar.specs.declared.tree.Operator.TheVariants.{And, Or, Xor}
 use Rattle.expression_grammar.specs.Characters.{kind_of, strength}
-use Rattle.expression_grammar.specs.Trees.{Tree, Pair, Not}
+use Rattle.expression_grammar.specs.Trees.{Tree, Pair}
 use Rattle.expression_grammar.specs.Spelling.{Placed, IsGap}
 use Rattle.operand_grammar.specs.Logics.{is_logical, capitals, touches_behind, touches_ahead}
-use Rattle.operand_grammar.specs.LogicReading.{Open, Negation, Both, Group, Against, Point, Want, Letters, Right, LogicState, at_point, LogicFolded, logic_fold, touching, truth_apart, right_apart, spelling, after_letters, point_step, logic_step, logic_run}
+use Rattle.operand_grammar.specs.LogicReading.{Open, Negation, Both, Group, Against, Point, Want, Letters, Right, LogicState, at_point, logic_fold, truth_apart, right_apart, spelling, after_letters, point_step, logic_step, logic_run}
 use Rattle.operand_grammar.specs.LogicStanding.{Takes}
 use Rattle.expression_grammar.proofs.CharacterLaws.{letter-kind, upper-letter, IsNaming, by_letter, by_digit, symbol-kind}
 use Rattle.expression_grammar.proofs.Completions.{if-true}

@@ -1,20 +1,19 @@
 -- Each text of a truth leads to its tree.
 use Rattle.std.proofs.Common.{◌≡◌, ℕ, ◌≤◌, Bool, true, false, List, [], ◌∷◌, ◌++◌, ◌⊎◌, inl, inr, refl, sym, ap, ◌∙◌, subst, append_assoc, arith}
-use Rattle.std.specs.Prelude.{◌<◌, ◌&&◌, ◌==◌, Option, Some, None, IsTrue, option_and_then, if◌then◌else◌}
-use Rattle.std.specs.Char.{to_ascii_uppercase}
+use Rattle.std.specs.Prelude.{◌<◌, ◌&&◌, ◌==◌, Some, None, IsTrue, option_and_then, if◌then◌else◌}
 use Rattle.hl_base.specs.Symbols.{is_letter}
 use Rattle.expression_grammar.specs.declared.character.Kind.TheVariants as kind
 use Rattle.expression_grammar.specs.declared.tree.Operator.{Operator}
 use Rattle.expression_grammar.specs.declared.tree.Operator.TheVariants.{And, Or, Xor}
 use Rattle.expression_grammar.specs.declared.tree.Comparison.{Comparison}
 use Rattle.expression_grammar.specs.declared.tree.Comparison.TheVariants.{Eq, Ne, Lt, Le, Gt, Ge}
-use Rattle.expression_grammar.specs.Characters.{kind_of, strength}
+use Rattle.expression_grammar.specs.Characters.{strength}
 use Rattle.expression_grammar.specs.Spelling.{Placed, rank}
 use Rattle.expression_grammar.specs.Trees.{Tree, Pair, Paren, Not, Compared}
-use Rattle.operand_grammar.specs.Logics.{not_word, operator_word, is_logical, comparison_word, capitals, touches_behind, touches_ahead, Joined, Negated, Enclosed, IsNumber, IsCharacters, IsLogical, IsTruth}
-use Rattle.operand_grammar.specs.LogicReading.{Open, Negation, Both, Group, Against, Point, Want, MaybeNot, Letters, Comparing, Right, Had, LogicState, at_point, Operand, NumberOne, TruthOne, TextOne, settled, truth_of, LogicFolded, logic_fold, grouped, closing, pushed, joining, lettered, letter_begun, truth_apart, after_first, spelling, after_comparing, comparison_of, point_step, logic_run, whole_over, whole, logic_accept}
+use Rattle.operand_grammar.specs.Logics.{not_word, operator_word, is_logical, comparison_word, capitals, touches_behind, touches_ahead, Enclosed, IsNumber, IsLogical, IsTruth}
+use Rattle.operand_grammar.specs.LogicReading.{Open, Negation, Both, Group, Point, Want, MaybeNot, Letters, Comparing, Right, Had, LogicState, at_point, Operand, NumberOne, TruthOne, TextOne, settled, truth_of, LogicFolded, logic_fold, grouped, closing, pushed, joining, lettered, letter_begun, truth_apart, after_first, after_comparing, comparison_of, logic_run, whole_over, whole, logic_accept}
 use Rattle.operand_grammar.specs.LogicStanding.{Takes, behind_word}
-use Rattle.operand_grammar.proofs.LogicLaws.{point-steps, logic_run-append, kind-apart, touches-all, want-apart, want-gap, word-runs, capital-kind, FirstLetter, first-letter, logic_fold-none, takes-more, logical-strength, pair-folds}
+use Rattle.operand_grammar.proofs.LogicLaws.{point-steps, logic_run-append, kind-apart, touches-all, want-apart, want-gap, word-runs, capital-kind, first-letter, logic_fold-none, takes-more, logical-strength, pair-folds}
 use Rattle.operand_grammar.proofs.LogicStands.{Standing, had-stands, had-blank, OperandLead, gap-behind}
 use Rattle.operand_grammar.proofs.LogicNumbers.{number-lead, right_number-lead}
 use Rattle.operand_grammar.proofs.LogicTexts.{text-lead, right_text-lead}
@@ -89,29 +88,29 @@ joins operator rest tree operand top layers above is i h t folds =
     ∙ ap (λ folded. Some (pushed operator rest folded)) (folds (strength operator) h ∙ logic_fold-none (strength operator) tree layers (logical-strength operator i) t)
 
 -- the word of an operator behind a truth
-word-joins : (operator : Operator) (tree : Tree) (l_last : Point) (operand : Operand) (top : Tree) (layers above : List Open) (letters back : List Placed) → Standing l_last false operand →
+word-joins : (operator : Operator) (tree : Tree) (point : Point) (operand : Operand) (top : Tree) (layers above : List Open) (letters back : List Placed) → Standing point false operand →
     truth_of operand ≡ Some top → IsTrue (is_logical operator) → strength operator ≤ rank tree → Takes layers (strength operator) →
     ((floor : ℕ) → floor ≤ rank tree → logic_fold floor top above ≡ logic_fold floor tree layers) → capitals letters ≡ operator_word operator →
-    logic_run (at_point above l_last) (letters ++ back) ≡ logic_run (at_point (Both operator tree ∷ layers) (Want true)) back
-word-joins And tree l_last operand top layers above letters back s is i h t folds e =
+    logic_run (at_point above point) (letters ++ back) ≡ logic_run (at_point (Both operator tree ∷ layers) (Want true)) back
+word-joins And tree point operand top layers above letters back s is i h t folds e =
     let f = first-letter 65 (78 ∷ 68 ∷ []) letters e in
-    ap (λ xs. logic_run (at_point above l_last) (xs ++ back)) f.both
-    ∙ point-steps l_last above (at_point (Both And tree ∷ layers) (Letters (78 ∷ 68 ∷ []))) f.first (f.others ++ back)
+    ap (λ xs. logic_run (at_point above point) (xs ++ back)) f.both
+    ∙ point-steps point above (at_point (Both And tree ∷ layers) (Letters (78 ∷ 68 ∷ []))) f.first (f.others ++ back)
     (s.spells refl f.first above (capital-kind f.first.code 65 f.upper refl) ∙ ap (λ u. lettered operand u above) f.upper ∙ joins And (78 ∷ 68 ∷ []) tree operand top layers above is i h t folds)
     ∙ word-runs (Both And tree ∷ layers) f.others back (78 ∷ 68 ∷ []) f.named
-word-joins Or tree l_last operand top layers above letters back s is i h t folds e =
+word-joins Or tree point operand top layers above letters back s is i h t folds e =
     let f = first-letter 79 (82 ∷ []) letters e in
-    ap (λ xs. logic_run (at_point above l_last) (xs ++ back)) f.both
-    ∙ point-steps l_last above (at_point (Both Or tree ∷ layers) (Letters (82 ∷ []))) f.first (f.others ++ back)
+    ap (λ xs. logic_run (at_point above point) (xs ++ back)) f.both
+    ∙ point-steps point above (at_point (Both Or tree ∷ layers) (Letters (82 ∷ []))) f.first (f.others ++ back)
     (s.spells refl f.first above (capital-kind f.first.code 79 f.upper refl) ∙ ap (λ u. lettered operand u above) f.upper ∙ joins Or (82 ∷ []) tree operand top layers above is i h t folds)
     ∙ word-runs (Both Or tree ∷ layers) f.others back (82 ∷ []) f.named
-word-joins Xor tree l_last operand top layers above letters back s is i h t folds e =
+word-joins Xor tree point operand top layers above letters back s is i h t folds e =
     let f = first-letter 88 (79 ∷ 82 ∷ []) letters e in
-    ap (λ xs. logic_run (at_point above l_last) (xs ++ back)) f.both
-    ∙ point-steps l_last above (at_point (Both Xor tree ∷ layers) (Letters (79 ∷ 82 ∷ []))) f.first (f.others ++ back)
+    ap (λ xs. logic_run (at_point above point) (xs ++ back)) f.both
+    ∙ point-steps point above (at_point (Both Xor tree ∷ layers) (Letters (79 ∷ 82 ∷ []))) f.first (f.others ++ back)
     (s.spells refl f.first above (capital-kind f.first.code 88 f.upper refl) ∙ ap (λ u. lettered operand u above) f.upper ∙ joins Xor (79 ∷ 82 ∷ []) tree operand top layers above is i h t folds)
     ∙ word-runs (Both Xor tree ∷ layers) f.others back (79 ∷ 82 ∷ []) f.named
-word-joins _ tree l_last operand top layers above letters back s is i h t folds e = cc
+word-joins _ tree point operand top layers above letters back s is i h t folds e = cc
 
 -- Comparisons.
 

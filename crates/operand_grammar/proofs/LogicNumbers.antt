@@ -7,7 +7,6 @@ use Rattle.hl_base.specs.Symbols.{is_symbol_character}
 use Rattle.expression_grammar.specs.declared.character.Grammar.TheVariants.{Arithmetic}
 use Rattle.expression_grammar.specs.declared.character.Kind.{Kind}
 use Rattle.expression_grammar.specs.declared.character.Kind.TheVariants as kind
-use Rattle.expression_grammar.specs.declared.tree.Operator.{Operator}
 use Rattle.expression_grammar.specs.declared.tree.Operator.TheVariants.{Add, Subtract, Multiply}
 use Rattle.expression_grammar.specs.declared.tree.Attribute.TheVariants as attribute
 use Rattle.expression_grammar.specs.declared.part.Part.{Part}
@@ -21,9 +20,8 @@ use Rattle.expression_grammar.specs.Parts.{after, after_word, finish, opening}
 use Rattle.expression_grammar.specs.Reading as reading
 use Rattle.expression_grammar.specs.Reading.{Layer, SignLayer, PairLayer, OpenLayer, SubscriptLayer, State, Have, Within, Folded, fold, closed, parted, joined, begun, ended, moved, step, run, whole, whole_over, accept}
 use Rattle.operand_grammar.specs.Logics.{touches_behind, touches_ahead, IsNumber}
-use Rattle.operand_grammar.specs.LogicReading.{Open, Group, Against, Point, Want, MaybeNot, Number, Right, Closed, LogicState, at_point, Operand, NumberOne, TruthOne, number_side, settled, closing, behind_one, on_number, text_begun, number_begun, letter_begun, truth_apart, right_apart, after_first, after_closed, point_step, logic_run}
+use Rattle.operand_grammar.specs.LogicReading.{Open, Group, Against, Point, Want, MaybeNot, Number, Right, Closed, LogicState, at_point, Operand, NumberOne, TruthOne, number_side, settled, closing, on_number, text_begun, number_begun, truth_apart, right_apart, after_first, after_closed, point_step, logic_run}
 use Rattle.expression_grammar.proofs.Pieces.{append-nil}
-use Rattle.expression_grammar.proofs.Finds.{whole-some}
 use Rattle.expression_grammar.proofs.Leads.{capital-runs}
 use Rattle.expression_grammar.proofs.LeadsOf.{accepted}
 use Rattle.operand_grammar.proofs.TextPlain.{test}

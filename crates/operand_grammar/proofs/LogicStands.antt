@@ -1,9 +1,8 @@
 -- What the reader of logical expressions does behind a whole operand.
-use Rattle.std.proofs.Common.{◌≡◌, ℕ, Bool, true, false, List, [], ◌∷◌, refl, sym, ap, ◌∙◌, subst}
+use Rattle.std.proofs.Common.{◌≡◌, Bool, false, List, [], ◌∷◌, refl, sym, ap, ◌∙◌, subst}
 use Rattle.std.specs.Prelude.{Option, Some, None, option_map, if◌then◌else◌}
 use Rattle.std.specs.Char.{to_ascii_uppercase}
 use Rattle.expression_grammar.specs.declared.character.Grammar.TheVariants.{Arithmetic}
-use Rattle.expression_grammar.specs.declared.character.Kind.{Kind}
 use Rattle.expression_grammar.specs.declared.character.Kind.TheVariants as kind
 use Rattle.expression_grammar.specs.Characters.{kind_of}
 use Rattle.expression_grammar.specs.Spelling.{Placed, IsGap}
@@ -11,7 +10,7 @@ use Rattle.expression_grammar.specs.Trees.{Tree, Paren}
 use Rattle.expression_grammar.specs.Reading as reading
 use Rattle.expression_grammar.specs.Reading.{State, Have}
 use Rattle.operand_grammar.specs.Logics.{touches_behind}
-use Rattle.operand_grammar.specs.LogicReading.{Open, Against, Point, Number, Ended, Closed, Had, LogicState, at_point, Operand, NumberOne, TruthOne, TextOne, number_side, settled, closing, lettered, behind_one, behind, on_number, after_closed, point_step, logic_run}
+use Rattle.operand_grammar.specs.LogicReading.{Open, Against, Point, Number, Ended, Closed, Had, at_point, Operand, NumberOne, TruthOne, TextOne, number_side, settled, closing, lettered, behind_one, behind, on_number, after_closed, point_step, logic_run}
 use Rattle.operand_grammar.proofs.LogicLaws.{point-steps, kind-apart, gap-apart}
 use Rattle.operand_grammar.proofs.LogicTouches.{Shows, close-none, letter-none}
 

@@ -8,8 +8,8 @@ use Rattle.expression_grammar.specs.declared.character.Kind.{Kind}
 use Rattle.expression_grammar.specs.declared.character.Kind.TheVariants as kind
 use Rattle.expression_grammar.specs.declared.tree.Symbol.{Symbol}
 use Rattle.expression_grammar.specs.Characters.{kind_of}
-use Rattle.expression_grammar.specs.Spelling.{Placed, IsGap}
-use Rattle.expression_grammar.specs.Trees.{Tree, Items, Paren, Compared, NoTrees, Inserted}
+use Rattle.expression_grammar.specs.Spelling.{Placed}
+use Rattle.expression_grammar.specs.Trees.{Tree, Items, Compared, NoTrees, Inserted}
 use Rattle.expression_grammar.specs.Parts.{symbol_at}
 use Rattle.expression_grammar.specs.Reading as reading
 use Rattle.expression_grammar.specs.Reading.{State}

@@ -1,6 +1,6 @@
 -- A number that a letter would go on with ends in a symbol character; and what no whole number or text goes on with.
-use Rattle.std.proofs.Common.{◌≡◌, ℕ, ◌+◌, ◌*◌, Bool, true, false, List, [], ◌∷◌, ◌++◌, length, refl, sym, ap, ◌∙◌, subst}
-use Rattle.std.specs.Prelude.{◌==◌, ◌&&◌, ◌||◌, nat_lt, Option, Some, None, is_some, option_and_then, option_map, if◌then◌else◌}
+use Rattle.std.proofs.Common.{◌≡◌, ℕ, ◌+◌, ◌*◌, Bool, true, false, List, [], ◌∷◌, ◌++◌, length, refl, ap, ◌∙◌, subst}
+use Rattle.std.specs.Prelude.{◌==◌, ◌&&◌, nat_lt, Option, Some, None, is_some, option_and_then, option_map, if◌then◌else◌}
 use Rattle.std.specs.Char.{to_ascii_uppercase, digit_value, is_digit}
 use Rattle.hl_base.specs.Symbols.{is_symbol_character}
 use Rattle.hl_base.specs.Order.{ebcdic}
@@ -22,7 +22,7 @@ use Rattle.expression_grammar.specs.declared.part.Move.TheVariants.{To, Done, Be
 use Rattle.expression_grammar.specs.Characters.{kind_of}
 use Rattle.expression_grammar.specs.Spelling.{Placed, base_of, is_figure, may_vary, asks_of_symbol}
 use Rattle.expression_grammar.specs.Trees.{Tree}
-use Rattle.expression_grammar.specs.Parts.{symbol_at, is_quoted, has_room, close_figures, after_figures, grow, after_body, after_quote, after_ampersand, after_asked, after_sigil, single, opening, opened, open_name, lengthen, after_word, after_property, after_named, after, finish}
+use Rattle.expression_grammar.specs.Parts.{is_quoted, has_room, close_figures, after_figures, grow, after_body, after_quote, after_ampersand, after_asked, after_sigil, single, opening, opened, open_name, lengthen, after_word, after_property, after_named, after, finish}
 use Rattle.expression_grammar.specs.Reading.{Layer, SignLayer, PairLayer, OpenLayer, SubscriptLayer, State, Want, Have, Within, Folded, fold, closed, parted, behind, marked, begun, ended, moved, step, whole, accept}
 use Rattle.expression_grammar.proofs.CharacterLaws.{kind-letter_symbol, kind-digit_symbol, digit-kind}
 use Rattle.expression_grammar.proofs.Finds.{whole-some}
