@@ -8,3 +8,4 @@ pub mod SubstitutionLaws
 pub mod EndingLaws
 pub mod DeclaringLaws
 pub mod BranchingLaws
+pub mod SettingLaws

@@ -12,3 +12,4 @@ pub mod Troubles
 pub mod Acts
 pub mod Branching
 pub mod Generating
+pub mod Setting

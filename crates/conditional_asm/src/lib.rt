@@ -21,6 +21,7 @@ mod front;
 mod generating;
 mod place;
 mod sequence;
+mod setting;
 mod substitution;
 mod template;
 mod trouble;
@@ -32,11 +33,14 @@ pub use declaration::declarations;
 pub use declaring::{declare, refused};
 pub use ending::ended;
 pub use generating::{Fields, defined, end, generate};
+pub use setting::{Written, assign};
 pub use substitution::substitute;
 pub use template::{Piece, Template};
 pub use trouble::{left_out, no_operation, open_apostrophe, undefined, unreadable};
 
 #[cfg(test)]
 mod act_tests;
+#[cfg(test)]
+mod setting_tests;
 #[cfg(test)]
 mod tests;
