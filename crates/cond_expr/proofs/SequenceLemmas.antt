@@ -3,11 +3,11 @@ use Rattle.std.proofs.Common.{◌≡◌, ℕ, suc, ◌+◌, ◌<◌, List, [], �
 use Rattle.hl_base.specs.declared.note.Note.{Note}
 use Rattle.std.specs.Result.{IsErrAnd}
 use Rattle.std.proofs.lemmas.List.{take_more}
-use Rattle.operand_grammar.specs.declared.tree.Expr.{Expr}
-use Rattle.operand_grammar.specs.declared.tree.Item.{Item}
-use Rattle.operand_grammar.specs.declared.tree.Item.TheVariants as item
-use Rattle.operand_grammar.specs.Trees.{Tree, Trees, Items, NoTrees, NoItems, More}
-use Rattle.operand_grammar.specs.Views.{tree_of, trees_in, items_in, with_item}
+use Rattle.expression_grammar.specs.declared.tree.Expr.{Expr}
+use Rattle.expression_grammar.specs.declared.tree.Item.{Item}
+use Rattle.expression_grammar.specs.declared.tree.Item.TheVariants as item
+use Rattle.expression_grammar.specs.Trees.{Tree, Trees, Items, NoTrees, NoItems, More}
+use Rattle.expression_grammar.specs.Views.{tree_of, trees_in, items_in, with_item}
 use Rattle.cond_expr.specs.declared.stop.Stop.{Stop}
 use Rattle.cond_expr.specs.Told.{Told}
 use Rattle.cond_expr.specs.Outcome.{Outcome, gives, and_then, Tells}

@@ -9,14 +9,14 @@ use Rattle.std.specs.Cmp.Lexicographic.{pointwise}
 use Rattle.std.specs.Int.{cast_signed, w32}
 use Rattle.std.specs.Option.{option_map}
 use Rattle.std.specs.Char.{to_ascii_uppercase, is_digit, digit_value}
-use Rattle.operand_grammar.specs.declared.character.Grammar.TheVariants.{Ordinary as OrdinaryOne}
-use Rattle.operand_grammar.specs.declared.character.Kind.{Kind}
-use Rattle.operand_grammar.specs.declared.character.Kind.TheVariants.{Quote, Ampersand}
-use Rattle.operand_grammar.specs.declared.tree.Form.{Form}
-use Rattle.operand_grammar.specs.declared.tree.Form.TheVariants.{Decimal, Hexadecimal, Binary, Character}
-use Rattle.operand_grammar.specs.Characters.{kind_of}
-use Rattle.operand_grammar.specs.Trees.{Tree, Number}
-use Rattle.operand_grammar.specs.Spelling.{Placed, placed, codes, Piece, Gap, One, Capital, Digits, Characters, Reads, IsPiece, IsGap, IsOne, IsCapital, IsDigits, IsRun, IsCharacters, IsBody, Spells, number_spelled, is_figure, figures, most_of, greatest_of, bytes_of, doubled, twice}
+use Rattle.expression_grammar.specs.declared.character.Grammar.TheVariants.{Ordinary as OrdinaryOne}
+use Rattle.expression_grammar.specs.declared.character.Kind.{Kind}
+use Rattle.expression_grammar.specs.declared.character.Kind.TheVariants.{Quote, Ampersand}
+use Rattle.expression_grammar.specs.declared.tree.Form.{Form}
+use Rattle.expression_grammar.specs.declared.tree.Form.TheVariants.{Decimal, Hexadecimal, Binary, Character}
+use Rattle.expression_grammar.specs.Characters.{kind_of}
+use Rattle.expression_grammar.specs.Trees.{Tree, Number}
+use Rattle.expression_grammar.specs.Spelling.{Placed, placed, codes, Piece, Gap, One, Capital, Digits, Characters, Reads, IsPiece, IsGap, IsOne, IsCapital, IsDigits, IsRun, IsCharacters, IsBody, Spells, number_spelled, is_figure, figures, most_of, greatest_of, bytes_of, doubled, twice}
 use Rattle.cond_expr.specs.Terms.{are_figures, number_of_figures, halved, are_characters, number_of_characters, inside, number_behind, number_quoted, bits_of, term, number_in}
 
 and-left : (a b : Bool) → (a && b) ≡ true → a ≡ true

@@ -3,7 +3,7 @@
 use Rattle.std.specs.Prelude.{List, [], Option, Some, None, ℤ, pos}
 use Rattle.hl_base.specs.declared.set.SetValue.{SetValue}
 use Rattle.hl_base.specs.declared.set.SetValue.TheVariants.{A, B, C}
-use Rattle.operand_grammar.specs.Trees.{Tree}
+use Rattle.expression_grammar.specs.Trees.{Tree}
 use Rattle.cond_expr.specs.declared.evaluated.Evaluated.{Evaluated}
 use Rattle.cond_expr.specs.Told.{Told}
 use Rattle.cond_expr.specs.Outcome.{Outcome, Gives, Asks}

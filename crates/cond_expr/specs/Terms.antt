@@ -4,10 +4,10 @@ use Rattle.std.specs.List.{list_all}
 use Rattle.std.specs.Cmp.Lexicographic.{pointwise}
 use Rattle.std.specs.Char.{to_ascii_uppercase}
 use Rattle.std.specs.Int.{cast_signed, w32}
-use Rattle.operand_grammar.specs.declared.tree.Form.{Form}
-use Rattle.operand_grammar.specs.declared.tree.Form.TheVariants.{Decimal, Hexadecimal, Binary, Character}
-use Rattle.operand_grammar.specs.Trees.{Tree, Number}
-use Rattle.operand_grammar.specs.Spelling.{is_figure, figures, most_of, greatest_of, bytes_of, doubled}
+use Rattle.expression_grammar.specs.declared.tree.Form.{Form}
+use Rattle.expression_grammar.specs.declared.tree.Form.TheVariants.{Decimal, Hexadecimal, Binary, Character}
+use Rattle.expression_grammar.specs.Trees.{Tree, Number}
+use Rattle.expression_grammar.specs.Spelling.{is_figure, figures, most_of, greatest_of, bytes_of, doubled}
 
 -- whether a text is some digits of a form, no more than a term has
 abbrev pub are_figures : Form → List ℕ → Bool

@@ -9,19 +9,19 @@ use Rattle.std.specs.declared.cmp.Ordering.{Ordering}
 use Rattle.hl_base.specs.Order.{compare}
 use Rattle.hl_base.specs.declared.set.SetValue.{SetValue}
 use Rattle.hl_base.specs.declared.set.SetValue.TheVariants as value
-use Rattle.operand_grammar.specs.declared.tree.Sign.{Sign}
-use Rattle.operand_grammar.specs.declared.tree.Sign.TheVariants.{Plus, Minus}
-use Rattle.operand_grammar.specs.declared.tree.Symbol.{Symbol}
-use Rattle.operand_grammar.specs.declared.tree.Operator.{Operator}
-use Rattle.operand_grammar.specs.declared.tree.Operator.TheVariants.{Add, Subtract, Multiply, Divide, And, Or, Xor}
-use Rattle.operand_grammar.specs.declared.tree.Comparison.{Comparison}
-use Rattle.operand_grammar.specs.declared.tree.Comparison.TheVariants.{Eq, Ne, Lt, Le, Gt, Ge}
-use Rattle.operand_grammar.specs.declared.tree.Attribute.TheVariants as attribute
-use Rattle.operand_grammar.specs.declared.tree.Reference.TheVariants.{Of}
-use Rattle.operand_grammar.specs.declared.tree.Item.{Item}
-use Rattle.operand_grammar.specs.declared.tree.Item.TheVariants as item
-use Rattle.operand_grammar.specs.Views.{trees_of}
-use Rattle.operand_grammar.specs.Trees.{Tree, Trees, Items, Number, Here, Ordinary, Variable, Signed, Pair, Paren, Not, Compared, Quoted, Duplicated, Substring, SubstringToEnd, Joined, NoTrees, More, NoItems, Plain, Inserted}
+use Rattle.expression_grammar.specs.declared.tree.Sign.{Sign}
+use Rattle.expression_grammar.specs.declared.tree.Sign.TheVariants.{Plus, Minus}
+use Rattle.expression_grammar.specs.declared.tree.Symbol.{Symbol}
+use Rattle.expression_grammar.specs.declared.tree.Operator.{Operator}
+use Rattle.expression_grammar.specs.declared.tree.Operator.TheVariants.{Add, Subtract, Multiply, Divide, And, Or, Xor}
+use Rattle.expression_grammar.specs.declared.tree.Comparison.{Comparison}
+use Rattle.expression_grammar.specs.declared.tree.Comparison.TheVariants.{Eq, Ne, Lt, Le, Gt, Ge}
+use Rattle.expression_grammar.specs.declared.tree.Attribute.TheVariants as attribute
+use Rattle.expression_grammar.specs.declared.tree.Reference.TheVariants.{Of}
+use Rattle.expression_grammar.specs.declared.tree.Item.{Item}
+use Rattle.expression_grammar.specs.declared.tree.Item.TheVariants as item
+use Rattle.expression_grammar.specs.Views.{trees_of}
+use Rattle.expression_grammar.specs.Trees.{Tree, Trees, Items, Number, Here, Ordinary, Variable, Signed, Pair, Paren, Not, Compared, Quoted, Duplicated, Substring, SubstringToEnd, Joined, NoTrees, More, NoItems, Plain, Inserted}
 use Rattle.cond_expr.specs.Arithmetic.{fitting, quotient}
 use Rattle.cond_expr.specs.Told.{Told}
 use Rattle.cond_expr.specs.Outcome.{Outcome, Gives, Asks, gives, and_then, asked_by}

@@ -7,9 +7,9 @@ use Rattle.std.specs.Option.{option_map_or}
 use Rattle.hl_base.specs.declared.set.SetValue.{SetValue}
 use Rattle.hl_base.specs.declared.set.SetValue.TheVariants.{A, B, C}
 use Rattle.hl_base.specs.Symbols.{symbol_of}
-use Rattle.operand_grammar.specs.declared.tree.Attribute.TheVariants as attribute
-use Rattle.operand_grammar.specs.declared.tree.Reference.{Reference}
-use Rattle.operand_grammar.specs.declared.tree.Reference.TheVariants.{Value, Of}
+use Rattle.expression_grammar.specs.declared.tree.Attribute.TheVariants as attribute
+use Rattle.expression_grammar.specs.declared.tree.Reference.{Reference}
+use Rattle.expression_grammar.specs.declared.tree.Reference.TheVariants.{Value, Of}
 use Rattle.operand_grammar.specs.SplitSublist.{elements_of}
 use Rattle.cond_expr.specs.declared.lookups.Found.{Found}
 use Rattle.cond_expr.specs.declared.lookups.Found.TheVariants as found

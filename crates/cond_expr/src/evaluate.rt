@@ -1,8 +1,8 @@
 //! The recursion over an expression. Each call tells an outcome, as in `symbol`. A tree that is parsed has at most 1,000
 //! nodes, so it is at most 1,000 calls deep.
 ghost use Rattle.std.specs.Prelude.{◌≡◌, ◌++◌, IfOk};
-ghost use Rattle.operand_grammar.specs.Views.{tree_of, trees_in, items_in};
-ghost use Rattle.operand_grammar.specs.Trees.{NoTrees, NoItems};
+ghost use Rattle.expression_grammar.specs.Views.{tree_of, trees_in, items_in};
+ghost use Rattle.expression_grammar.specs.Trees.{NoTrees, NoItems};
 ghost use Rattle.cond_expr.specs.Outcome.{Tells};
 ghost use Rattle.hl_base.specs.Order as order;
 ghost use Rattle.cond_expr.specs.Values as values;

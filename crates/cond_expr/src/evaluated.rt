@@ -1,6 +1,6 @@
 //! The values of whole expressions, each under the answers that were given.
 ghost use Rattle.std.specs.Prelude.{◌≡◌, [], Some, IfOk};
-ghost use Rattle.operand_grammar.specs.Views.{tree_of};
+ghost use Rattle.expression_grammar.specs.Views.{tree_of};
 ghost use Rattle.cond_expr.specs.Evaluated as evaluated;
 
 use crate::evaluate;

@@ -1,12 +1,12 @@
 //! Texts that are self-defining terms, and how many elements a text has (SC26-4940, "Self-defining terms", "Sublists in
 //! operands").
 ghost use Rattle.std.specs.Prelude.{◌≡◌, IfOk};
-ghost use Rattle.operand_grammar.specs.Views.{tree_of};
+ghost use Rattle.expression_grammar.specs.Views.{tree_of};
 ghost use Rattle.cond_expr.specs.Terms as terms;
 ghost use Rattle.cond_expr.specs.Variables as variables;
 
 use hl_base::{OutOfMemory, Text};
-use operand_grammar::laws::one_tree;
+use expression_grammar::laws::one_tree;
 use operand_grammar::{Expr, SyntaxFault, parse_ordinary, split_sublist};
 use std::alloc::Global;
 

@@ -1,14 +1,14 @@
 //! What a text begins with: an expression before a closing parenthesis, or a variable symbol with its subscripts.
 ghost use Rattle.std.specs.Prelude.{◌≡◌, IfOk};
 ghost use Rattle.std.specs.Str.{chars};
-ghost use Rattle.operand_grammar.specs.Views.{tree_of};
+ghost use Rattle.expression_grammar.specs.Views.{tree_of};
 ghost use Rattle.conditional_asm.specs.Fronts as fronts;
 ghost use Rattle.conditional_asm.specs.Tries.{IsTried, IsFront};
 
 use crate::character::{character_count, short_count};
 use hl_base::OutOfMemory;
 use hlasm_statements::split_columns;
-use operand_grammar::laws::one_tree;
+use expression_grammar::laws::one_tree;
 use operand_grammar::{Expr, Reference, SyntaxFault, parse_arith};
 use std::alloc::Global;
 

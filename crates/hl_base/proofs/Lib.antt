@@ -3,3 +3,4 @@ pub mod LineLaws
 pub mod UnitLaws
 pub mod OrderLaws
 pub mod QuotingLaws
+pub mod TextLaws

@@ -3,3 +3,4 @@ pub mod Texts
 pub mod Remaining
 pub mod Order
 pub mod Quoting
+pub mod Content

@@ -1,24 +1,86 @@
 //! Owned text, seen as the list of its characters.
-ghost use Rattle.std.specs.Prelude.{◌≡◌, ◌↔◌, [], ◌++◌, IfOk, OnOk, OnErr, IsTrue, encode_utf8_all};
+ghost use Rattle.std.specs.Prelude.{◌≡◌, ◌↔◌, [], ◌++◌, IfOk, OnOk, OnErr, IsTrue, IsUtf8, encode_utf8_all, string_bytes};
 ghost use Rattle.std.specs.Str.{chars};
+ghost use Rattle.hl_base.specs.Content.{content_bytes};
 
 use crate::OutOfMemory;
+use arrayvec::ArrayString;
 use std::alloc::Global;
 use std::marker::Model;
+
+/// How many bytes a text has at most that takes no memory from the allocator.
+const ROOM: usize = 24;
+
+/// Where the bytes of a text lie: within the value itself, or on the heap.
+#[derive(Debug, Drop)]
+enum Content {
+    Inside(ArrayString<ROOM>),
+    Heap(String),
+}
+
+/// Two texts in one.
+fn joined(alloc: Global, front: &str, back: &str) -> Result<String, OutOfMemory>
+    ensures { IfOk result (λ s. string_bytes s ≡ front.now ++ back.now) }
+{
+    let mut whole = String::from_str(alloc, front)?;
+    whole.push_str(back)?;
+    Ok(whole)
+}
+
+impl Content {
+    fn of(alloc: Global, text: &str) -> Result<Content, OutOfMemory>
+        ensures { IfOk result (λ content. content_bytes content ≡ text.now) }
+    {
+        match ArrayString::from(text) {
+            Ok(inside) => Ok(Content::Inside(inside)),
+            Err(_) => Ok(Content::Heap(String::from_str(alloc, text)?)),
+        }
+    }
+
+    /// Adds a text behind the one that is there. An `Err` changes nothing.
+    fn push_str(&mut self, alloc: Global, text: &str) -> Result<(), OutOfMemory>
+        ensures ok { OnOk result (content_bytes self.new ≡ content_bytes self.old ++ text.now) }
+        ensures err { OnErr result (content_bytes self.new ≡ content_bytes self.old) }
+    {
+        match self {
+            Content::Heap(heap) => heap.push_str(text)?,
+            Content::Inside(inside) => {
+                if inside.try_push_str(text).is_err() {
+                    let whole = joined(alloc, inside.as_str(), text)?;
+                    *self = Content::Heap(whole);
+                }
+            }
+        }
+        Ok(())
+    }
+
+    fn as_str(&self) -> &str
+        ensures { result.now ≡ content_bytes self.now }
+    {
+        match self {
+            Content::Inside(inside) => inside.as_str(),
+            Content::Heap(heap) => heap.as_str(),
+        }
+    }
+}
 
 /// A text that its holder owns. Contracts see the list of its characters.
 #[derive(Debug, Drop)]
 pub struct Text {
-    content: String,
+    alloc: Global,
+    content: Content,
 }
 
 impl Model for Text {
-    ghost use Rattle.std.specs.Prelude.{ℕ, List, string_bytes};
+    ghost use Rattle.std.specs.Prelude.{ℕ, List, IsUtf8};
     ghost use Rattle.std.specs.Str.{chars};
+    ghost use Rattle.hl_base.specs.Content.{content_bytes};
 
     ghost Value = { List ℕ };
 
-    ghost view = { λ t. chars (string_bytes t.content) };
+    ghost view = { λ t. chars (content_bytes t.content) };
+
+    ghost invariant = { λ t. ∥ IsUtf8 (content_bytes t.content) ∥₁ };
 }
 
 impl Text {
@@ -27,7 +89,8 @@ impl Text {
         ensures { result ≡ [] }
     {
         Text {
-            content: String::new(alloc),
+            alloc,
+            content: Content::Inside(ArrayString::new()),
         }
     }
 
@@ -36,7 +99,8 @@ impl Text {
         ensures { IfOk result (λ t. t ≡ chars text.now) }
     {
         Ok(Text {
-            content: String::from_str(alloc, text)?,
+            alloc,
+            content: Content::of(alloc, text)?,
         })
     }
 
@@ -45,8 +109,7 @@ impl Text {
         ensures ok { OnOk result (self.new ≡ self.old ++ chars text.now) }
         ensures err { OnErr result (self.new ≡ self.old) }
     {
-        self.content.push_str(text)?;
-        Ok(())
+        self.content.push_str(self.alloc, text)
     }
 
     /// Whether it has no character.

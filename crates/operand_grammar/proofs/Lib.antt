@@ -1,15 +1,3 @@
-pub mod Pieces
-pub mod Appends
-pub mod Folds
-pub mod CharacterLaws
-pub mod Names
-pub mod Terms
-pub mod Steps
-pub mod Completions
-pub mod Leads
-pub mod LeadsOf
-pub mod Weights
-pub mod Finds
 pub mod TextPlain
 pub mod TextLeads
 pub mod TextItems
@@ -20,10 +8,6 @@ pub mod TextSteps
 pub mod TextMoveLaws
 pub mod TextAppends
 pub mod TextWeights
-pub mod Rows
-pub mod StackLaws
 pub mod TextStackLaws
-pub mod MoveLaws
-pub mod TextLaws
 pub mod SplitLaws
 pub mod SplitSublistLaws

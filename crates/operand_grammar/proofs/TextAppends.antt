@@ -1,16 +1,16 @@
 -- The pieces of a character expression, before other pieces.
 use Rattle.std.proofs.Common.{◌≡◌, Bool, false, List, ◌∷◌, ◌++◌, refl, ap, ◌∙◌}
 use Rattle.std.specs.Prelude.{Option, Some, None}
-use Rattle.operand_grammar.specs.declared.character.Kind.TheVariants as kind
-use Rattle.operand_grammar.specs.declared.tree.Operator.TheVariants.{Multiply}
-use Rattle.operand_grammar.specs.declared.tree.Reference.TheVariants.{Value}
-use Rattle.operand_grammar.specs.Spelling as spelling
-use Rattle.operand_grammar.specs.Spelling.{Piece, Gap, One, Capital, Letters, Plainly, Join, Period, spell, spell_subscripts, begin_subscripts, variable_spelled, asked_spelled}
-use Rattle.operand_grammar.specs.Trees.{Tree, Items, Ordinary, Variable, Quoted, Duplicated, Substring, SubstringToEnd, Joined, NoItems, Plain, Inserted}
+use Rattle.expression_grammar.specs.declared.character.Kind.TheVariants as kind
+use Rattle.expression_grammar.specs.declared.tree.Operator.TheVariants.{Multiply}
+use Rattle.expression_grammar.specs.declared.tree.Reference.TheVariants.{Value}
+use Rattle.expression_grammar.specs.Spelling as spelling
+use Rattle.expression_grammar.specs.Spelling.{Piece, Gap, One, Capital, Letters, Plainly, Join, Period, spell, spell_subscripts, begin_subscripts, variable_spelled, asked_spelled}
+use Rattle.expression_grammar.specs.Trees.{Tree, Items, Ordinary, Variable, Quoted, Duplicated, Substring, SubstringToEnd, Joined, NoItems, Plain, Inserted}
 use Rattle.operand_grammar.specs.Texts.{spell_text, spell_items, needs_period}
 use Rattle.operand_grammar.specs.TextReading.{Opened, Holder, InText, AsType, Frame, Factor, Subscripts, Start, Count}
 use Rattle.operand_grammar.specs.TextStanding.{ahead, times, open_text, inside, asked_type, held, unjoined, framed}
-use Rattle.operand_grammar.proofs.Appends.{asked_spelled-over, variable_spelled-over, spell-over, spell_subscripts-over, begin_subscripts-over}
+use Rattle.expression_grammar.proofs.Appends.{asked_spelled-over, variable_spelled-over, spell-over, spell_subscripts-over, begin_subscripts-over}
 
 pub spell_items-over : (items : Items) (must : Bool) (ks js : List Piece) → spell_items items must (ks ++ js) ≡ spell_items items must ks ++ js
 spell_items-over NoItems must ks js = refl

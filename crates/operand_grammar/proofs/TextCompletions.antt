@@ -1,22 +1,22 @@
 -- Each state of a character expression has a rest that makes it an expression of exactly its weight.
 use Rattle.std.proofs.Common.{◌≡◌, ℕ, ◌+◌, true, List, [], ◌∷◌, ◌++◌, length, refl, sym, ap, ◌∙◌, subst, arith}
 use Rattle.std.specs.Prelude.{Option, Some, None}
-use Rattle.operand_grammar.specs.declared.character.Grammar.TheVariants.{Arithmetic}
-use Rattle.operand_grammar.specs.declared.character.Kind.{Kind}
-use Rattle.operand_grammar.specs.declared.character.Kind.TheVariants as kind
-use Rattle.operand_grammar.specs.declared.tree.Symbol.{Symbol}
-use Rattle.operand_grammar.specs.Characters.{kind_of}
-use Rattle.operand_grammar.specs.Spelling.{Placed, placed}
-use Rattle.operand_grammar.specs.Trees.{Tree, Trees, Items, Quoted, Substring, SubstringToEnd, NoTrees, More, NoItems, Inserted, size}
-use Rattle.operand_grammar.specs.Parts.{symbol_at}
-use Rattle.operand_grammar.specs.Reading as reading
-use Rattle.operand_grammar.specs.Reading.{State, Want}
+use Rattle.expression_grammar.specs.declared.character.Grammar.TheVariants.{Arithmetic}
+use Rattle.expression_grammar.specs.declared.character.Kind.{Kind}
+use Rattle.expression_grammar.specs.declared.character.Kind.TheVariants as kind
+use Rattle.expression_grammar.specs.declared.tree.Symbol.{Symbol}
+use Rattle.expression_grammar.specs.Characters.{kind_of}
+use Rattle.expression_grammar.specs.Spelling.{Placed, placed}
+use Rattle.expression_grammar.specs.Trees.{Tree, Trees, Items, Quoted, Substring, SubstringToEnd, NoTrees, More, NoItems, Inserted, size}
+use Rattle.expression_grammar.specs.Parts.{symbol_at}
+use Rattle.expression_grammar.specs.Reading as reading
+use Rattle.expression_grammar.specs.Reading.{State, Want}
 use Rattle.operand_grammar.specs.TextReading.{Opened, Holder, InText, AsType, Frame, Factor, Subscripts, Start, Count, TextState, WantPart, WantQuote, Inside, Lone, Naming, Behind, Closed, Within, WantCount, Star, Letter, Asked, Sigil, Word, Done, built, with_plain, typed, typed_name, subscripted, leave, is_end, text_step, text_run, text_accept, text_weight, frame_size}
 use Rattle.operand_grammar.specs.TextStanding.{TextHolds}
-use Rattle.operand_grammar.proofs.Steps.{AllHold, runs, starts}
-use Rattle.operand_grammar.proofs.Completions.{completes, placed-append}
-use Rattle.operand_grammar.proofs.LeadsOf.{accepted}
-use Rattle.operand_grammar.proofs.Finds.{run-append}
+use Rattle.expression_grammar.proofs.Steps.{AllHold, runs, starts}
+use Rattle.expression_grammar.proofs.Completions.{completes, placed-append}
+use Rattle.expression_grammar.proofs.LeadsOf.{accepted}
+use Rattle.expression_grammar.proofs.Finds.{run-append}
 use Rattle.operand_grammar.proofs.TextWeights.{subscripted-weight, count-weight, star-weight, text_accept-size}
 use Rattle.operand_grammar.proofs.TextLeads.{text_run-step, within-run, step-leaves}
 

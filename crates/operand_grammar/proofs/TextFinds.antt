@@ -2,21 +2,22 @@
 use Rattle.std.proofs.Common.{◌≡◌, ℕ, suc, ◌+◌, ◌-◌, ◌<◌, ◌≤◌, Bool, true, false, List, [], ◌∷◌, ◌++◌, length, take, get_or, refl, sym, ap, ◌∙◌, subst, arith, append_assoc, length-append, zero-add}
 use Rattle.std.specs.Prelude.{nat_le, Option, Some, None, option_and_then, if◌then◌else◌}
 use Rattle.std.proofs.lemmas.Bool.Decides.{nat_tests}
-use Rattle.operand_grammar.specs.declared.character.Grammar.TheVariants.{Arithmetic}
-use Rattle.operand_grammar.specs.declared.character.Kind.TheVariants as kind
-use Rattle.operand_grammar.specs.declared.fault.SyntaxFault.{SyntaxFault}
-use Rattle.operand_grammar.specs.declared.fault.SyntaxFault.TheVariants.{At, OutOfMemory}
-use Rattle.operand_grammar.specs.Trees.{Tree, Quoted, NoTrees}
-use Rattle.operand_grammar.specs.Parts.{symbol_at}
-use Rattle.operand_grammar.specs.Spelling.{Placed, placed, One, Reads, IsExpression, IsViable, IsAt, most_parts}
+use Rattle.expression_grammar.specs.declared.character.Grammar.TheVariants.{Arithmetic}
+use Rattle.expression_grammar.specs.declared.character.Kind.TheVariants as kind
+use Rattle.expression_grammar.specs.declared.fault.SyntaxFault.{SyntaxFault}
+use Rattle.expression_grammar.specs.declared.fault.SyntaxFault.TheVariants.{At, OutOfMemory}
+use Rattle.expression_grammar.specs.Trees.{Tree, Quoted, NoTrees}
+use Rattle.expression_grammar.specs.Parts.{symbol_at}
+use Rattle.expression_grammar.specs.Spelling.{Placed, placed, One, Reads, IsExpression, IsViable, IsAt, most_parts}
 use Rattle.operand_grammar.specs.Texts.{spell_text, IsText, SpellsText}
-use Rattle.operand_grammar.specs.Answers.{IsFault, TextStops}
+use Rattle.expression_grammar.specs.Answers.{IsFault}
+use Rattle.operand_grammar.specs.TextAnswers.{TextStops}
 use Rattle.operand_grammar.specs.TextReading.{AsType, TextState, WantPart, Naming, Closed, Word, Done, built, with_plain, typed, typed_name, text_step, text_run, text_accept, text_weight, text_kept, text_advance, TextReaches}
 use Rattle.operand_grammar.specs.TextStanding.{text_pieces, TextHolds}
-use Rattle.operand_grammar.proofs.Pieces.{append-nil}
-use Rattle.operand_grammar.proofs.Completions.{placed-append}
-use Rattle.operand_grammar.proofs.Finds.{placed-one, take-all, take-past}
-use Rattle.operand_grammar.proofs.TextLaws.{cut-at, take-next, take-size, take-whole}
+use Rattle.expression_grammar.proofs.Pieces.{append-nil}
+use Rattle.expression_grammar.proofs.Completions.{placed-append}
+use Rattle.expression_grammar.proofs.Finds.{placed-one, take-all, take-past}
+use Rattle.expression_grammar.proofs.ReadingLaws.{cut-at, take-next, take-size, take-whole}
 use Rattle.operand_grammar.proofs.TextPlain.{with_plain-are}
 use Rattle.operand_grammar.proofs.TextWeights.{text_run-least, text_accept-size}
 use Rattle.operand_grammar.proofs.TextSteps.{AllTextHold, text_runs, text_starts, whole-of, plain-items, built-pieces, built-text, typed-pieces, typed-text, typed_name-pieces, typed_name-text}

@@ -3,20 +3,20 @@ use Rattle.std.proofs.Common.{◌≡◌, ℕ, Bool, true, false, List, [], ◌�
 use Rattle.std.specs.Prelude.{◌==◌, ◌&&◌, ◌||◌, Some, if◌then◌else◌}
 use Rattle.std.specs.Char.{to_ascii_uppercase}
 use Rattle.hl_base.specs.Symbols.{is_letter, is_symbol_character}
-use Rattle.operand_grammar.specs.declared.character.Grammar.TheVariants.{Arithmetic}
-use Rattle.operand_grammar.specs.declared.character.Kind.{Kind}
-use Rattle.operand_grammar.specs.declared.character.Kind.TheVariants as kind
-use Rattle.operand_grammar.specs.declared.tree.Symbol.{Symbol}
-use Rattle.operand_grammar.specs.Characters.{kind_of}
-use Rattle.operand_grammar.specs.Spelling as spelling
-use Rattle.operand_grammar.specs.Spelling.{Placed, Piece, One, Letters, Plainly, Join, Reads, AreOf, codes, quoted, quoted_one, spell_subscripts}
-use Rattle.operand_grammar.specs.Trees.{Tree, Trees, Items, NoTrees, More, NoItems, Plain, Inserted}
-use Rattle.operand_grammar.specs.Parts.{symbol_at}
+use Rattle.expression_grammar.specs.declared.character.Grammar.TheVariants.{Arithmetic}
+use Rattle.expression_grammar.specs.declared.character.Kind.{Kind}
+use Rattle.expression_grammar.specs.declared.character.Kind.TheVariants as kind
+use Rattle.expression_grammar.specs.declared.tree.Symbol.{Symbol}
+use Rattle.expression_grammar.specs.Characters.{kind_of}
+use Rattle.expression_grammar.specs.Spelling as spelling
+use Rattle.expression_grammar.specs.Spelling.{Placed, Piece, One, Letters, Plainly, Join, Reads, AreOf, codes, quoted, quoted_one, spell_subscripts}
+use Rattle.expression_grammar.specs.Trees.{Tree, Trees, Items, NoTrees, More, NoItems, Plain, Inserted}
+use Rattle.expression_grammar.specs.Parts.{symbol_at}
 use Rattle.operand_grammar.specs.Texts.{spell_items, needs_period, belongs, is_lone, has_symbol, ends_plain, ends_lone, is_filled, AreItems}
 use Rattle.operand_grammar.specs.TextReading.{Opened, Holder, InText, TextState, Inside, Lone, Naming, Behind, Closed, with_plain, go_inside, after_lone, after_symbol, after_name, go_naming, after_closed, text_step, text_run}
-use Rattle.operand_grammar.proofs.CharacterLaws.{kind-letter, kind-quote, kind-ampersand}
-use Rattle.operand_grammar.proofs.Pieces.{append-nil}
-use Rattle.operand_grammar.proofs.Leads.{first}
+use Rattle.expression_grammar.proofs.CharacterLaws.{kind-letter, kind-quote, kind-ampersand}
+use Rattle.expression_grammar.proofs.Pieces.{append-nil}
+use Rattle.expression_grammar.proofs.Leads.{first}
 use Rattle.operand_grammar.proofs.TextPlain.{is_plain, is_name, no-codes, lone-true, lone-false, lone-past, plain-code, name-free, period-free}
 use Rattle.operand_grammar.proofs.TextLeads.{text_run-step, Reached, reached-letters, naming-grows, reached-subscripts}
 

@@ -4,25 +4,25 @@ use Rattle.std.specs.Prelude.{nat_lt, map, Option, Some, None, option_and_then, 
 use Rattle.std.specs.List.{list_all}
 use Rattle.std.specs.Char.{to_ascii_uppercase}
 use Rattle.hl_base.specs.Symbols.{symbol_of, is_symbol_character}
-use Rattle.operand_grammar.specs.declared.character.Grammar.TheVariants.{Arithmetic}
-use Rattle.operand_grammar.specs.declared.character.Kind.{Kind}
-use Rattle.operand_grammar.specs.declared.character.Kind.TheVariants as kind
-use Rattle.operand_grammar.specs.declared.tree.Symbol.{Symbol}
-use Rattle.operand_grammar.specs.Characters.{kind_of}
-use Rattle.operand_grammar.specs.Spelling.{Placed, Piece, Gap, One, Reads, IsOf, AreOf, codes, spell, spell_subscripts, begin_subscripts}
-use Rattle.operand_grammar.specs.Trees.{Tree, Trees, Items, Quoted, Substring, NoTrees, More}
-use Rattle.operand_grammar.specs.Parts.{symbol_at, finish}
-use Rattle.operand_grammar.specs.Reading as reading
-use Rattle.operand_grammar.specs.Reading.{Layer, State, Want, Have, Folded, fold, whole, whole_over, accept, marked, begun}
+use Rattle.expression_grammar.specs.declared.character.Grammar.TheVariants.{Arithmetic}
+use Rattle.expression_grammar.specs.declared.character.Kind.{Kind}
+use Rattle.expression_grammar.specs.declared.character.Kind.TheVariants as kind
+use Rattle.expression_grammar.specs.declared.tree.Symbol.{Symbol}
+use Rattle.expression_grammar.specs.Characters.{kind_of}
+use Rattle.expression_grammar.specs.Spelling.{Placed, Piece, Gap, One, Reads, IsOf, AreOf, codes, spell, spell_subscripts, begin_subscripts}
+use Rattle.expression_grammar.specs.Trees.{Tree, Trees, Items, Quoted, Substring, NoTrees, More}
+use Rattle.expression_grammar.specs.Parts.{symbol_at, finish}
+use Rattle.expression_grammar.specs.Reading as reading
+use Rattle.expression_grammar.specs.Reading.{Layer, State, Want, Have, Folded, fold, whole, whole_over, accept, marked, begun}
 use Rattle.operand_grammar.specs.TextReading.{Holder, Frame, Subscripts, Count, Opened, TextState, WantPart, Naming, Within, WantCount, Word, Star, Done, built, lengthen, go_naming, subscripted, leave, is_end, go_within, is_star, begin_count, lengthen_word, go_word, text_step, text_run, text_accept}
-use Rattle.operand_grammar.proofs.CharacterLaws.{letter-kind, IsNaming, by_letter, by_digit, symbol-kind}
-use Rattle.operand_grammar.proofs.Names.{and-left, and-right, name-parts}
-use Rattle.operand_grammar.proofs.Pieces.{append-nil, reads-cut, length-codes}
-use Rattle.operand_grammar.proofs.Appends.{spell-over}
-use Rattle.operand_grammar.proofs.Completions.{if-true}
-use Rattle.operand_grammar.proofs.Leads.{IsAtTree, as_tree, as_part, first, lt-test}
-use Rattle.operand_grammar.proofs.LeadsOf.{accepted}
-use Rattle.operand_grammar.proofs.Finds.{whole-some}
+use Rattle.expression_grammar.proofs.CharacterLaws.{letter-kind, IsNaming, by_letter, by_digit, symbol-kind}
+use Rattle.expression_grammar.proofs.Names.{and-left, and-right, name-parts}
+use Rattle.expression_grammar.proofs.Pieces.{append-nil, reads-cut, length-codes}
+use Rattle.expression_grammar.proofs.Appends.{spell-over}
+use Rattle.expression_grammar.proofs.Completions.{if-true}
+use Rattle.expression_grammar.proofs.Leads.{IsAtTree, as_tree, as_part, first, lt-test}
+use Rattle.expression_grammar.proofs.LeadsOf.{accepted}
+use Rattle.expression_grammar.proofs.Finds.{whole-some}
 use Rattle.operand_grammar.proofs.TextMoveLaws.{at_within, leaves}
 use Rattle.operand_grammar.proofs.TextSteps.{star-kind}
 

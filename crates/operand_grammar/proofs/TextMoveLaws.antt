@@ -2,30 +2,30 @@
 use Rattle.std.proofs.Common.{◌≡◌, ℕ, ◌+◌, ◌-◌, ◌<◌, ◌≤◌, Bool, true, false, List, [], ◌∷◌, refl, sym, ap, ◌∙◌, subst, arith}
 use Rattle.std.specs.Prelude.{length, Option, Some, None, nat_le, option_and_then, option_map, if◌then◌else◌}
 use Rattle.std.proofs.lemmas.Bool.Decides.{nat_tests}
-use Rattle.operand_grammar.specs.declared.character.Grammar.{Grammar}
-use Rattle.operand_grammar.specs.declared.character.Grammar.TheVariants.{Arithmetic}
-use Rattle.operand_grammar.specs.declared.character.Kind.{Kind}
-use Rattle.operand_grammar.specs.declared.character.Kind.TheVariants as kind
-use Rattle.operand_grammar.specs.declared.pending.Pending.{Pending}
-use Rattle.operand_grammar.specs.declared.pending.Point.{Point}
-use Rattle.operand_grammar.specs.declared.pending.Point.TheVariants as point
+use Rattle.expression_grammar.specs.declared.character.Grammar.{Grammar}
+use Rattle.expression_grammar.specs.declared.character.Grammar.TheVariants.{Arithmetic}
+use Rattle.expression_grammar.specs.declared.character.Kind.{Kind}
+use Rattle.expression_grammar.specs.declared.character.Kind.TheVariants as kind
+use Rattle.expression_grammar.specs.declared.pending.Pending.{Pending}
+use Rattle.expression_grammar.specs.declared.pending.Point.{Point}
+use Rattle.expression_grammar.specs.declared.pending.Point.TheVariants as point
 use Rattle.operand_grammar.specs.declared.text_reader.TextMoved.{TextMoved}
-use Rattle.operand_grammar.specs.Characters.{kind_of}
-use Rattle.operand_grammar.specs.Spelling.{Placed, most_parts}
-use Rattle.operand_grammar.specs.Parts.{finish}
-use Rattle.operand_grammar.specs.Trees.{Tree, size}
-use Rattle.operand_grammar.specs.Reading.{Layer, SignLayer, PairLayer, OpenLayer, SubscriptLayer, State, Have, Folded, fold, closed, parted, behind, settled, whole, step, accept, weight, layers_size}
-use Rattle.operand_grammar.specs.Stacks.{stack_of, stand}
-use Rattle.operand_grammar.specs.Views.{tree_of}
+use Rattle.expression_grammar.specs.Characters.{kind_of}
+use Rattle.expression_grammar.specs.Spelling.{Placed, most_parts}
+use Rattle.expression_grammar.specs.Parts.{finish}
+use Rattle.expression_grammar.specs.Trees.{Tree, size}
+use Rattle.expression_grammar.specs.Reading.{Layer, SignLayer, PairLayer, OpenLayer, SubscriptLayer, State, Have, Folded, fold, closed, parted, behind, settled, whole, step, accept, weight, layers_size}
+use Rattle.expression_grammar.specs.Stacks.{stack_of, stand}
+use Rattle.expression_grammar.specs.Views.{tree_of}
 use Rattle.operand_grammar.specs.TextReading as texts
 use Rattle.operand_grammar.specs.TextReading.{Frame, Factor, Subscripts, Start, Count, Opened, TextState, leave, left_by, go_within, is_end, text_step, text_weight, text_kept, text_advance, frame_size, holder_size, opened_size, InText, go_inside, after_symbol}
 use Rattle.operand_grammar.specs.TextViews.{TextMoves, text_state}
-use Rattle.operand_grammar.specs.Characters.{strength}
-use Rattle.operand_grammar.specs.Trees.{Signed, Pair}
-use Rattle.operand_grammar.proofs.Folds.{fold-size}
-use Rattle.operand_grammar.proofs.Weights.{finish-size}
-use Rattle.operand_grammar.proofs.MoveLaws.{open_whole}
-use Rattle.operand_grammar.proofs.Leads.{IsAtTree, as_tree, as_part, IsFollower, step-behind}
+use Rattle.expression_grammar.specs.Characters.{strength}
+use Rattle.expression_grammar.specs.Trees.{Signed, Pair}
+use Rattle.expression_grammar.proofs.Folds.{fold-size}
+use Rattle.expression_grammar.proofs.Weights.{finish-size}
+use Rattle.expression_grammar.proofs.MoveLaws.{open_whole}
+use Rattle.expression_grammar.proofs.Leads.{IsAtTree, as_tree, as_part, IsFollower, step-behind}
 
 pub TextMoves-same : (found other : Option TextState) (before same : ℕ) (moved : Option TextMoved) → found ≡ other → before ≡ same → TextMoves other same moved → TextMoves found before moved
 TextMoves-same found other before same moved e f m =

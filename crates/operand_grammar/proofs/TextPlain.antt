@@ -3,16 +3,16 @@ use Rattle.std.proofs.Common.{◌≡◌, ℕ, Bool, true, false, List, [], ◌�
 use Rattle.std.specs.Prelude.{◌||◌, ◌&&◌, ◌==◌, if◌then◌else◌}
 use Rattle.std.proofs.lemmas.Bool.Decides.{nat_tests}
 use Rattle.hl_base.specs.Symbols.{is_letter, is_symbol_character}
-use Rattle.operand_grammar.specs.declared.character.Kind.{Kind}
-use Rattle.operand_grammar.specs.declared.character.Kind.TheVariants as kind
-use Rattle.operand_grammar.specs.Characters.{kind_of}
-use Rattle.operand_grammar.specs.Spelling.{Placed, codes, quoted, quoted_one}
-use Rattle.operand_grammar.specs.Trees.{Items, NoTrees, More, NoItems, Plain, Inserted}
+use Rattle.expression_grammar.specs.declared.character.Kind.{Kind}
+use Rattle.expression_grammar.specs.declared.character.Kind.TheVariants as kind
+use Rattle.expression_grammar.specs.Characters.{kind_of}
+use Rattle.expression_grammar.specs.Spelling.{Placed, codes, quoted, quoted_one}
+use Rattle.expression_grammar.specs.Trees.{Items, NoTrees, More, NoItems, Plain, Inserted}
 use Rattle.operand_grammar.specs.Texts.{is_lone, has_symbol, belongs, needs_period, ends_plain, ends_lone, AreItems}
 use Rattle.operand_grammar.specs.TextReading.{with_plain}
 use Rattle.operand_grammar.specs.TextStanding.{parted}
-use Rattle.operand_grammar.proofs.CharacterLaws.{letter-kind, kind-letter_symbol, kind-digit_symbol, kind-open, IsNaming, by_letter, by_digit, symbol-kind}
-use Rattle.operand_grammar.proofs.Pieces.{codes-append}
+use Rattle.expression_grammar.proofs.CharacterLaws.{letter-kind, kind-letter_symbol, kind-digit_symbol, kind-open, IsNaming, by_letter, by_digit, symbol-kind}
+use Rattle.expression_grammar.proofs.Pieces.{codes-append}
 
 pub test : (u v : ℕ) → (u == v) ≡ true → u ≡ v
 test u v e = grind (arith, nat_tests)

@@ -4,29 +4,29 @@ use Rattle.std.specs.Prelude.{◌==◌, nat_lt, Option, Some, None, option_and_t
 use Rattle.std.specs.Char.{to_ascii_uppercase}
 use Rattle.std.proofs.lemmas.Bool.Decides.{nat_tests}
 use Rattle.hl_base.specs.Symbols.{is_letter, is_symbol_character}
-use Rattle.operand_grammar.specs.declared.character.Grammar.TheVariants.{Arithmetic}
-use Rattle.operand_grammar.specs.declared.character.Kind.{Kind}
-use Rattle.operand_grammar.specs.declared.character.Kind.TheVariants as kind
-use Rattle.operand_grammar.specs.declared.tree.Operator.TheVariants as operator
-use Rattle.operand_grammar.specs.declared.tree.Symbol.{Symbol}
-use Rattle.operand_grammar.specs.Characters.{kind_of}
-use Rattle.operand_grammar.specs.Spelling as spelling
-use Rattle.operand_grammar.specs.Spelling.{Placed, Piece, Gap, One, Capital, Letters, Plainly, Join, Period, Reads, IsPiece, IsOf, AreOf, codes, quoted, quoted_one, spell, spell_subscripts}
-use Rattle.operand_grammar.specs.Trees.{Tree, Trees, Items, Quoted, Substring, SubstringToEnd, NoTrees, More, NoItems, Plain, Inserted}
-use Rattle.operand_grammar.specs.Parts.{symbol_at}
-use Rattle.operand_grammar.specs.Reading as reading
-use Rattle.operand_grammar.specs.Reading.{State, Want, Holds}
+use Rattle.expression_grammar.specs.declared.character.Grammar.TheVariants.{Arithmetic}
+use Rattle.expression_grammar.specs.declared.character.Kind.{Kind}
+use Rattle.expression_grammar.specs.declared.character.Kind.TheVariants as kind
+use Rattle.expression_grammar.specs.declared.tree.Operator.TheVariants as operator
+use Rattle.expression_grammar.specs.declared.tree.Symbol.{Symbol}
+use Rattle.expression_grammar.specs.Characters.{kind_of}
+use Rattle.expression_grammar.specs.Spelling as spelling
+use Rattle.expression_grammar.specs.Spelling.{Placed, Piece, Gap, One, Capital, Letters, Plainly, Join, Period, Reads, IsPiece, IsOf, AreOf, codes, quoted, quoted_one, spell, spell_subscripts}
+use Rattle.expression_grammar.specs.Trees.{Tree, Trees, Items, Quoted, Substring, SubstringToEnd, NoTrees, More, NoItems, Plain, Inserted}
+use Rattle.expression_grammar.specs.Parts.{symbol_at}
+use Rattle.expression_grammar.specs.Reading as reading
+use Rattle.expression_grammar.specs.Reading.{State, Want, Holds}
 use Rattle.operand_grammar.specs.Texts.{spell_text, needs_period, is_lone, belongs, AreItems, IsCut, IsText}
 use Rattle.operand_grammar.specs.TextReading.{Opened, Holder, InText, AsType, Frame, Factor, Subscripts, Start, Count, TextState, WantPart, WantQuote, Inside, Lone, Naming, Behind, Closed, Within, WantCount, Star, Letter, Asked, Sigil, Word, Done, joined, duplicated, built, with_plain, typed, typed_name, after_part, begin_part, begin_quoted, go_inside, after_lone, after_symbol, after_name, lengthen, go_naming, after_closed, subscripted, leave, left_by, go_within, is_star, after_star, after_letter, after_asked, after_sigil, lengthen_word, go_word, text_step, text_run}
 use Rattle.operand_grammar.specs.TextStanding.{ahead, times, open_text, inside, asked_type, held, unjoined, framed, parted, text_pieces, IsLeft, IsFactor, IsOpened, IsHolder, IsFrame, IsSubscripted, IsInside, TextStands, Rests, TextHolds}
-use Rattle.operand_grammar.proofs.CharacterLaws.{kind-letter, kind-quote, kind-ampersand, kind-letter_symbol, kind-digit_symbol}
-use Rattle.operand_grammar.proofs.Names.{letter-name}
-use Rattle.operand_grammar.proofs.Pieces.{append-nil, reads-join, reads-cut, reads-one, piece_of-one, last-turned, one_of}
-use Rattle.operand_grammar.proofs.Appends.{spell-over}
-use Rattle.operand_grammar.proofs.Terms.{name-grows, word-one, word-longer}
-use Rattle.operand_grammar.proofs.Steps.{AllHold, runs, starts}
-use Rattle.operand_grammar.proofs.Finds.{run-append, accept-spells}
-use Rattle.operand_grammar.proofs.Completions.{run-step}
+use Rattle.expression_grammar.proofs.CharacterLaws.{kind-letter, kind-quote, kind-ampersand, kind-letter_symbol, kind-digit_symbol}
+use Rattle.expression_grammar.proofs.Names.{letter-name}
+use Rattle.expression_grammar.proofs.Pieces.{append-nil, reads-join, reads-cut, reads-one, piece_of-one, last-turned, one_of}
+use Rattle.expression_grammar.proofs.Appends.{spell-over}
+use Rattle.expression_grammar.proofs.Terms.{name-grows, word-one, word-longer}
+use Rattle.expression_grammar.proofs.Steps.{AllHold, runs, starts}
+use Rattle.expression_grammar.proofs.Finds.{run-append, accept-spells}
+use Rattle.expression_grammar.proofs.Completions.{run-step}
 use Rattle.operand_grammar.proofs.TextAppends.{spell_text-over, ahead-over, times-over, open_text-over, inside-over, asked_type-over, held-over, unjoined-over, framed-over}
 use Rattle.operand_grammar.proofs.TextPlain.{test, is_plain, is_letter_kind, is_name, plain-code, quoted-plain, no-letter, belongs-none, plain-longer, no-symbol, and-none, and-last, lone-false, lone-true, lone-past, period-none, period-first, parted-ampersand, parted-quote, with_plain-are, with_plain-lone, ampersand-once, no-codes}
 

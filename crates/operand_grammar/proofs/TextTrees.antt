@@ -3,23 +3,23 @@ use Rattle.std.proofs.Common.{◌≡◌, ℕ, false, List, [], ◌∷◌, ◌++�
 use Rattle.std.specs.Prelude.{◌==◌, Option, Some, None, if◌then◌else◌}
 use Rattle.std.specs.Char.{to_ascii_uppercase}
 use Rattle.hl_base.specs.Symbols.{symbol_of}
-use Rattle.operand_grammar.specs.declared.character.Grammar.TheVariants.{Arithmetic}
-use Rattle.operand_grammar.specs.declared.character.Kind.TheVariants as kind
-use Rattle.operand_grammar.specs.declared.tree.Attribute.TheVariants as attribute
-use Rattle.operand_grammar.specs.declared.tree.Operator.TheVariants as operator
-use Rattle.operand_grammar.specs.declared.tree.Reference.TheVariants.{Of}
-use Rattle.operand_grammar.specs.declared.tree.Symbol.{Symbol}
-use Rattle.operand_grammar.specs.Characters.{kind_of}
-use Rattle.operand_grammar.specs.Spelling as spelling
-use Rattle.operand_grammar.specs.Spelling.{Placed, Piece, Gap, One, Capital, Letters, Period, Reads, IsOf, AreOf, codes, spell, spell_subscripts}
-use Rattle.operand_grammar.specs.Trees.{Tree, Items, Ordinary, Variable, Quoted, Duplicated, Substring, SubstringToEnd, Joined, NoTrees, More, NoItems}
-use Rattle.operand_grammar.specs.Parts.{symbol_at}
-use Rattle.operand_grammar.specs.Reading.{Want}
+use Rattle.expression_grammar.specs.declared.character.Grammar.TheVariants.{Arithmetic}
+use Rattle.expression_grammar.specs.declared.character.Kind.TheVariants as kind
+use Rattle.expression_grammar.specs.declared.tree.Attribute.TheVariants as attribute
+use Rattle.expression_grammar.specs.declared.tree.Operator.TheVariants as operator
+use Rattle.expression_grammar.specs.declared.tree.Reference.TheVariants.{Of}
+use Rattle.expression_grammar.specs.declared.tree.Symbol.{Symbol}
+use Rattle.expression_grammar.specs.Characters.{kind_of}
+use Rattle.expression_grammar.specs.Spelling as spelling
+use Rattle.expression_grammar.specs.Spelling.{Placed, Piece, Gap, One, Capital, Letters, Period, Reads, IsOf, AreOf, codes, spell, spell_subscripts}
+use Rattle.expression_grammar.specs.Trees.{Tree, Items, Ordinary, Variable, Quoted, Duplicated, Substring, SubstringToEnd, Joined, NoTrees, More, NoItems}
+use Rattle.expression_grammar.specs.Parts.{symbol_at}
+use Rattle.expression_grammar.specs.Reading.{Want}
 use Rattle.operand_grammar.specs.Texts.{spell_text, spell_items, AreItems, IsCut, IsUnit, IsText}
 use Rattle.operand_grammar.specs.TextReading.{Opened, AsType, Factor, Start, TextState, WantPart, WantQuote, Inside, Naming, Closed, Within, WantCount, Star, Letter, Asked, Sigil, Word, Done, joined, built, with_plain, typed, typed_name, after_part, begin_part, begin_quoted, go_naming, after_closed, after_star, after_letter, after_asked, after_sigil, go_word, is_star, text_step, text_run, text_accept}
-use Rattle.operand_grammar.proofs.CharacterLaws.{letter-kind, upper-letter}
-use Rattle.operand_grammar.proofs.Completions.{if-true}
-use Rattle.operand_grammar.proofs.Leads.{first-capital}
+use Rattle.expression_grammar.proofs.CharacterLaws.{letter-kind, upper-letter}
+use Rattle.expression_grammar.proofs.Completions.{if-true}
+use Rattle.expression_grammar.proofs.Leads.{first-capital}
 use Rattle.operand_grammar.proofs.TextPlain.{no-codes}
 use Rattle.operand_grammar.proofs.TextLeads.{text_run-step, Reached, reached-one, reached-then, Whole, reached-arithmetic, reached-count, whole-name, reached-letters, naming-grows, word-grows, reached-subscripts}
 use Rattle.operand_grammar.proofs.TextItems.{lead-closed}

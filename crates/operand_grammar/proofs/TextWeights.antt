@@ -2,21 +2,21 @@
 use Rattle.std.proofs.Common.{◌≡◌, ℕ, ◌+◌, ◌≤◌, Bool, true, false, List, [], ◌∷◌, ◌++◌, refl, subst, arith}
 use Rattle.std.specs.Prelude.{◌==◌, length, nat_lt, Option, Some, None, option_and_then, if◌then◌else◌}
 use Rattle.std.specs.Char.{to_ascii_uppercase}
-use Rattle.operand_grammar.specs.declared.character.Grammar.TheVariants.{Arithmetic}
-use Rattle.operand_grammar.specs.declared.character.Kind.{Kind}
-use Rattle.operand_grammar.specs.declared.character.Kind.TheVariants as kind
-use Rattle.operand_grammar.specs.declared.tree.Operator.TheVariants as operator
-use Rattle.operand_grammar.specs.declared.tree.Attribute.TheVariants as attribute
-use Rattle.operand_grammar.specs.declared.tree.Reference.TheVariants.{Of}
-use Rattle.operand_grammar.specs.declared.tree.Symbol.{Symbol}
-use Rattle.operand_grammar.specs.Characters.{kind_of}
-use Rattle.operand_grammar.specs.Trees.{Tree, Trees, Items, Ordinary, Variable, Quoted, Substring, SubstringToEnd, NoTrees, More, Inserted, size, size_items}
-use Rattle.operand_grammar.specs.Spelling.{Placed}
-use Rattle.operand_grammar.specs.Reading as reading
-use Rattle.operand_grammar.specs.Reading.{State, Want}
+use Rattle.expression_grammar.specs.declared.character.Grammar.TheVariants.{Arithmetic}
+use Rattle.expression_grammar.specs.declared.character.Kind.{Kind}
+use Rattle.expression_grammar.specs.declared.character.Kind.TheVariants as kind
+use Rattle.expression_grammar.specs.declared.tree.Operator.TheVariants as operator
+use Rattle.expression_grammar.specs.declared.tree.Attribute.TheVariants as attribute
+use Rattle.expression_grammar.specs.declared.tree.Reference.TheVariants.{Of}
+use Rattle.expression_grammar.specs.declared.tree.Symbol.{Symbol}
+use Rattle.expression_grammar.specs.Characters.{kind_of}
+use Rattle.expression_grammar.specs.Trees.{Tree, Trees, Items, Ordinary, Variable, Quoted, Substring, SubstringToEnd, NoTrees, More, Inserted, size, size_items}
+use Rattle.expression_grammar.specs.Spelling.{Placed}
+use Rattle.expression_grammar.specs.Reading as reading
+use Rattle.expression_grammar.specs.Reading.{State, Want}
 use Rattle.operand_grammar.specs.TextReading.{Opened, Holder, InText, AsType, Frame, Factor, Subscripts, Start, Count, TextState, WantPart, WantQuote, Inside, Lone, Naming, Behind, Closed, Within, WantCount, Star, Letter, Asked, Sigil, Word, Done, joined, duplicated, built, with_plain, typed, typed_name, after_part, begin_part, begin_quoted, go_inside, after_lone, after_symbol, after_name, lengthen, go_naming, after_closed, subscripted, leave, left_by, go_within, begin_count, after_star, after_letter, after_asked, after_sigil, lengthen_word, go_word, text_step, text_accept, text_run, left_size, factor_size, opened_size, holder_size, frame_size, text_weight}
-use Rattle.operand_grammar.specs.Parts.{symbol_at}
-use Rattle.operand_grammar.proofs.Weights.{step-weight, accept-size}
+use Rattle.expression_grammar.specs.Parts.{symbol_at}
+use Rattle.expression_grammar.proofs.Weights.{step-weight, accept-size}
 
 pub joined-size : (left : Option Tree) (tree : Tree) → size (joined left tree) ≡ left_size left + size tree
 joined-size None tree = omega arith

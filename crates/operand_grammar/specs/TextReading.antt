@@ -2,19 +2,19 @@
 -- expression within it read by the automaton of arithmetic. No public contract speaks of it.
 use Rattle.std.specs.Prelude.{◌≡◌, ℕ, ◌+◌, ◌≤◌, ◌==◌, Bool, true, false, List, [], ◌∷◌, ◌++◌, length, Option, Some, None, nat_le, nat_lt, option_map, option_and_then, if◌then◌else◌}
 use Rattle.std.specs.Char.{to_ascii_uppercase}
-use Rattle.operand_grammar.specs.declared.character.Grammar.TheVariants.{Arithmetic}
-use Rattle.operand_grammar.specs.declared.character.Kind.{Kind}
-use Rattle.operand_grammar.specs.declared.character.Kind.TheVariants as kind
-use Rattle.operand_grammar.specs.declared.tree.Operator.TheVariants.{Multiply}
-use Rattle.operand_grammar.specs.declared.tree.Attribute.TheVariants as attribute
-use Rattle.operand_grammar.specs.declared.tree.Reference.TheVariants.{Of}
-use Rattle.operand_grammar.specs.declared.tree.Symbol.{Symbol}
-use Rattle.operand_grammar.specs.Characters.{kind_of}
-use Rattle.operand_grammar.specs.Spelling.{Placed, placed}
-use Rattle.operand_grammar.specs.Trees.{Tree, Trees, Items, Ordinary, Variable, Quoted, Duplicated, Substring, SubstringToEnd, Joined, NoTrees, More, NoItems, Plain, Inserted, size, size_trees, size_items}
-use Rattle.operand_grammar.specs.Parts.{symbol_at}
-use Rattle.operand_grammar.specs.Reading as reading
-use Rattle.operand_grammar.specs.Reading.{State, Want}
+use Rattle.expression_grammar.specs.declared.character.Grammar.TheVariants.{Arithmetic}
+use Rattle.expression_grammar.specs.declared.character.Kind.{Kind}
+use Rattle.expression_grammar.specs.declared.character.Kind.TheVariants as kind
+use Rattle.expression_grammar.specs.declared.tree.Operator.TheVariants.{Multiply}
+use Rattle.expression_grammar.specs.declared.tree.Attribute.TheVariants as attribute
+use Rattle.expression_grammar.specs.declared.tree.Reference.TheVariants.{Of}
+use Rattle.expression_grammar.specs.declared.tree.Symbol.{Symbol}
+use Rattle.expression_grammar.specs.Characters.{kind_of}
+use Rattle.expression_grammar.specs.Spelling.{Placed, placed}
+use Rattle.expression_grammar.specs.Trees.{Tree, Trees, Items, Ordinary, Variable, Quoted, Duplicated, Substring, SubstringToEnd, Joined, NoTrees, More, NoItems, Plain, Inserted, size, size_trees, size_items}
+use Rattle.expression_grammar.specs.Parts.{symbol_at}
+use Rattle.expression_grammar.specs.Reading as reading
+use Rattle.expression_grammar.specs.Reading.{State, Want}
 
 -- what stands before a quoted text: what it is joined to, and its duplication factor
 pub record Opened : Type 0 where

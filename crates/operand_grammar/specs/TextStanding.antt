@@ -1,13 +1,13 @@
 -- What a reader of character expressions knows of the text so far (this project). No public contract speaks of it.
 use Rattle.std.specs.Prelude.{◌≡◌, ℕ, Bool, true, false, List, [], ◌∷◌, ◌++◌, Option, Some, None}
-use Rattle.operand_grammar.specs.declared.character.Grammar.TheVariants.{Arithmetic}
-use Rattle.operand_grammar.specs.declared.character.Kind.TheVariants as kind
-use Rattle.operand_grammar.specs.declared.tree.Operator.TheVariants.{Multiply}
-use Rattle.operand_grammar.specs.Spelling as spelling
-use Rattle.operand_grammar.specs.Spelling.{Placed, Piece, Gap, One, Capital, Letters, Plainly, Join, Period, Reads, IsOf, AreOf, spell, spell_subscripts, begin_subscripts}
-use Rattle.operand_grammar.specs.Trees.{Tree, Items, More, NoItems, Plain, Inserted}
-use Rattle.operand_grammar.specs.Reading as reading
-use Rattle.operand_grammar.specs.Reading.{State, Want}
+use Rattle.expression_grammar.specs.declared.character.Grammar.TheVariants.{Arithmetic}
+use Rattle.expression_grammar.specs.declared.character.Kind.TheVariants as kind
+use Rattle.expression_grammar.specs.declared.tree.Operator.TheVariants.{Multiply}
+use Rattle.expression_grammar.specs.Spelling as spelling
+use Rattle.expression_grammar.specs.Spelling.{Placed, Piece, Gap, One, Capital, Letters, Plainly, Join, Period, Reads, IsOf, AreOf, spell, spell_subscripts, begin_subscripts}
+use Rattle.expression_grammar.specs.Trees.{Tree, Items, More, NoItems, Plain, Inserted}
+use Rattle.expression_grammar.specs.Reading as reading
+use Rattle.expression_grammar.specs.Reading.{State, Want}
 use Rattle.operand_grammar.specs.Texts.{spell_text, spell_items, needs_period, is_lone, has_symbol, ends_plain, ends_lone, AreItems, IsText}
 use Rattle.operand_grammar.specs.TextReading.{Opened, Holder, InText, AsType, Frame, Factor, Subscripts, Start, Count, TextState, WantPart, WantQuote, Inside, Lone, Naming, Behind, Closed, Within, WantCount, Star, Letter, Asked, Sigil, Word, Done}
 

@@ -1,6 +1,6 @@
 -- What the reader of character expressions holds, as a state (this project). No public contract speaks of it.
 use Rattle.std.specs.Prelude.{◌≡◌, ℕ, ◌+◌, List, [], Option, Some, None, option_map}
-use Rattle.operand_grammar.specs.declared.tree.Expr.{Expr}
+use Rattle.expression_grammar.specs.declared.tree.Expr.{Expr}
 use Rattle.operand_grammar.specs.declared.text_point.Opened.{Opened}
 use Rattle.operand_grammar.specs.declared.text_point.Holder.{Holder}
 use Rattle.operand_grammar.specs.declared.text_point.Holder.TheVariants as holder
@@ -11,14 +11,14 @@ use Rattle.operand_grammar.specs.declared.text_point.TextPoint.TheVariants as po
 use Rattle.operand_grammar.specs.declared.text_reader.TextMoved.{TextMoved}
 use Rattle.operand_grammar.specs.declared.text_reader.Settled.{Settled}
 use Rattle.operand_grammar.specs.declared.text_reader.Settled.TheVariants as settled
-use Rattle.operand_grammar.specs.declared.pending.Point.{Point}
-use Rattle.operand_grammar.specs.declared.character.Grammar.TheVariants.{Arithmetic}
-use Rattle.operand_grammar.specs.Reading as reading
-use Rattle.operand_grammar.specs.Stacks.{stack_of, stand}
+use Rattle.expression_grammar.specs.declared.pending.Point.{Point}
+use Rattle.expression_grammar.specs.declared.character.Grammar.TheVariants.{Arithmetic}
+use Rattle.expression_grammar.specs.Reading as reading
+use Rattle.expression_grammar.specs.Stacks.{stack_of, stand}
 use Rattle.operand_grammar.specs.TextReading as texts
 use Rattle.operand_grammar.specs.TextReading.{TextState, text_weight}
-use Rattle.operand_grammar.specs.Trees.{Tree, NoTrees, NoItems}
-use Rattle.operand_grammar.specs.Views.{tree_of, trees_in, items_in}
+use Rattle.expression_grammar.specs.Trees.{Tree, NoTrees, NoItems}
+use Rattle.expression_grammar.specs.Views.{tree_of, trees_in, items_in}
 
 abbrev pub left_of : Option Expr → Option Tree
 left_of left = option_map tree_of left

@@ -3,13 +3,13 @@
 -- expressions.
 use Rattle.std.specs.Prelude.{◌≡◌, ℕ, ◌==◌, ◌||◌, ◌&&◌, Bool, true, false, List, [], ◌∷◌, if◌then◌else◌}
 use Rattle.hl_base.specs.Symbols.{is_letter, is_symbol_character}
-use Rattle.operand_grammar.specs.declared.character.Grammar.TheVariants.{Arithmetic}
-use Rattle.operand_grammar.specs.declared.character.Kind.TheVariants.{Mark, Open, Close, Comma, Quote}
-use Rattle.operand_grammar.specs.declared.tree.Operator.TheVariants.{Multiply}
-use Rattle.operand_grammar.specs.declared.tree.Attribute.TheVariants as attribute
-use Rattle.operand_grammar.specs.declared.tree.Reference.TheVariants.{Value, Of}
-use Rattle.operand_grammar.specs.Trees.{Tree, Trees, Items, Ordinary, Variable, Quoted, Duplicated, Substring, SubstringToEnd, Joined, NoTrees, More, NoItems, Plain, Inserted}
-use Rattle.operand_grammar.specs.Spelling.{Piece, Gap, One, Word, Plainly, Join, Period, IsOf, AreOf, Reads, placed, spell, spell_subscripts, variable_spelled, asked_spelled}
+use Rattle.expression_grammar.specs.declared.character.Grammar.TheVariants.{Arithmetic}
+use Rattle.expression_grammar.specs.declared.character.Kind.TheVariants.{Mark, Open, Close, Comma, Quote}
+use Rattle.expression_grammar.specs.declared.tree.Operator.TheVariants.{Multiply}
+use Rattle.expression_grammar.specs.declared.tree.Attribute.TheVariants as attribute
+use Rattle.expression_grammar.specs.declared.tree.Reference.TheVariants.{Value, Of}
+use Rattle.expression_grammar.specs.Trees.{Tree, Trees, Items, Ordinary, Variable, Quoted, Duplicated, Substring, SubstringToEnd, Joined, NoTrees, More, NoItems, Plain, Inserted}
+use Rattle.expression_grammar.specs.Spelling.{Piece, Gap, One, Word, Plainly, Join, Period, IsOf, AreOf, Reads, placed, spell, spell_subscripts, variable_spelled, asked_spelled}
 
 -- Quoted texts.
 

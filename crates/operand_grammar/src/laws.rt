@@ -1,14 +1,7 @@
-//! What holds of every expression. The functions do nothing: their contracts are laws.
+//! What holds of every character expression. The function does nothing: its contract is a law.
 ghost use Rattle.std.specs.Prelude.{◌≡◌, ℕ, List};
-ghost use Rattle.operand_grammar.specs.declared.character.Grammar.{Grammar};
-ghost use Rattle.operand_grammar.specs.Spelling.{Spells};
+ghost use Rattle.expression_grammar.specs.Trees.{Tree};
 ghost use Rattle.operand_grammar.specs.Texts.{SpellsText};
-ghost use Rattle.operand_grammar.specs.Trees.{Tree};
-
-/// A text has one tree in a grammar.
-pub fn one_tree()
-    ensures { (grammar : Grammar) (text : List ℕ) (tree other : Tree) → Spells grammar text tree → Spells grammar text other → tree ≡ other }
-{}
 
 /// A text has one tree as a character expression.
 pub fn one_text_tree()

@@ -9,29 +9,21 @@
 //! "Expressions"; the grammar of expressions stands in docs/EXPRESSIONS.md.
 #![tactic(auto)]
 
-mod character;
-mod fault;
 pub mod laws;
-mod parse;
 mod parse_text;
-mod part;
-mod pending;
 mod quoted;
-mod reader;
-mod spelled;
 mod split;
 mod split_elements;
 mod text_point;
 mod text_reader;
-mod tree;
 
-pub use character::Grammar;
-pub use fault::SyntaxFault;
-pub use parse::{MOST_PARTS, parse_arith, parse_ordinary};
+pub use expression_grammar::{
+    Attribute, Comparison, Expr, Form, Grammar, Item, MOST_PARTS, Operator, Reference, Sign,
+    Symbol, SyntaxFault, parse_arith, parse_ordinary,
+};
 pub use parse_text::parse_char;
 pub use split::{Operands, split_operands};
 pub use split_elements::split_sublist;
-pub use tree::{Attribute, Comparison, Expr, Form, Item, Operator, Reference, Sign, Symbol};
 
 #[cfg(test)]
 mod split_tests;

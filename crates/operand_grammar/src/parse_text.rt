@@ -1,18 +1,18 @@
 //! Texts read as character expressions.
 ghost use Rattle.std.specs.Prelude.{◌≡◌, ◌≤◌, MatchResult, Some};
 ghost use Rattle.std.specs.Str.{chars};
-ghost use Rattle.operand_grammar.specs.Answers.{IsFault, TextStops};
-ghost use Rattle.operand_grammar.specs.Spelling.{IsExpression, most_parts};
+ghost use Rattle.expression_grammar.specs.Answers.{IsFault};
+ghost use Rattle.operand_grammar.specs.TextAnswers.{TextStops};
+ghost use Rattle.expression_grammar.specs.Spelling.{IsExpression, most_parts};
 ghost use Rattle.operand_grammar.specs.TextReading as texts;
 ghost use Rattle.operand_grammar.specs.TextViews.{text_state};
 ghost use Rattle.operand_grammar.specs.Texts.{SpellsText};
-ghost use Rattle.operand_grammar.specs.Views.{tree_of};
+ghost use Rattle.expression_grammar.specs.Views.{tree_of};
 
-use crate::fault::SyntaxFault;
-use crate::parse::MOST_PARTS;
 use crate::text_point::TextPoint;
 use crate::text_reader::{text_finish, text_step};
-use crate::tree::Expr;
+use expression_grammar::tree::Expr;
+use expression_grammar::{MOST_PARTS, SyntaxFault};
 use std::alloc::Global;
 
 /// What is read of a character expression.

@@ -1,10 +1,10 @@
 //! The plain characters of a quoted text that is being read, and its items.
 ghost use Rattle.std.specs.Prelude.{◌≡◌, [], ◌∷◌, ◌++◌, IfOk};
 ghost use Rattle.operand_grammar.specs.TextReading.{with_plain};
-ghost use Rattle.operand_grammar.specs.Trees.{NoItems, NoTrees, Inserted};
-ghost use Rattle.operand_grammar.specs.Views.{items_in, trees_in, with_item};
+ghost use Rattle.expression_grammar.specs.Trees.{NoItems, NoTrees, Inserted};
+ghost use Rattle.expression_grammar.specs.Views.{items_in, trees_in, with_item};
 
-use crate::tree::{Expr, Item, Symbol};
+use expression_grammar::tree::{Expr, Item, Symbol};
 use hl_base::{OutOfMemory, Text};
 use std::alloc::Global;
 use std::marker::Model;

@@ -2,13 +2,13 @@
 ghost use Rattle.std.specs.Prelude.{◌≡◌, IfOk};
 ghost use Rattle.operand_grammar.specs.TextReading as texts;
 ghost use Rattle.operand_grammar.specs.TextViews.{opened_of, left_of};
-ghost use Rattle.operand_grammar.specs.Views.{tree_of, trees_in};
-ghost use Rattle.operand_grammar.specs.Trees.{NoTrees};
+ghost use Rattle.expression_grammar.specs.Views.{tree_of, trees_in};
+ghost use Rattle.expression_grammar.specs.Trees.{NoTrees};
 
-use crate::pending::{Pending, Point};
 use crate::quoted::Characters;
-use crate::spelled::Spelled;
-use crate::tree::{
+use expression_grammar::pending::{Pending, Point};
+use expression_grammar::spelled::Spelled;
+use expression_grammar::tree::{
     Attribute, Expr, Item, Reference, Symbol, duplicated, joined as joined_to, variable,
 };
 use hl_base::OutOfMemory;

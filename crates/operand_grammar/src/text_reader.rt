@@ -3,23 +3,23 @@
 //! A character expression nests only through the arithmetic expressions in it, so it is where it stands, and within
 //! one of these the automaton of arithmetic. No call recurses on the text.
 ghost use Rattle.std.specs.Prelude.{◌≡◌, ◌+◌, ◌<◌, ◌^◌, [], ◌∷◌, IfOk, IfSome, IsTrue, is_some, option_map, Some, true};
-ghost use Rattle.operand_grammar.specs.Characters as characters;
-ghost use Rattle.operand_grammar.specs.Parts as parts;
-ghost use Rattle.operand_grammar.specs.Reading as reading;
-ghost use Rattle.operand_grammar.specs.Stacks.{stack_of, stand};
+ghost use Rattle.expression_grammar.specs.Characters as characters;
+ghost use Rattle.expression_grammar.specs.Parts as parts;
+ghost use Rattle.expression_grammar.specs.Reading as reading;
+ghost use Rattle.expression_grammar.specs.Stacks.{stack_of, stand};
 ghost use Rattle.operand_grammar.specs.TextReading as texts;
 ghost use Rattle.operand_grammar.specs.TextViews.{TextMoves, Settles, left_of, opened_of, holder_of, frame_of, text_state};
-ghost use Rattle.operand_grammar.specs.Trees.{NoItems, NoTrees, Quoted, size, size_items};
-ghost use Rattle.operand_grammar.specs.Views.{tree_of, trees_in, items_in};
+ghost use Rattle.expression_grammar.specs.Trees.{NoItems, NoTrees, Quoted, size, size_items};
+ghost use Rattle.expression_grammar.specs.Views.{tree_of, trees_in, items_in};
 
-use crate::character::{Grammar, Kind, kind_of};
-use crate::part::Part;
-use crate::pending::{Pending, Point, fold};
 use crate::quoted::{Characters, with_characters, with_symbol};
-use crate::reader::step;
-use crate::spelled::{LONGEST, Spelled};
 use crate::text_point::{Frame, Holder, Opened, TextPoint, built, typed, typed_name};
-use crate::tree::{Expr, Item, Operator, Symbol, quoted, substring, substring_to_end};
+use expression_grammar::character::{Grammar, Kind, kind_of};
+use expression_grammar::part::Part;
+use expression_grammar::pending::{Pending, Point, fold};
+use expression_grammar::reader::step;
+use expression_grammar::spelled::{LONGEST, Spelled};
+use expression_grammar::tree::{Expr, Item, Operator, Symbol, quoted, substring, substring_to_end};
 use hl_base::OutOfMemory;
 use std::alloc::Global;
 
@@ -295,7 +295,7 @@ fn subscripted(
 }
 
 /// A parenthesis or a comma behind subscripts.
-#[tactic(auto, using(crate::proofs::StackLaws::trees_in_push))]
+#[tactic(auto, using(expression_grammar::proofs::StackLaws::trees_in_push))]
 fn leave_subscripts(
     alloc: Global,
     holder: Holder,
@@ -403,7 +403,7 @@ pub(crate) enum Settled {
 }
 
 /// Whether an arithmetic expression may end here.
-#[tactic(auto, unfolding(crate::specs::Parts::finish))]
+#[tactic(auto, unfolding(expression_grammar::specs::Parts::finish))]
 fn settle(alloc: Global, inner: Point) -> Settled
     ensures { Settles inner result }
 {

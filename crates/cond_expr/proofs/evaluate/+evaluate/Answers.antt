@@ -1,8 +1,8 @@
 use Rattle.std.proofs.Common.{◌≡◌, ◌∙◌, ◌++◌, ◌∷◌, [], List, ℕ, ℤ, rules, sym, ap, true, false, subst}
-use Rattle.operand_grammar.specs.Views.{tree_of, trees_in, items_in}
-use Rattle.operand_grammar.specs.Trees.{Tree, NoTrees, NoItems, Ordinary, Variable, Pair, Compared, Quoted, Duplicated, Substring, SubstringToEnd, Joined}
-use Rattle.operand_grammar.specs.declared.tree.Expr.TheViews.{the_lemmas}
-use Rattle.operand_grammar.proofs.Rows.{trees_of-row, items_of-row}
+use Rattle.expression_grammar.specs.Views.{tree_of, trees_in, items_in}
+use Rattle.expression_grammar.specs.Trees.{Tree, NoTrees, NoItems, Ordinary, Variable, Pair, Compared, Quoted, Duplicated, Substring, SubstringToEnd, Joined}
+use Rattle.expression_grammar.specs.declared.tree.Expr.TheViews.{the_lemmas}
+use Rattle.expression_grammar.proofs.Rows.{trees_of-row, items_of-row}
 use Rattle.cond_expr.specs.Outcome.{Outcome, Tells, and_then}
 use Rattle.cond_expr.specs.Told.{Told}
 use Rattle.cond_expr.specs.Characters.{limited}

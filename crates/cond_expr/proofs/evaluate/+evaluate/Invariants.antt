@@ -1,6 +1,6 @@
 use Rattle.std.proofs.Common.{◌≡◌, take, Ok}
-use Rattle.operand_grammar.specs.Trees.{NoTrees, NoItems}
-use Rattle.operand_grammar.specs.Views.{trees_in, items_in}
+use Rattle.expression_grammar.specs.Trees.{NoTrees, NoItems}
+use Rattle.expression_grammar.specs.Views.{trees_in, items_in}
 use Rattle.cond_expr.specs.Outcome.{Tells}
 use Rattle.cond_expr.specs.Values.{numbers, pieces}
 use Rattle.cond_expr.proofs.evaluate.+evaluate.Given as goal

@@ -1,9 +1,9 @@
 use Rattle.std.proofs.Common.{◌∙◌, sym, ap, subst, arith}
 use Rattle.std.specs.Str.{chars}
-use Rattle.operand_grammar.specs.declared.character.Grammar.TheVariants.{Ordinary as OrdinaryOne}
-use Rattle.operand_grammar.specs.Answers.{IsFault}
-use Rattle.operand_grammar.specs.Trees.{Number}
-use Rattle.operand_grammar.specs.Views.{tree_of}
+use Rattle.expression_grammar.specs.declared.character.Grammar.TheVariants.{Ordinary as OrdinaryOne}
+use Rattle.expression_grammar.specs.Answers.{IsFault}
+use Rattle.expression_grammar.specs.Trees.{Number}
+use Rattle.expression_grammar.specs.Views.{tree_of}
 use Rattle.cond_expr.specs.Terms.{term}
 use Rattle.cond_expr.proofs.TermLemmas.{term-tree, term-none}
 use Rattle.cond_expr.proofs.term.term.Goals as goal

@@ -1,7 +1,7 @@
 use Rattle.std.proofs.Common.{◌≡◌, ℕ, ◌-◌, ◌<◌, ◌≤◌, refl, subst, rules}
 use Rattle.std.specs.Prelude.{Option}
 use Rattle.operand_grammar.specs.declared.text_reader.TextMoved.{TextMoved}
-use Rattle.operand_grammar.specs.Spelling.{Placed, most_parts}
+use Rattle.expression_grammar.specs.Spelling.{Placed, most_parts}
 use Rattle.operand_grammar.specs.TextReading.{TextState, text_step, text_weight}
 use Rattle.operand_grammar.specs.TextViews.{TextMoves, text_state}
 use Rattle.operand_grammar.proofs.TextMoveLaws.{text_advance_none, text_advance_some, text_advance_over}

@@ -3,10 +3,10 @@ use Rattle.std.specs.Prelude.{Option, option_map}
 use Rattle.std.proofs.lemmas.Iterator.{YieldsList-from_chars}
 use Rattle.std.proofs.lemmas.Iterator.Consumers.{YieldsList-turn, YieldsList-end}
 use Rattle.std.specs.Str.{chars}
-use Rattle.operand_grammar.specs.declared.tree.Expr.{Expr}
+use Rattle.expression_grammar.specs.declared.tree.Expr.{Expr}
 use Rattle.operand_grammar.specs.TextReading.{TextState, text_accept}
 use Rattle.operand_grammar.specs.TextViews.{text_state}
-use Rattle.operand_grammar.specs.Views.{tree_of}
+use Rattle.expression_grammar.specs.Views.{tree_of}
 use Rattle.operand_grammar.proofs.TextFinds.{text_stop_here, text_go_on_here, text_end_some, text_end_none}
 use Rattle.operand_grammar.proofs.parse_text.parse_char.Goals as goal
 

@@ -1,6 +1,6 @@
 use Rattle.std.proofs.Common.{◌≡◌, length, take}
 use Rattle.std.specs.Str.{chars}
-use Rattle.operand_grammar.specs.Spelling.{most_parts}
+use Rattle.expression_grammar.specs.Spelling.{most_parts}
 use Rattle.operand_grammar.specs.TextReading.{TextReaches, text_weight}
 use Rattle.operand_grammar.specs.TextViews.{text_state}
 use Rattle.operand_grammar.proofs.parse_text.parse_char.Given as goal

@@ -1,6 +1,6 @@
 use Rattle.std.proofs.Common.{rules}
-use Rattle.operand_grammar.specs.declared.tree.Expr.TheViews.{the_lemmas}
-use Rattle.operand_grammar.proofs.Rows.{trees_of-row}
+use Rattle.expression_grammar.specs.declared.tree.Expr.TheViews.{the_lemmas}
+use Rattle.expression_grammar.proofs.Rows.{trees_of-row}
 use Rattle.operand_grammar.proofs.quoted.inserted.Goals as goal
 
 pub returns : goal.returns

@@ -1,5 +1,5 @@
 use Rattle.std.proofs.Common.{sym, ◌∙◌}
-use Rattle.operand_grammar.proofs.CharacterLaws.{kind-letter}
+use Rattle.expression_grammar.proofs.CharacterLaws.{kind-letter}
 use Rattle.operand_grammar.proofs.text_reader.after_asked.Goals as goal
 
 pub new-requires : goal.new-requires

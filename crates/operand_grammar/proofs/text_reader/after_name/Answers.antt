@@ -1,9 +1,9 @@
 use Rattle.std.proofs.Common.{◌≡◌, ◌∙◌, ◌+◌, ap, refl, arith}
-use Rattle.operand_grammar.specs.Spelling.{Placed}
-use Rattle.operand_grammar.specs.Trees.{Items, Inserted, NoTrees, NoItems, size_items}
+use Rattle.expression_grammar.specs.Spelling.{Placed}
+use Rattle.expression_grammar.specs.Trees.{Items, Inserted, NoTrees, NoItems, size_items}
 use Rattle.operand_grammar.specs.TextReading.{after_symbol, opened_size, Opened}
 use Rattle.operand_grammar.specs.TextViews.{opened_of}
-use Rattle.operand_grammar.specs.Views.{items_in, trees_in}
+use Rattle.expression_grammar.specs.Views.{items_in, trees_in}
 use Rattle.operand_grammar.proofs.TextMoveLaws.{stays}
 use Rattle.operand_grammar.proofs.TextWeights.{symbol-weight}
 use Rattle.operand_grammar.proofs.text_reader.after_name.Goals as goal

@@ -1,4 +1,4 @@
-use Rattle.operand_grammar.proofs.CharacterLaws.{kind-letter}
+use Rattle.expression_grammar.proofs.CharacterLaws.{kind-letter}
 use Rattle.operand_grammar.proofs.text_reader.begin_symbol.Goals as goal
 
 pub new-requires : goal.new-requires

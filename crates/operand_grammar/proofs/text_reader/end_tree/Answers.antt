@@ -1,14 +1,14 @@
 use Rattle.std.proofs.Common.{◌≡◌, ◌∙◌, ◌+◌, ◌<◌, List, [], length, ap, arith}
 use Rattle.std.specs.Prelude.{option_map}
 use Rattle.std.proofs.lemmas.Bool.Decides.{nat_tests}
-use Rattle.operand_grammar.specs.declared.character.Grammar.TheVariants.{Arithmetic}
-use Rattle.operand_grammar.specs.Reading.{Layer, Have, fold, step, accept, layers_size}
-use Rattle.operand_grammar.specs.Spelling.{Placed}
-use Rattle.operand_grammar.specs.Stacks.{stack_of}
+use Rattle.expression_grammar.specs.declared.character.Grammar.TheVariants.{Arithmetic}
+use Rattle.expression_grammar.specs.Reading.{Layer, Have, fold, step, accept, layers_size}
+use Rattle.expression_grammar.specs.Spelling.{Placed}
+use Rattle.expression_grammar.specs.Stacks.{stack_of}
 use Rattle.operand_grammar.specs.TextReading.{Frame, Within, leave, go_within, frame_size}
 use Rattle.operand_grammar.specs.TextViews.{frame_of}
-use Rattle.operand_grammar.specs.Trees.{Tree, size}
-use Rattle.operand_grammar.specs.Views.{tree_of}
+use Rattle.expression_grammar.specs.Trees.{Tree, size}
+use Rattle.expression_grammar.specs.Views.{tree_of}
 use Rattle.operand_grammar.proofs.TextMoveLaws.{TextMoves-same, leaves, goes_on, folded-size, none-left}
 use Rattle.operand_grammar.proofs.text_reader.end_tree.Goals as goal
 

@@ -1,13 +1,13 @@
 use Rattle.std.proofs.Common.{◌≡◌, ◌∙◌, ◌+◌, List, [], true, false, ap, sym, refl, rules}
 use Rattle.std.specs.Prelude.{option_map}
-use Rattle.operand_grammar.specs.declared.character.Grammar.TheVariants.{Arithmetic}
-use Rattle.operand_grammar.specs.Reading.{Layer, State, Have, step, accept, weight, layers_size}
-use Rattle.operand_grammar.specs.Spelling.{Placed}
-use Rattle.operand_grammar.specs.Stacks.{stack_of, stand}
+use Rattle.expression_grammar.specs.declared.character.Grammar.TheVariants.{Arithmetic}
+use Rattle.expression_grammar.specs.Reading.{Layer, State, Have, step, accept, weight, layers_size}
+use Rattle.expression_grammar.specs.Spelling.{Placed}
+use Rattle.expression_grammar.specs.Stacks.{stack_of, stand}
 use Rattle.operand_grammar.specs.TextReading.{Frame, Within, go_within, frame_size, is_end}
 use Rattle.operand_grammar.specs.TextViews.{frame_of}
-use Rattle.operand_grammar.specs.Trees.{Tree, size}
-use Rattle.operand_grammar.specs.Views.{tree_of}
+use Rattle.expression_grammar.specs.Trees.{Tree, size}
+use Rattle.expression_grammar.specs.Views.{tree_of}
 use Rattle.operand_grammar.proofs.TextMoveLaws.{TextMoves-same, not_end, open_end, accept-none, settled-at, at-weight, at_within}
 use Rattle.operand_grammar.proofs.text_reader.go_within.Goals as goal
 

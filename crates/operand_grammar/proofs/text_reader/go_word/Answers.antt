@@ -1,5 +1,5 @@
 use Rattle.std.proofs.Common.{sym, ◌∙◌, inl, inr}
-use Rattle.operand_grammar.proofs.CharacterLaws.{kind-letter_symbol, kind-digit_symbol}
+use Rattle.expression_grammar.proofs.CharacterLaws.{kind-letter_symbol, kind-digit_symbol}
 use Rattle.operand_grammar.proofs.text_reader.go_word.Goals as goal
 
 pub with-requires-clause-character : goal.with-requires-clause-character

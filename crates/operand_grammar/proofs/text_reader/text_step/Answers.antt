@@ -1,10 +1,10 @@
 use Rattle.std.proofs.Common.{◌∙◌, ◌+◌, ap, refl}
-use Rattle.operand_grammar.specs.Characters.{kind_of}
-use Rattle.operand_grammar.specs.Spelling.{Placed}
-use Rattle.operand_grammar.specs.Trees.{Items, NoItems, size_items}
+use Rattle.expression_grammar.specs.Characters.{kind_of}
+use Rattle.expression_grammar.specs.Spelling.{Placed}
+use Rattle.expression_grammar.specs.Trees.{Items, NoItems, size_items}
 use Rattle.operand_grammar.specs.TextReading.{go_inside, after_symbol, opened_size, Opened, text_step}
 use Rattle.operand_grammar.specs.TextViews.{opened_of}
-use Rattle.operand_grammar.specs.Views.{items_in}
+use Rattle.expression_grammar.specs.Views.{items_in}
 use Rattle.operand_grammar.proofs.TextMoveLaws.{stays}
 use Rattle.operand_grammar.proofs.TextWeights.{inside-least, symbol-weight}
 use Rattle.operand_grammar.proofs.text_reader.text_step.Goals as goal

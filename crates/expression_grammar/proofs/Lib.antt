@@ -1,0 +1,16 @@
+pub mod Pieces
+pub mod Appends
+pub mod Folds
+pub mod CharacterLaws
+pub mod Names
+pub mod Terms
+pub mod Steps
+pub mod Completions
+pub mod Leads
+pub mod LeadsOf
+pub mod Weights
+pub mod Finds
+pub mod Rows
+pub mod StackLaws
+pub mod MoveLaws
+pub mod ReadingLaws

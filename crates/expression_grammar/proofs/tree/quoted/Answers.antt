@@ -1,0 +1,7 @@
+use Rattle.std.proofs.Common.{rules}
+use Rattle.expression_grammar.specs.declared.tree.Expr.TheViews.{the_lemmas}
+use Rattle.expression_grammar.proofs.Rows.{items_of-row}
+use Rattle.expression_grammar.proofs.tree.quoted.Goals as goal
+
+pub returns : goal.returns
+returns c = search (rules, the_lemmas, items_of-row)

@@ -1,0 +1,9 @@
+pub mod Answers
+pub mod Characters
+pub mod Moves
+pub mod Parts
+pub mod Reading
+pub mod Spelling
+pub mod Stacks
+pub mod Trees
+pub mod Views

@@ -1,7 +1,0 @@
-use Rattle.std.proofs.Common.{rules}
-use Rattle.operand_grammar.specs.declared.tree.Expr.TheViews.{the_lemmas}
-use Rattle.operand_grammar.proofs.Rows.{items_of-row}
-use Rattle.operand_grammar.proofs.tree.quoted.Goals as goal
-
-pub returns : goal.returns
-returns c = search (rules, the_lemmas, items_of-row)
