@@ -1,9 +1,9 @@
 -- A name entry that goes on behind its variable symbol.
 use Rattle.std.proofs.Common.{◌≡◌, ◌∙◌, ◌+◌, ℕ, Bool, true, List, length, inr, sym, subst, add-zero}
 use Rattle.std.specs.Prelude.{◌==◌, slice_index, Err}
-use Rattle.operand_grammar.specs.declared.fault.SyntaxFault.{SyntaxFault}
-use Rattle.operand_grammar.specs.declared.fault.SyntaxFault.TheVariants.{At, OutOfMemory}
-use Rattle.operand_grammar.specs.Trees.{Tree}
+use Rattle.expression_grammar.specs.declared.fault.SyntaxFault.{SyntaxFault}
+use Rattle.expression_grammar.specs.declared.fault.SyntaxFault.TheVariants.{At, OutOfMemory}
+use Rattle.expression_grammar.specs.Trees.{Tree}
 use Rattle.conditional_asm.specs.Answers.{IsPlaced}
 use Rattle.conditional_asm.specs.Templates.{IsSymbol}
 use Rattle.conditional_asm.specs.Setting.{IsTarget, IsTargetWith}

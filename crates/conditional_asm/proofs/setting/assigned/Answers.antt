@@ -1,6 +1,6 @@
 use Rattle.std.proofs.Common.{◌≡◌, List, ℤ, Ok, rules}
 use Rattle.hl_base.specs.declared.set.SetValue.{SetValue}
-use Rattle.operand_grammar.specs.Views.{tree_of}
+use Rattle.expression_grammar.specs.Views.{tree_of}
 use Rattle.cond_expr.specs.Told.{Told}
 use Rattle.cond_expr.specs.Outcome.{gives, and_then}
 use Rattle.cond_expr.proofs.OutcomeLemmas.{Tells-and_then, Tells-gives, Tells-next}

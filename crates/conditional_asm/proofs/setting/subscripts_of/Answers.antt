@@ -1,8 +1,8 @@
 use Rattle.std.proofs.Common.{◌≡◌, ◌∙◌, rules, sym, ap, subst, Ok, Err}
-use Rattle.operand_grammar.specs.Views.{tree_of, trees_in}
-use Rattle.operand_grammar.specs.Trees.{Tree, NoTrees, Variable}
-use Rattle.operand_grammar.specs.declared.tree.Expr.TheViews.{the_lemmas}
-use Rattle.operand_grammar.proofs.Rows.{trees_of-row}
+use Rattle.expression_grammar.specs.Views.{tree_of, trees_in}
+use Rattle.expression_grammar.specs.Trees.{Tree, NoTrees, Variable}
+use Rattle.expression_grammar.specs.declared.tree.Expr.TheViews.{the_lemmas}
+use Rattle.expression_grammar.proofs.Rows.{trees_of-row}
 use Rattle.cond_expr.specs.Outcome.{Tells}
 use Rattle.conditional_asm.specs.Setting.{subscripts_of}
 use Rattle.conditional_asm.proofs.setting.subscripts_of.Goals as goal

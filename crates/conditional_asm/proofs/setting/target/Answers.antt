@@ -1,7 +1,7 @@
 use Rattle.std.proofs.Common.{◌≡◌, ◌∙◌, true, sym, subst, rules}
 use Rattle.std.specs.Prelude.{Option}
 use Rattle.std.specs.Str.{chars}
-use Rattle.operand_grammar.specs.Views.{tree_of}
+use Rattle.expression_grammar.specs.Views.{tree_of}
 use Rattle.conditional_asm.specs.declared.template.Found.{Found}
 use Rattle.conditional_asm.specs.Readings.{IsSymbolFound}
 use Rattle.conditional_asm.specs.Templates.{has_subscripts}
