@@ -1,4 +1,4 @@
-//! What SETA and SETC do.
+//! What SETA, SETB and SETC do.
 //!
 //! Each call tells an outcome, as those of `cond_expr::evaluate`.
 ghost use Rattle.std.specs.Prelude.{◌≡◌};
@@ -12,20 +12,14 @@ use crate::act::Act;
 use crate::character::{begins_with, character_count};
 use crate::declaring::refused;
 use crate::front::reach;
+use crate::logic_stand_in::parse_logic;
 use crate::place::fault_at;
 use crate::template::symbol;
 use cond_expr::evaluate::{number, numbers, text};
 use cond_expr::{Lookups, Numbers, Stop};
-use hl_base::{Notes, SetValue};
+use hl_base::{Notes, SetKind, SetValue};
 use operand_grammar::{Expr, SyntaxFault, parse_arith, parse_char};
 use std::alloc::Global;
-
-/// How a value is written.
-#[derive(Clone, Copy, Debug, PartialEq, Eq)]
-pub enum Written {
-    Number,
-    Text,
-}
 
 /// The SET symbol that gets a value, and the value, as they are written.
 #[derive(Drop)]
@@ -56,19 +50,20 @@ fn target(alloc: Global, label: &str) -> Result<Expr, SyntaxFault>
 }
 
 /// An operand as a value.
-fn operand(alloc: Global, kind: Written, field: &str) -> Result<Expr, SyntaxFault>
+fn operand(alloc: Global, kind: SetKind, field: &str) -> Result<Expr, SyntaxFault>
     ensures { settings.IsOperand kind (chars field.now) result }
 {
     match kind {
-        Written::Number => parse_arith(alloc, field),
-        Written::Text => parse_char(alloc, field),
+        SetKind::A => parse_arith(alloc, field),
+        SetKind::B => parse_logic(alloc, field),
+        SetKind::C => parse_char(alloc, field),
     }
 }
 
 /// Reads name entry and operand.
 fn read_setting(
     alloc: Global,
-    kind: Written,
+    kind: SetKind,
     label: &str,
     field: &str,
 ) -> Result<Setting, SyntaxFault>
@@ -117,7 +112,7 @@ fn subscripts_of<Q: Lookups>(
 /// The value of an operand.
 fn value_of<Q: Lookups>(
     alloc: Global,
-    kind: Written,
+    kind: SetKind,
     tree: &Expr,
     q: &mut Q,
     notes: &mut Notes,
@@ -126,11 +121,15 @@ fn value_of<Q: Lookups>(
     ensures tells { Tells (settings.value kind (tree_of tree.now) (Q.told q.old)) notes.old notes.new result }
 {
     match kind {
-        Written::Number => match number(alloc, tree, q, notes) {
+        SetKind::A => match number(alloc, tree, q, notes) {
             Ok(n) => Ok(SetValue::A(n)),
             Err(stop) => Err(stop),
         },
-        Written::Text => match text(alloc, tree, q, notes) {
+        SetKind::B => match number(alloc, tree, q, notes) {
+            Ok(n) => Ok(SetValue::B(n != 0)),
+            Err(stop) => Err(stop),
+        },
+        SetKind::C => match text(alloc, tree, q, notes) {
             Ok(characters) => Ok(SetValue::C(characters)),
             Err(stop) => Err(stop),
         },
@@ -182,7 +181,7 @@ fn set_to(tree: &Expr, at: &Numbers, value: SetValue) -> Act
 /// The subscripts first, and then the value.
 fn assigned<Q: Lookups>(
     alloc: Global,
-    kind: Written,
+    kind: SetKind,
     target: &Expr,
     value: &Expr,
     q: &mut Q,
@@ -196,10 +195,11 @@ fn assigned<Q: Lookups>(
     Ok(set_to(target, &at, value))
 }
 
-/// What SETA or SETC does, by how its value is written.
+/// What SETA, SETB or SETC does, by the type of its SET symbol. The operand of SETB is a logical expression, whose
+/// parentheses are its own: it may stand without.
 pub fn assign<Q: Lookups>(
     alloc: Global,
-    kind: Written,
+    kind: SetKind,
     label: &str,
     field: &str,
     q: &mut Q,

@@ -1,8 +1,8 @@
 ghost use Rattle.std.specs.Prelude.{◌≡◌, IfOk};
 
-use crate::{Act, Written, assign};
+use crate::{Act, assign};
 use cond_expr::{Found, Lookups, Stop};
-use hl_base::{Answer, Attr, Key, Name, Note, Notes, OutOfMemory, SetValue, Text};
+use hl_base::{Answer, Attr, Key, Name, Note, Notes, OutOfMemory, SetKind, SetValue, Text};
 use std::alloc::Global;
 use std::test::Fail;
 
@@ -127,7 +127,7 @@ fn key_shown(alloc: Global, key: &Key) -> Result<String, Fail> {
 /// What a statement does, and its notes; or what it asks.
 fn done(
     alloc: Global,
-    kind: Written,
+    kind: SetKind,
     label: &str,
     field: &str,
     fake: &mut Fake,
@@ -167,7 +167,7 @@ fn seta_sets_a_number(rt: HostRuntime) -> Result<(), Fail> {
         ("&A(2147483647+1)", "7/0", "A(0) = 0 23"),
         ("&A(&B(1))", "2147483647+1", "A(0) = 0 22 23"),
     ] {
-        let got = done(alloc, Written::Number, label, field, &mut Fake::three())?;
+        let got = done(alloc, SetKind::A, label, field, &mut Fake::three())?;
         assert_eq!(rt; got.as_str(), want, "{label} SETA {field}");
     }
     Ok(())
@@ -199,7 +199,7 @@ fn seta_refuses_what_cannot_be_read(rt: HostRuntime) -> Result<(), Fail> {
         ("&A(", "", "next at 3"),
         ("&A.", "1+", "next at 2"),
     ] {
-        let got = done(alloc, Written::Number, label, field, &mut Fake::three())?;
+        let got = done(alloc, SetKind::A, label, field, &mut Fake::three())?;
         assert_eq!(rt; got.as_str(), want, "{label} SETA {field}");
     }
     Ok(())
@@ -228,7 +228,7 @@ fn setc_sets_a_text(rt: HostRuntime) -> Result<(), Fail> {
         ("&A(1,1)", "'X'", "A(0) = 'X'"),
         ("&A(2147483647+1)", "'ABCD'(9,1)", "A(0) = '' 23 27"),
     ] {
-        let got = done(alloc, Written::Text, label, field, &mut Fake::three())?;
+        let got = done(alloc, SetKind::C, label, field, &mut Fake::three())?;
         assert_eq!(rt; got.as_str(), want, "{label} SETC {field}");
     }
     Ok(())
@@ -251,8 +251,60 @@ fn setc_refuses_what_cannot_be_read(rt: HostRuntime) -> Result<(), Fail> {
         ("&A", "'A'(1)", "next at 5"),
         ("&A(", "1", "next at 3"),
     ] {
-        let got = done(alloc, Written::Text, label, field, &mut Fake::three())?;
+        let got = done(alloc, SetKind::C, label, field, &mut Fake::three())?;
         assert_eq!(rt; got.as_str(), want, "{label} SETC {field}");
+    }
+    Ok(())
+}
+
+#[test]
+fn setb_sets_a_bit(rt: HostRuntime) -> Result<(), Fail> {
+    let alloc = rt.alloc();
+    for (label, field, want) in [
+        ("&B", "1", "B = true"),
+        ("&b", "0", "B = false"),
+        ("&B", "(1)", "B = true"),
+        ("&B", "2", "B = true"),
+        ("&B", "&N-3", "B = false"),
+        ("&B", "(&N EQ 3)", "B = true"),
+        ("&B", "(&N LT 3)", "B = false"),
+        ("&B", "(&N EQ 3 AND NOT &N GT 5)", "B = true"),
+        ("&B", "('AB' LT 'C')", "B = false"),
+        ("&B", "('&N' EQ '3')", "B = true"),
+        ("&B", "NOT(1)", "B = false"),
+        ("&B(&N)", "(0 OR 1)", "B(3) = true"),
+        ("&B(-1)", "1", "B(0) = true"),
+        ("&B(1,2)", "0", "B(0) = false"),
+        ("&B", "(2147483647+1)", "B = false 23"),
+        (
+            "&B(2147483647+1)",
+            "('ABCD'(9,1) EQ '')",
+            "B(0) = true 23 27",
+        ),
+    ] {
+        let got = done(alloc, SetKind::B, label, field, &mut Fake::three())?;
+        assert_eq!(rt; got.as_str(), want, "{label} SETB {field}");
+    }
+    Ok(())
+}
+
+#[test]
+fn setb_refuses_what_cannot_be_read(rt: HostRuntime) -> Result<(), Fail> {
+    let alloc = rt.alloc();
+    for (label, field, want) in [
+        ("B", "1", "next at 0"),
+        ("&B.", "1", "next at 2"),
+        ("&B(1", "1", "next at 4"),
+        ("&B", "", "next at 0"),
+        ("&B", "(1", "next at 2"),
+        ("&B", "(1 EQ 'x')", "next at 6"),
+        ("&B", "'A'", "next at 3"),
+        ("&B", "(1 EQ 1)+2", "next at 8"),
+        ("&B", "1 AND", "next at 5"),
+        ("&B(", "(", "next at 3"),
+    ] {
+        let got = done(alloc, SetKind::B, label, field, &mut Fake::three())?;
+        assert_eq!(rt; got.as_str(), want, "{label} SETB {field}");
     }
     Ok(())
 }
@@ -261,16 +313,19 @@ fn setc_refuses_what_cannot_be_read(rt: HostRuntime) -> Result<(), Fail> {
 fn the_first_missing_answer_is_asked(rt: HostRuntime) -> Result<(), Fail> {
     let alloc = rt.alloc();
     for (kind, label, field, want) in [
-        (Written::Number, "&A", "1", "A = 1"),
-        (Written::Number, "&A", "&N", "asks counter"),
-        (Written::Number, "&A(&N)", "L'X", "asks counter"),
-        (Written::Number, "&A(L'X)", "&N", "asks X"),
-        (Written::Number, "&A(1)", "L'X+&N", "asks X"),
-        (Written::Number, "&A(&N", "L'X", "next at 5"),
-        (Written::Number, "&A", "&N+", "next at 3"),
-        (Written::Text, "&A(2147483647+1)", "'&N'", "asks counter"),
-        (Written::Text, "&A(L'X)", "'&N'", "asks X"),
-        (Written::Text, "&A", "T'X.'&N'", "asks X"),
+        (SetKind::A, "&A", "1", "A = 1"),
+        (SetKind::A, "&A", "&N", "asks counter"),
+        (SetKind::A, "&A(&N)", "L'X", "asks counter"),
+        (SetKind::A, "&A(L'X)", "&N", "asks X"),
+        (SetKind::A, "&A(1)", "L'X+&N", "asks X"),
+        (SetKind::A, "&A(&N", "L'X", "next at 5"),
+        (SetKind::A, "&A", "&N+", "next at 3"),
+        (SetKind::B, "&B", "(&N EQ L'X)", "asks counter"),
+        (SetKind::B, "&B(L'X)", "&N", "asks X"),
+        (SetKind::B, "&B", "(0 AND L'X EQ 1)", "asks X"),
+        (SetKind::C, "&A(2147483647+1)", "'&N'", "asks counter"),
+        (SetKind::C, "&A(L'X)", "'&N'", "asks X"),
+        (SetKind::C, "&A", "T'X.'&N'", "asks X"),
     ] {
         let mut fake = Fake {
             plain: Found::Ask(Key::Counter),
@@ -286,10 +341,10 @@ fn the_first_missing_answer_is_asked(rt: HostRuntime) -> Result<(), Fail> {
 fn answers_are_taken(rt: HostRuntime) -> Result<(), Fail> {
     let alloc = rt.alloc();
     for (kind, label, field, want) in [
-        (Written::Number, "&A(L'X)", "L'X*2", "A(4) = 8"),
-        (Written::Number, "&A", "&N", "A = 0 26"),
-        (Written::Text, "&A", "T'X.'&N'", "A = 'Fen'"),
-        (Written::Text, "&A(&N)", "'&N'(1,L'X)", "A(0) = 'en' 26"),
+        (SetKind::A, "&A(L'X)", "L'X*2", "A(4) = 8"),
+        (SetKind::A, "&A", "&N", "A = 0 26"),
+        (SetKind::C, "&A", "T'X.'&N'", "A = 'Fen'"),
+        (SetKind::C, "&A(&N)", "'&N'(1,L'X)", "A(0) = 'en' 26"),
     ] {
         let mut fake = Fake {
             plain: Found::Parameter(Text::of(alloc, "en")?),
