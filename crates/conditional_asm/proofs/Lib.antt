@@ -8,3 +8,6 @@ pub mod SubstitutionLaws
 pub mod EndingLaws
 pub mod DeclaringLaws
 pub mod BranchingLaws
+pub mod ConditionLaws
+pub mod EffectLaws
+pub mod MessageLaws

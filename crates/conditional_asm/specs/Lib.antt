@@ -12,3 +12,9 @@ pub mod Troubles
 pub mod Acts
 pub mod Branching
 pub mod Generating
+pub mod Messages
+pub mod Tasks
+pub mod LogicStandIn
+pub mod Conditions
+pub mod Setting
+pub mod Effects

@@ -1,0 +1,17 @@
+//! Stand-in.
+ghost use Rattle.std.specs.Prelude.{MatchResult};
+ghost use Rattle.std.specs.Str.{chars};
+ghost use Rattle.operand_grammar.specs.Answers.{IsFault};
+ghost use Rattle.operand_grammar.specs.Spelling.{IsExpression, most_parts};
+ghost use Rattle.operand_grammar.specs.Views.{tree_of};
+ghost use Rattle.conditional_asm.specs.LogicStandIn.{SpellsLogic};
+
+use operand_grammar::{Expr, SyntaxFault, parse_arith};
+use std::alloc::Global;
+
+/// Stand-in.
+pub fn parse_logic(alloc: Global, text: &str) -> Result<Expr, SyntaxFault>
+    ensures { MatchResult result (λ e. IsExpression SpellsLogic most_parts (chars text.now) (tree_of e)) (IsFault SpellsLogic (chars text.now)) }
+{
+    parse_arith(alloc, text)
+}
