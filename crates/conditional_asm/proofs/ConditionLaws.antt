@@ -1,6 +1,7 @@
 -- The pairs of an AIF, as they are read and as they are tried.
-use Rattle.std.proofs.Common.{◌≡◌, ◌∙◌, ◌+◌, ◌<◌, ◌≤◌, ℕ, suc, Bool, true, false, List, [], ◌∷◌, ◌++◌, length, get_or, take, drop, drop-cons, add-one, refl, sym, ap, subst, arith, if◌then◌else◌}
-use Rattle.std.specs.Prelude.{Result, Ok, Err}
+use Rattle.std.proofs.Common.{◌≡◌, ◌∙◌, ◌+◌, ◌<◌, ◌≤◌, ℕ, suc, Bool, true, false, List, [], ◌∷◌, ◌++◌, length, get_or, take, drop, drop-cons, add-one, sym, ap, subst, append-nil, if◌then◌else◌}
+use Rattle.std.specs.Prelude.{◌==◌, Result, Ok, Err}
+use Rattle.std.proofs.lemmas.Bool.{true≢false}
 use Rattle.std.specs.List.{AllZip}
 use Rattle.std.proofs.Math.ListN.{drop_of_length-le}
 use Rattle.std.proofs.lemmas.List.{take-append-drop, take_more}
@@ -13,6 +14,7 @@ use Rattle.cond_expr.specs.Told.{Told}
 use Rattle.conditional_asm.specs.declared.act.Act.{Act}
 use Rattle.conditional_asm.specs.declared.act.Act.TheVariants.{Next, Branch}
 use Rattle.conditional_asm.specs.declared.branch.Selector.{Selector}
+use Rattle.conditional_asm.specs.declared.condition.Choices.{Choices}
 use Rattle.conditional_asm.specs.Conditions.{IsPair, ArePairs, IsPairFault, AreChoices, holding, choosing}
 
 -- ---- as they are read
@@ -35,8 +37,12 @@ splits operands i operand h is =
     sym (take-append-drop i operands) ∙ ap (λ rest. take i operands ++ rest)
     (drop-cons operands i operand h ∙ ap (λ o. o ∷ drop (suc i) operands) (sym is) ∙ ap (λ k. operand ∷ drop k operands) (sym (add-one i)))
 
+no_split : (right : List (List ℕ)) (wrong : List ℕ) (rest : List (List ℕ)) → [] ≡ right ++ wrong ∷ rest → ⊥
+no_split [] wrong rest e = cc
+no_split (r ∷ right) wrong rest e = cc
+
 faulty : (operands : List (List ℕ)) (at : ℕ) → IsPairFault operands at → AreChoices operands (Err (At at))
-faulty [] at wrong = cc
+faulty [] at wrong = absurd (no_split wrong.right wrong.wrong wrong.rest wrong.splits)
 faulty (o ∷ os) at wrong = wrong
 
 wanting : (operands : List (List ℕ)) → AreChoices operands (Err OutOfMemory)
@@ -57,6 +63,16 @@ pairs-stop operands pairs i operand (At at) h is so_far wrong =
       fault = wrong;
     })
 pairs-stop operands pairs i operand OutOfMemory h is so_far wrong = wanting operands
+
+all_taken : (operands : List (List ℕ)) (i : ℕ) → length operands ≤ i → take i operands ≡ operands
+all_taken operands i past =
+    sym (append-nil (take i operands)) ∙ ap (λ rest. take i operands ++ rest) (sym (drop_of_length-le operands past)) ∙ take-append-drop i operands
+
+-- and none is left
+pub pairs-end : (operands : List (List ℕ)) (choices : Choices) (i : ℕ) → (length operands == 0) ≡ false → length operands ≤ i → ArePairs (take i operands) choices.pairs.items →
+    AreChoices operands (Ok choices)
+pairs-end [] choices i some past are = absurd (true≢false some)
+pairs-end (o ∷ os) choices i some past are = subst (λ (all : List (List ℕ)). ArePairs all choices.pairs.items) (all_taken (o ∷ os) i past) are
 
 -- ---- as they are tried
 

@@ -1,18 +1,29 @@
 -- What some texts cannot begin with.
 use Rattle.std.proofs.Common.{◌≡◌, ℕ, ◌+◌, ◌<◌, ◌≤◌, true, false, List, [], ◌∷◌, ◌++◌, length, take, drop, refl, sym, ap, ◌∙◌, subst, append_assoc, append-nil, take-append-drop, inl, inr, zero, suc, get_or, arith}
-use Rattle.std.specs.Prelude.{nat_lt}
+use Rattle.std.specs.Prelude.{nat_lt, MatchResult, Result}
 use Rattle.std.proofs.Math.Nat.{eq-or-lt_of_le}
 use Rattle.std.proofs.Math.Seq.{take-length}
 use Rattle.std.proofs.lemmas.List.{take-take, get_or_past}
 use Rattle.std.proofs.lemmas.Grind.{get_or_default_zero}
 use Rattle.operand_grammar.specs.declared.character.Grammar.TheVariants.{Arithmetic}
+use Rattle.operand_grammar.specs.declared.fault.SyntaxFault.{SyntaxFault}
+use Rattle.operand_grammar.specs.declared.tree.Expr.{Expr}
+use Rattle.operand_grammar.specs.Answers.{IsFault}
 use Rattle.operand_grammar.specs.Trees.{Tree}
+use Rattle.operand_grammar.specs.Views.{tree_of}
 use Rattle.operand_grammar.specs.Spelling.{IsExpression, IsAt, IsViable, Spells, most_parts}
 use Rattle.operand_grammar.specs.declared.character.Grammar.{Grammar}
 use Rattle.std.proofs.lemmas.Bool.{true≢false, cases_Bool, ltb-true, ltb-false}
 use Rattle.conditional_asm.specs.declared.front.Sought.{Sought}
 use Rattle.conditional_asm.specs.declared.front.Sought.TheVariants.{Number, Condition, Variable}
 use Rattle.conditional_asm.specs.Fronts.{IsSought, IsClosed, Written, accepts, extent, IsReach}
+
+-- how a text is read that is sought, whatever it is
+pub read_as : (sought known : Sought) (text : List ℕ) (r : Result Expr SyntaxFault) → sought ≡ known →
+    MatchResult r (λ e. IsExpression (Written known) most_parts text (tree_of e)) (IsFault (Written known) text) →
+    MatchResult r (λ e. IsExpression (Written sought) most_parts text (tree_of e)) (IsFault (Written sought) text)
+read_as sought known text r is read =
+    subst (λ (s : Sought). MatchResult r (λ e. IsExpression (Written s) most_parts text (tree_of e)) (IsFault (Written s) text)) (sym is) read
 
 -- where an expression goes no further than a place within a text, no longer text that begins with it is one
 pub never_longer : (sought : Sought) (text : List ℕ) (count : ℕ) → IsAt (Written sought) most_parts text count → count < length text → (rest : List ℕ) (tree : Tree) → IsSought sought (text ++ rest) tree → ⊥

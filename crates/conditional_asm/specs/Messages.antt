@@ -89,9 +89,13 @@ weighing (Some tree) told = and_then (number (tree_of tree) told) (λ n. gives (
 abbrev pub noted : Severity → List ℕ → Outcome Act
 noted severity words = Gives Next (note 0 severity words ∷ [])
 
+-- the message, whose severity is known
+abbrev pub worded : Severity → Tree → Told → Outcome Act
+worded severity tree told = and_then (text tree told) (λ words. noted severity words)
+
 -- the severity first, and then the message, which stands behind the notes of both
 abbrev pub saying : Option Expr → Tree → Told → Outcome Act
-saying severity tree told = and_then (weighing severity told) (λ weight. and_then (text tree told) (λ words. noted weight words))
+saying severity tree told = and_then (weighing severity told) (λ weight. worded weight tree told)
 
 -- MNOTE
 abbrev pub Says : List ℕ → Told → List Note → List Note → Result Act Stop → Type 0

@@ -154,6 +154,23 @@ fn noted(alloc: Global, severity: Severity, words: Text, notes: &mut Notes) -> R
     Ok(Act::Next)
 }
 
+/// The message, whose severity is known.
+fn worded<Q: Lookups>(
+    alloc: Global,
+    severity: Severity,
+    tree: &Expr,
+    q: &mut Q,
+    notes: &mut Notes,
+) -> Result<Act, Stop>
+    ensures told { Q.told q.new ≡ Q.told q.old }
+    ensures tells { Tells (messages.worded severity (tree_of tree.now) (Q.told q.old)) notes.old notes.new result }
+{
+    match text(alloc, tree, q, notes) {
+        Ok(words) => noted(alloc, severity, words, notes),
+        Err(stop) => Err(stop),
+    }
+}
+
 /// The severity first, and then the message.
 fn saying<Q: Lookups>(
     alloc: Global,
@@ -165,10 +182,10 @@ fn saying<Q: Lookups>(
     ensures told { Q.told q.new ≡ Q.told q.old }
     ensures tells { Tells (messages.saying severity.now (tree_of tree.now) (Q.told q.old)) notes.old notes.new result }
 {
-    let weight = weighing(alloc, severity, q, notes)?;
-    let words = text(alloc, tree, q, notes)?;
-    let act = noted(alloc, weight, words, notes)?;
-    Ok(act)
+    match weighing(alloc, severity, q, notes) {
+        Ok(weight) => worded(alloc, weight, tree, q, notes),
+        Err(stop) => Err(stop),
+    }
 }
 
 /// The operand field of an MNOTE.
