@@ -1,9 +1,9 @@
 -- A number, or a condition, in parentheses and a sequence symbol.
 use Rattle.std.proofs.Common.{◌≡◌, ◌+◌, ◌≤◌, ℕ, List, [], ◌∷◌, inl, inr, drop, length, get_or, sym, ap, subst, arith}
 use Rattle.std.specs.Prelude.{Result, Ok, Err}
-use Rattle.operand_grammar.specs.declared.fault.SyntaxFault.{SyntaxFault}
-use Rattle.operand_grammar.specs.declared.fault.SyntaxFault.TheVariants.{At, OutOfMemory}
-use Rattle.operand_grammar.specs.Trees.{Tree}
+use Rattle.expression_grammar.specs.declared.fault.SyntaxFault.{SyntaxFault}
+use Rattle.expression_grammar.specs.declared.fault.SyntaxFault.TheVariants.{At, OutOfMemory}
+use Rattle.expression_grammar.specs.Trees.{Tree}
 use Rattle.conditional_asm.specs.declared.front.Sought.{Sought}
 use Rattle.conditional_asm.specs.declared.front.Sought.TheVariants.{Number}
 use Rattle.conditional_asm.specs.Answers.{Answers, IsPlaced, IsWant, each}

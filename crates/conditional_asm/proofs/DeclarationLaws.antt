@@ -3,7 +3,7 @@ use Rattle.std.proofs.Common.{◌≡◌, ◌+◌, ℕ, Bool, List, Option, Some,
 use Rattle.std.specs.Prelude.{Result, Ok, Err, encode_utf8_all}
 use Rattle.hl_base.specs.Symbols.{symbol_of}
 use Rattle.hl_base.specs.declared.set.SetKind.{SetKind}
-use Rattle.operand_grammar.specs.declared.fault.SyntaxFault.{SyntaxFault}
+use Rattle.expression_grammar.specs.declared.fault.SyntaxFault.{SyntaxFault}
 use Rattle.conditional_asm.specs.Answers.{Answers, IsWant, IsPlaced}
 use Rattle.conditional_asm.specs.Sequences.{letter_count}
 use Rattle.conditional_asm.specs.Declarations.{declared, named, named_behind, dimension}

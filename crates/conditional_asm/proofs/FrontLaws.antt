@@ -5,14 +5,14 @@ use Rattle.std.proofs.Math.Nat.{eq-or-lt_of_le}
 use Rattle.std.proofs.Math.Seq.{take-length}
 use Rattle.std.proofs.lemmas.List.{take-take, get_or_past}
 use Rattle.std.proofs.lemmas.Grind.{get_or_default_zero}
-use Rattle.operand_grammar.specs.declared.character.Grammar.TheVariants.{Arithmetic}
-use Rattle.operand_grammar.specs.declared.fault.SyntaxFault.{SyntaxFault}
-use Rattle.operand_grammar.specs.declared.tree.Expr.{Expr}
-use Rattle.operand_grammar.specs.Answers.{IsFault}
-use Rattle.operand_grammar.specs.Trees.{Tree}
-use Rattle.operand_grammar.specs.Views.{tree_of}
-use Rattle.operand_grammar.specs.Spelling.{IsExpression, IsAt, IsViable, Spells, most_parts}
-use Rattle.operand_grammar.specs.declared.character.Grammar.{Grammar}
+use Rattle.expression_grammar.specs.declared.character.Grammar.TheVariants.{Arithmetic}
+use Rattle.expression_grammar.specs.declared.fault.SyntaxFault.{SyntaxFault}
+use Rattle.expression_grammar.specs.declared.tree.Expr.{Expr}
+use Rattle.expression_grammar.specs.Answers.{IsFault}
+use Rattle.expression_grammar.specs.Trees.{Tree}
+use Rattle.expression_grammar.specs.Views.{tree_of}
+use Rattle.expression_grammar.specs.Spelling.{IsExpression, IsAt, IsViable, Spells, most_parts}
+use Rattle.expression_grammar.specs.declared.character.Grammar.{Grammar}
 use Rattle.std.proofs.lemmas.Bool.{true≢false, cases_Bool, ltb-true, ltb-false}
 use Rattle.conditional_asm.specs.declared.front.Sought.{Sought}
 use Rattle.conditional_asm.specs.declared.front.Sought.TheVariants.{Number, Condition, Variable}

@@ -2,8 +2,8 @@
 use Rattle.std.proofs.Common.{◌≡◌, ℕ, List, [], ◌∷◌, inl, inr, length, refl}
 use Rattle.std.specs.Prelude.{◌==◌, false, Option, Ok, Err}
 use Rattle.std.proofs.lemmas.Bool.{true≢false}
-use Rattle.operand_grammar.specs.declared.fault.SyntaxFault.TheVariants.{At}
-use Rattle.operand_grammar.specs.declared.tree.Expr.{Expr}
+use Rattle.expression_grammar.specs.declared.fault.SyntaxFault.TheVariants.{At}
+use Rattle.expression_grammar.specs.declared.tree.Expr.{Expr}
 use Rattle.conditional_asm.specs.Messages.{IsSeverity, IsCharacter, IsWeighed}
 
 -- there is one operand too many

@@ -1,8 +1,8 @@
 -- How a text is read that is one thing or none: what it is, or the length of its longest front that some text of that kind
 -- begins with (this project).
 use Rattle.std.specs.Prelude.{◌≡◌, ℕ, List, [], ◌∷◌, ◌++◌, Result, Ok, Err}
-use Rattle.operand_grammar.specs.declared.fault.SyntaxFault.{SyntaxFault}
-use Rattle.operand_grammar.specs.declared.fault.SyntaxFault.TheVariants.{At, OutOfMemory}
+use Rattle.expression_grammar.specs.declared.fault.SyntaxFault.{SyntaxFault}
+use Rattle.expression_grammar.specs.declared.fault.SyntaxFault.TheVariants.{At, OutOfMemory}
 
 -- a fault says this place; only want of memory is free
 abbrev pub IsPlaced : ℕ → SyntaxFault → Type 0

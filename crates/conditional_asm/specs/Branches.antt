@@ -1,11 +1,11 @@
 -- Where AGO branches to (HLASM Language Reference SC26-4940, "AGO instruction", "Computed AGO instruction"): one sequence
 -- symbol, or one of several by the number that stands in parentheses before the first.
 use Rattle.std.specs.Prelude.{◌≡◌, ℕ, ◌+◌, ◌⊎◌, ◌==◌, Bool, true, false, List, [], ◌∷◌, drop, slice_index, Result, Ok, Err}
-use Rattle.operand_grammar.specs.declared.fault.SyntaxFault.{SyntaxFault}
-use Rattle.operand_grammar.specs.declared.fault.SyntaxFault.TheVariants.{At, OutOfMemory}
+use Rattle.expression_grammar.specs.declared.fault.SyntaxFault.{SyntaxFault}
+use Rattle.expression_grammar.specs.declared.fault.SyntaxFault.TheVariants.{At, OutOfMemory}
 use Rattle.operand_grammar.specs.Split.{operands_of}
-use Rattle.operand_grammar.specs.Trees.{Tree}
-use Rattle.operand_grammar.specs.Views.{tree_of}
+use Rattle.expression_grammar.specs.Trees.{Tree}
+use Rattle.expression_grammar.specs.Views.{tree_of}
 use Rattle.conditional_asm.specs.declared.front.Sought.{Sought}
 use Rattle.conditional_asm.specs.declared.front.Sought.TheVariants.{Number}
 use Rattle.conditional_asm.specs.declared.branch.Selector.{Selector}

@@ -3,14 +3,14 @@
 use Rattle.std.specs.Prelude.{◌≡◌, ℕ, zero, suc, List, [], ◌∷◌, Option, Some, None, Result, Ok, Err, ℤ, pos, negsuc, slice_get}
 use Rattle.std.specs.Option.{option_map_or}
 use Rattle.hl_base.specs.declared.note.Note.{Note}
-use Rattle.operand_grammar.specs.declared.character.Grammar.TheVariants.{Arithmetic}
-use Rattle.operand_grammar.specs.declared.fault.SyntaxFault.{SyntaxFault}
-use Rattle.operand_grammar.specs.declared.fault.SyntaxFault.TheVariants as fault
-use Rattle.operand_grammar.specs.declared.tree.Expr.{Expr}
-use Rattle.operand_grammar.specs.Answers.{IsFault}
-use Rattle.operand_grammar.specs.Spelling.{IsExpression, Spells, most_parts}
-use Rattle.operand_grammar.specs.Trees.{Tree}
-use Rattle.operand_grammar.specs.Views.{tree_of}
+use Rattle.expression_grammar.specs.declared.character.Grammar.TheVariants.{Arithmetic}
+use Rattle.expression_grammar.specs.declared.fault.SyntaxFault.{SyntaxFault}
+use Rattle.expression_grammar.specs.declared.fault.SyntaxFault.TheVariants as fault
+use Rattle.expression_grammar.specs.declared.tree.Expr.{Expr}
+use Rattle.expression_grammar.specs.Answers.{IsFault}
+use Rattle.expression_grammar.specs.Spelling.{IsExpression, Spells, most_parts}
+use Rattle.expression_grammar.specs.Trees.{Tree}
+use Rattle.expression_grammar.specs.Views.{tree_of}
 use Rattle.cond_expr.specs.declared.stop.Stop.{Stop}
 use Rattle.cond_expr.specs.declared.stop.Stop.TheVariants as stop
 use Rattle.cond_expr.specs.Told.{Told}

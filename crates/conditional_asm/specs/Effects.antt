@@ -9,8 +9,8 @@ use Rattle.hlasm_statements.specs.declared.statement.Shape.TheVariants as shape
 use Rattle.hlasm_statements.specs.declared.statement.Statement.{Statement}
 use Rattle.instruction_table.specs.Operations.{operation_of}
 use Rattle.instruction_table.specs.declared.meaning.Operation.{Operation}
-use Rattle.operand_grammar.specs.declared.fault.SyntaxFault.{SyntaxFault}
-use Rattle.operand_grammar.specs.declared.fault.SyntaxFault.TheVariants as fault
+use Rattle.expression_grammar.specs.declared.fault.SyntaxFault.{SyntaxFault}
+use Rattle.expression_grammar.specs.declared.fault.SyntaxFault.TheVariants as fault
 use Rattle.cond_expr.specs.declared.stop.Stop.{Stop}
 use Rattle.cond_expr.specs.declared.stop.Stop.TheVariants as stop
 use Rattle.cond_expr.specs.Told.{Told}

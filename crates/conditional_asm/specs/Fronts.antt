@@ -2,11 +2,11 @@
 -- (HLASM Language Reference SC26-4940, "Subscripted SET symbols", "AGO instruction", "AIF instruction"). Both end at the
 -- first closing parenthesis at which they are complete.
 use Rattle.std.specs.Prelude.{◌≡◌, ℕ, ◌+◌, ◌<◌, ◌≤◌, Bool, true, false, List, length, take, slice_index}
-use Rattle.operand_grammar.specs.declared.character.Grammar.{Grammar}
-use Rattle.operand_grammar.specs.declared.character.Grammar.TheVariants.{Arithmetic}
-use Rattle.operand_grammar.specs.declared.tree.Reference.TheVariants.{Value}
-use Rattle.operand_grammar.specs.Trees.{Tree, Variable}
-use Rattle.operand_grammar.specs.Spelling.{IsExpression, IsViable, Spells, most_parts}
+use Rattle.expression_grammar.specs.declared.character.Grammar.{Grammar}
+use Rattle.expression_grammar.specs.declared.character.Grammar.TheVariants.{Arithmetic}
+use Rattle.expression_grammar.specs.declared.tree.Reference.TheVariants.{Value}
+use Rattle.expression_grammar.specs.Trees.{Tree, Variable}
+use Rattle.expression_grammar.specs.Spelling.{IsExpression, IsViable, Spells, most_parts}
 use Rattle.conditional_asm.specs.LogicStandIn.{SpellsLogic}
 use Rattle.conditional_asm.specs.declared.front.Sought.{Sought}
 use Rattle.conditional_asm.specs.declared.front.Sought.TheVariants as sought

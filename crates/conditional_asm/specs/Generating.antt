@@ -7,8 +7,8 @@ use Rattle.hl_base.specs.declared.set.Answer.TheVariants.{Defined}
 use Rattle.hl_base.specs.declared.set.Key.TheVariants.{Op}
 use Rattle.hl_base.specs.declared.set.Line.{Line}
 use Rattle.hlasm_statements.specs.Fields.{ends_quoted}
-use Rattle.operand_grammar.specs.declared.fault.SyntaxFault.{SyntaxFault}
-use Rattle.operand_grammar.specs.declared.fault.SyntaxFault.TheVariants as fault
+use Rattle.expression_grammar.specs.declared.fault.SyntaxFault.{SyntaxFault}
+use Rattle.expression_grammar.specs.declared.fault.SyntaxFault.TheVariants as fault
 use Rattle.cond_expr.specs.declared.stop.Stop.{Stop}
 use Rattle.cond_expr.specs.declared.stop.Stop.TheVariants as stop
 use Rattle.cond_expr.specs.Told.{Told}

@@ -1,8 +1,8 @@
 -- What the reader of a field answers (this project). No public contract but that of `Template::read` speaks of it.
 use Rattle.std.specs.Prelude.{◌≡◌, ℕ, ◌+◌, ◌-◌, ◌<◌, Bool, false, List, length, drop, Option, Some, None}
-use Rattle.operand_grammar.specs.Views.{tree_of}
-use Rattle.operand_grammar.specs.declared.fault.SyntaxFault.{SyntaxFault}
-use Rattle.operand_grammar.specs.declared.fault.SyntaxFault.TheVariants.{At, OutOfMemory}
+use Rattle.expression_grammar.specs.Views.{tree_of}
+use Rattle.expression_grammar.specs.declared.fault.SyntaxFault.{SyntaxFault}
+use Rattle.expression_grammar.specs.declared.fault.SyntaxFault.TheVariants.{At, OutOfMemory}
 use Rattle.conditional_asm.specs.declared.front.Sought.TheVariants as sought
 use Rattle.conditional_asm.specs.declared.template.Found.{Found}
 use Rattle.conditional_asm.specs.declared.template.Step.{Step}

@@ -1,8 +1,8 @@
 -- What the variable symbols of a field stand for (HLASM Language Reference SC26-4940, "Variable symbols", "Concatenating
 -- symbols and characters"): each is replaced by its value, a number in decimal.
 use Rattle.std.specs.Prelude.{ℕ, List, [], ◌∷◌, ◌++◌}
-use Rattle.operand_grammar.specs.Trees.{Tree, Variable}
-use Rattle.operand_grammar.specs.Views.{tree_of}
+use Rattle.expression_grammar.specs.Trees.{Tree, Variable}
+use Rattle.expression_grammar.specs.Views.{tree_of}
 use Rattle.cond_expr.specs.Told.{Told}
 use Rattle.cond_expr.specs.Outcome.{Outcome, gives, and_then}
 use Rattle.cond_expr.specs.Values.{inserted}

@@ -3,8 +3,8 @@
 -- are two characters.
 use Rattle.std.specs.Prelude.{◌≡◌, ℕ, ◌+◌, ◌-◌, ◌<◌, Bool, true, false, ◌&&◌, ◌==◌, List, [], ◌∷◌, length, take, drop, take_while, slice_index, if◌then◌else◌}
 use Rattle.hl_base.specs.Symbols.{is_letter, is_symbol_character}
-use Rattle.operand_grammar.specs.Trees.{Tree}
-use Rattle.operand_grammar.specs.Views.{tree_of}
+use Rattle.expression_grammar.specs.Trees.{Tree}
+use Rattle.expression_grammar.specs.Views.{tree_of}
 use Rattle.conditional_asm.specs.declared.front.Sought.TheVariants as sought
 use Rattle.conditional_asm.specs.declared.template.Piece.{Piece}
 use Rattle.conditional_asm.specs.declared.template.Piece.TheVariants.{Plain, Variable}

@@ -1,7 +1,7 @@
 -- What is said of a text that may be what is sought (this project). No public contract speaks of it.
 use Rattle.std.specs.Prelude.{◌≡◌, ℕ, ◌++◌, List, Option, Some, None}
-use Rattle.operand_grammar.specs.Trees.{Tree}
-use Rattle.operand_grammar.specs.Views.{tree_of}
+use Rattle.expression_grammar.specs.Trees.{Tree}
+use Rattle.expression_grammar.specs.Views.{tree_of}
 use Rattle.conditional_asm.specs.declared.front.Sought.{Sought}
 use Rattle.conditional_asm.specs.declared.front.Tried.{Tried}
 use Rattle.conditional_asm.specs.declared.front.Tried.TheVariants.{Is, Not, Never}

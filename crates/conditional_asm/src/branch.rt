@@ -2,7 +2,7 @@
 ghost use Rattle.std.specs.Prelude.{◌≡◌, [], ◌∷◌, ◌++◌, drop, OnOk, MatchResult};
 ghost use Rattle.std.specs.Str.{chars};
 ghost use Rattle.conditional_asm.specs.Answers.{Answers, each};
-ghost use Rattle.operand_grammar.specs.Views.{tree_of};
+ghost use Rattle.expression_grammar.specs.Views.{tree_of};
 ghost use Rattle.conditional_asm.specs.Fronts.{IsFirstClosed};
 ghost use Rattle.conditional_asm.specs.Branches as branches;
 ghost use Rattle.conditional_asm.specs.Sequences as sequences;

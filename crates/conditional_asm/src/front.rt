@@ -1,9 +1,9 @@
 //! What a text begins with: an expression before a closing parenthesis, or a variable symbol with its subscripts.
 ghost use Rattle.std.specs.Prelude.{◌≡◌, IfOk, MatchResult};
 ghost use Rattle.std.specs.Str.{chars};
-ghost use Rattle.operand_grammar.specs.Answers.{IsFault};
-ghost use Rattle.operand_grammar.specs.Spelling.{IsExpression, most_parts};
-ghost use Rattle.operand_grammar.specs.Views.{tree_of};
+ghost use Rattle.expression_grammar.specs.Answers.{IsFault};
+ghost use Rattle.expression_grammar.specs.Spelling.{IsExpression, most_parts};
+ghost use Rattle.expression_grammar.specs.Views.{tree_of};
 ghost use Rattle.conditional_asm.specs.Fronts as fronts;
 ghost use Rattle.conditional_asm.specs.Tries.{IsTried, IsFront};
 

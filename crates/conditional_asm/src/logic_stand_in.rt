@@ -1,9 +1,9 @@
 //! Stand-in.
 ghost use Rattle.std.specs.Prelude.{MatchResult};
 ghost use Rattle.std.specs.Str.{chars};
-ghost use Rattle.operand_grammar.specs.Answers.{IsFault};
-ghost use Rattle.operand_grammar.specs.Spelling.{IsExpression, most_parts};
-ghost use Rattle.operand_grammar.specs.Views.{tree_of};
+ghost use Rattle.expression_grammar.specs.Answers.{IsFault};
+ghost use Rattle.expression_grammar.specs.Spelling.{IsExpression, most_parts};
+ghost use Rattle.expression_grammar.specs.Views.{tree_of};
 ghost use Rattle.conditional_asm.specs.LogicStandIn.{SpellsLogic};
 
 use operand_grammar::{Expr, SyntaxFault, parse_arith};

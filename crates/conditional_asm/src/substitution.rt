@@ -2,7 +2,7 @@
 //!
 //! Each call tells an outcome, as those of `cond_expr::evaluate`.
 ghost use Rattle.std.specs.Prelude.{◌≡◌};
-ghost use Rattle.operand_grammar.specs.Views.{tree_of};
+ghost use Rattle.expression_grammar.specs.Views.{tree_of};
 ghost use Rattle.cond_expr.specs.Outcome.{Tells};
 ghost use Rattle.conditional_asm.specs.Substitution as substitution;
 

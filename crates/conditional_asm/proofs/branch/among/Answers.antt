@@ -1,7 +1,7 @@
 use Rattle.std.proofs.Common.{List, ℕ, subst}
 use Rattle.std.specs.Prelude.{Err}
 use Rattle.std.proofs.lemmas.List.{take_rest}
-use Rattle.operand_grammar.specs.Views.{tree_of}
+use Rattle.expression_grammar.specs.Views.{tree_of}
 use Rattle.conditional_asm.specs.declared.front.Sought.TheVariants.{Number}
 use Rattle.conditional_asm.specs.Answers.{Answers, each}
 use Rattle.conditional_asm.specs.Sequences.{sequence}

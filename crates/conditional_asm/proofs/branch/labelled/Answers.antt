@@ -1,7 +1,7 @@
 use Rattle.std.proofs.Common.{◌≡◌, ◌∙◌, ◌+◌, ℕ, List, refl, sym, ap, subst, drop, rules}
 use Rattle.std.specs.Prelude.{Err, Ok}
 use Rattle.std.specs.Str.{chars}
-use Rattle.operand_grammar.specs.Views.{tree_of}
+use Rattle.expression_grammar.specs.Views.{tree_of}
 use Rattle.conditional_asm.specs.Answers.{Answers, IsPlaced}
 use Rattle.conditional_asm.specs.Sequences.{sequence}
 use Rattle.conditional_asm.proofs.BranchLaws.{label_fault, label_right}

@@ -1,8 +1,8 @@
 use Rattle.std.proofs.Common.{◌≡◌, ◌<◌, ◌∙◌, sym, subst, length, arith}
 use Rattle.std.specs.Str.{chars}
-use Rattle.operand_grammar.specs.declared.fault.SyntaxFault.{SyntaxFault}
-use Rattle.operand_grammar.specs.Answers.{IsFault}
-use Rattle.operand_grammar.specs.Views.{tree_of}
+use Rattle.expression_grammar.specs.declared.fault.SyntaxFault.{SyntaxFault}
+use Rattle.expression_grammar.specs.Answers.{IsFault}
+use Rattle.expression_grammar.specs.Views.{tree_of}
 use Rattle.conditional_asm.specs.Fronts.{Written}
 use Rattle.conditional_asm.proofs.FrontLaws.{never_longer, other_tree}
 use Rattle.conditional_asm.proofs.front.attempt.Goals as goal

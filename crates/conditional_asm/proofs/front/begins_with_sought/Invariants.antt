@@ -1,6 +1,6 @@
 use Rattle.std.proofs.Common.{◌≡◌, ◌<◌, ℕ, length}
 use Rattle.std.specs.Str.{chars}
-use Rattle.operand_grammar.specs.Trees.{Tree}
+use Rattle.expression_grammar.specs.Trees.{Tree}
 use Rattle.conditional_asm.specs.Fronts.{IsClosed}
 use Rattle.conditional_asm.proofs.front.begins_with_sought.Given as goal
 

@@ -1,6 +1,6 @@
 use Rattle.std.proofs.Common.{ℕ, subst, sym}
 use Rattle.std.specs.Str.{chars}
-use Rattle.operand_grammar.specs.Views.{tree_of}
+use Rattle.expression_grammar.specs.Views.{tree_of}
 use Rattle.conditional_asm.specs.Fronts.{IsReach}
 use Rattle.conditional_asm.proofs.FrontLaws.{whole_reach}
 use Rattle.conditional_asm.proofs.front.reach.Goals as goal

@@ -1,5 +1,5 @@
 use Rattle.hl_base.specs.declared.note.Severity.{Severity}
-use Rattle.operand_grammar.specs.Views.{tree_of}
+use Rattle.expression_grammar.specs.Views.{tree_of}
 use Rattle.cond_expr.specs.Told.{Told}
 use Rattle.cond_expr.proofs.OutcomeLemmas.{Tells-next, Tells-stop}
 use Rattle.conditional_asm.specs.Messages.{weighing, worded}

@@ -1,4 +1,4 @@
-use Rattle.operand_grammar.specs.Views.{tree_of}
+use Rattle.expression_grammar.specs.Views.{tree_of}
 use Rattle.cond_expr.specs.Values.{text}
 use Rattle.cond_expr.proofs.OutcomeLemmas.{Tells-and_then, Tells-stop}
 use Rattle.conditional_asm.specs.Messages.{noted}

@@ -1,8 +1,8 @@
 use Rattle.std.proofs.Common.{◌≡◌, ◌∙◌, rules, sym, ap, subst, Ok, Err}
-use Rattle.operand_grammar.specs.Views.{tree_of, trees_in}
-use Rattle.operand_grammar.specs.Trees.{Tree, NoTrees, Variable}
-use Rattle.operand_grammar.specs.declared.tree.Expr.TheViews.{the_lemmas}
-use Rattle.operand_grammar.proofs.Rows.{trees_of-row}
+use Rattle.expression_grammar.specs.Views.{tree_of, trees_in}
+use Rattle.expression_grammar.specs.Trees.{Tree, NoTrees, Variable}
+use Rattle.expression_grammar.specs.declared.tree.Expr.TheViews.{the_lemmas}
+use Rattle.expression_grammar.proofs.Rows.{trees_of-row}
 use Rattle.cond_expr.specs.Outcome.{Tells}
 use Rattle.conditional_asm.specs.Substitution.{symbol_text}
 use Rattle.conditional_asm.proofs.substitution.symbol_text.Goals as goal

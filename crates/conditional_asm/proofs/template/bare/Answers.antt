@@ -1,6 +1,6 @@
 use Rattle.std.proofs.Common.{◌≡◌, ◌∙◌, subst, ap, take, ℕ, List}
 use Rattle.std.specs.Str.{chars}
-use Rattle.operand_grammar.specs.Trees.{Tree}
+use Rattle.expression_grammar.specs.Trees.{Tree}
 use Rattle.conditional_asm.specs.declared.front.Sought.TheVariants.{Variable}
 use Rattle.conditional_asm.specs.declared.front.Tried.{Tried}
 use Rattle.conditional_asm.specs.Fronts.{IsSought}
