@@ -9,3 +9,6 @@ pub mod EndingLaws
 pub mod DeclaringLaws
 pub mod BranchingLaws
 pub mod SettingLaws
+pub mod ConditionLaws
+pub mod EffectLaws
+pub mod MessageLaws

@@ -13,3 +13,7 @@ pub mod Acts
 pub mod Branching
 pub mod Generating
 pub mod Setting
+pub mod Messages
+pub mod Tasks
+pub mod Conditions
+pub mod Effects

@@ -11,7 +11,7 @@ ghost use Rattle.conditional_asm.specs.Setting as settings;
 use crate::act::Act;
 use crate::character::{begins_with, character_count};
 use crate::declaring::refused;
-use crate::front::reach;
+use crate::front::{Sought, reach};
 use crate::logic_stand_in::parse_logic;
 use crate::place::fault_at;
 use crate::template::symbol;
@@ -43,7 +43,7 @@ fn target(alloc: Global, label: &str) -> Result<Expr, SyntaxFault>
             Err(fault_at(found.length, 0))
         }
         None => {
-            let at = reach(alloc, label)?;
+            let at = reach(alloc, Sought::Variable, label)?;
             Err(SyntaxFault::At(at))
         }
     }

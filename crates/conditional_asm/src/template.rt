@@ -155,7 +155,7 @@ fn next_piece(alloc: Global, text: &str) -> Result<Option<Step>, OutOfMemory>
 fn place(alloc: Global, field: &str, rest: &str) -> Result<u32, OutOfMemory>
     ensures { IfOk result (IsPlace (chars field.now) (chars rest.now)) }
 {
-    let inside = reach(alloc, rest)?;
+    let inside = reach(alloc, Sought::Variable, rest)?;
     let before = character_count(field).saturating_sub(character_count(rest));
     let before = u32::try_from(before).map_err(|_| OutOfMemory)?;
     before.checked_add(inside).ok_or(OutOfMemory)
