@@ -1,5 +1,5 @@
 -- Something that is told first, and then the rest.
-use Rattle.std.proofs.Common.{◌≡◌, ◌++◌, Bool, true, false, List, Option, Some, None, Result, Ok, Err, ℕ, sym, subst}
+use Rattle.std.proofs.Common.{◌≡◌, Bool, true, false, List, Option, Some, None, Result, Ok, Err, ℕ, sym, subst}
 use Rattle.hl_base.specs.declared.note.Note.{Note}
 use Rattle.cond_expr.specs.declared.stop.Stop.{Stop}
 use Rattle.cond_expr.specs.declared.stop.Stop.TheVariants.{Asked, OutOfMemory}

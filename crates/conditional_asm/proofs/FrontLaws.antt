@@ -1,5 +1,5 @@
 -- What some texts cannot begin with.
-use Rattle.std.proofs.Common.{◌≡◌, ℕ, ◌+◌, ◌<◌, ◌≤◌, true, false, List, [], ◌∷◌, ◌++◌, length, take, drop, refl, sym, ap, ◌∙◌, subst, append_assoc, append-nil, take-append-drop, inl, inr, zero, suc, get_or, arith}
+use Rattle.std.proofs.Common.{◌≡◌, ℕ, ◌+◌, ◌<◌, ◌≤◌, false, List, [], ◌++◌, length, take, drop, sym, ap, ◌∙◌, subst, append_assoc, append-nil, take-append-drop, inl, inr, get_or, arith}
 use Rattle.std.specs.Prelude.{nat_lt, MatchResult, Result}
 use Rattle.std.proofs.Math.Nat.{eq-or-lt_of_le}
 use Rattle.std.proofs.Math.Seq.{take-length}
@@ -11,7 +11,7 @@ use Rattle.expression_grammar.specs.declared.tree.Expr.{Expr}
 use Rattle.expression_grammar.specs.Answers.{IsFault}
 use Rattle.expression_grammar.specs.Trees.{Tree}
 use Rattle.expression_grammar.specs.Views.{tree_of}
-use Rattle.expression_grammar.specs.Spelling.{IsExpression, IsAt, IsViable, Spells, most_parts}
+use Rattle.expression_grammar.specs.Spelling.{IsExpression, IsAt, Spells, most_parts}
 use Rattle.expression_grammar.specs.declared.character.Grammar.{Grammar}
 use Rattle.std.proofs.lemmas.Bool.{true≢false, cases_Bool, ltb-true, ltb-false}
 use Rattle.conditional_asm.specs.declared.front.Sought.{Sought}

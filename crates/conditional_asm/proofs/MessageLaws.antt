@@ -1,5 +1,5 @@
 -- The operands of an MNOTE.
-use Rattle.std.proofs.Common.{◌≡◌, ℕ, List, [], ◌∷◌, inl, inr, length, refl}
+use Rattle.std.proofs.Common.{◌≡◌, ℕ, List, [], ◌∷◌, inr, length, refl}
 use Rattle.std.specs.Prelude.{◌==◌, false, Option, Ok, Err}
 use Rattle.std.proofs.lemmas.Bool.{true≢false}
 use Rattle.expression_grammar.specs.declared.fault.SyntaxFault.TheVariants.{At}

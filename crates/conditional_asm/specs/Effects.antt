@@ -1,6 +1,6 @@
 -- What one statement does (HLASM Language Reference SC26-4940, "Conditional assembly instructions", "Model statements"): its
 -- operation gets the values of its variable symbols first, and then decides what happens.
-use Rattle.std.specs.Prelude.{◌≡◌, ℕ, ◌==◌, Bool, true, false, List, [], ◌∷◌, ◌++◌, length, Option, Some, None, Result, Ok, Err, codes, chars, encode_utf8_all, if◌then◌else◌}
+use Rattle.std.specs.Prelude.{◌≡◌, ℕ, Bool, true, false, List, [], ◌∷◌, ◌++◌, Option, Some, None, Result, Ok, Err, chars, encode_utf8_all, if◌then◌else◌}
 use Rattle.hl_base.specs.Symbols.{symbol_of}
 use Rattle.hl_base.specs.declared.note.Note.{Note}
 use Rattle.hlasm_statements.specs.Fields.{ends_quoted}
@@ -8,7 +8,6 @@ use Rattle.hlasm_statements.specs.declared.statement.Shape.{Shape}
 use Rattle.hlasm_statements.specs.declared.statement.Shape.TheVariants as shape
 use Rattle.hlasm_statements.specs.declared.statement.Statement.{Statement}
 use Rattle.instruction_table.specs.Operations.{operation_of}
-use Rattle.instruction_table.specs.declared.meaning.Operation.{Operation}
 use Rattle.expression_grammar.specs.declared.fault.SyntaxFault.{SyntaxFault}
 use Rattle.expression_grammar.specs.declared.fault.SyntaxFault.TheVariants as fault
 use Rattle.cond_expr.specs.declared.stop.Stop.{Stop}

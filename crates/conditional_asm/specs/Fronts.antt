@@ -2,7 +2,6 @@
 -- (HLASM Language Reference SC26-4940, "Subscripted SET symbols", "AGO instruction", "AIF instruction"). Both end at the
 -- first closing parenthesis at which they are complete.
 use Rattle.std.specs.Prelude.{◌≡◌, ℕ, ◌+◌, ◌<◌, ◌≤◌, Bool, true, false, List, length, take, slice_index}
-use Rattle.expression_grammar.specs.declared.character.Grammar.{Grammar}
 use Rattle.expression_grammar.specs.declared.character.Grammar.TheVariants.{Arithmetic}
 use Rattle.expression_grammar.specs.declared.tree.Reference.TheVariants.{Value}
 use Rattle.expression_grammar.specs.Trees.{Tree, Variable}

@@ -1,5 +1,5 @@
-use Rattle.std.proofs.Common.{◌≡◌, ℕ, List, subst, drop}
-use Rattle.std.specs.Prelude.{Option, None}
+use Rattle.std.proofs.Common.{ℕ, List, subst}
+use Rattle.std.specs.Prelude.{Option}
 use Rattle.std.specs.Str.{chars}
 use Rattle.conditional_asm.specs.declared.front.Front.{Front}
 use Rattle.conditional_asm.specs.Branches.{IsReachFault}

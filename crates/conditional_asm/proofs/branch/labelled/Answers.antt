@@ -1,4 +1,4 @@
-use Rattle.std.proofs.Common.{◌≡◌, ◌∙◌, ◌+◌, ℕ, List, refl, sym, ap, subst, drop, rules}
+use Rattle.std.proofs.Common.{◌≡◌, ◌∙◌, ◌+◌, ℕ, List, refl, ap, subst, drop, rules}
 use Rattle.std.specs.Prelude.{Err, Ok}
 use Rattle.std.specs.Str.{chars}
 use Rattle.expression_grammar.specs.Views.{tree_of}

@@ -1,9 +1,7 @@
-use Rattle.std.proofs.Common.{◌≡◌, ◌∙◌, ◌+◌, ℕ, Bool, true, false, List, drop, Result, Ok, Err, sym, ap, subst, refl, if◌then◌else◌}
-use Rattle.hl_base.specs.declared.note.Note.{Note}
+use Rattle.std.proofs.Common.{◌∙◌, ◌+◌, Bool, true, false, drop, Ok, Err, sym, ap, subst, refl}
 use Rattle.expression_grammar.specs.Views.{tree_of}
-use Rattle.cond_expr.specs.declared.stop.Stop.{Stop}
 use Rattle.cond_expr.specs.Told.{Told}
-use Rattle.cond_expr.specs.Outcome.{Outcome, Tells, gives}
+use Rattle.cond_expr.specs.Outcome.{Outcome, Tells}
 use Rattle.cond_expr.proofs.OutcomeLemmas.{Tells-and_then, Tells-stop, Tells-gives}
 use Rattle.conditional_asm.specs.declared.act.Act.{Act}
 use Rattle.conditional_asm.specs.declared.act.Act.TheVariants.{Next, Branch}

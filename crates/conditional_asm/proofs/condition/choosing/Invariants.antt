@@ -1,4 +1,4 @@
-use Rattle.std.proofs.Common.{◌≡◌, ℕ, List, drop, Result}
+use Rattle.std.proofs.Common.{◌≡◌, List, drop, Result}
 use Rattle.hl_base.specs.declared.note.Note.{Note}
 use Rattle.cond_expr.specs.declared.stop.Stop.{Stop}
 use Rattle.cond_expr.specs.Outcome.{Tells}
