@@ -3,7 +3,9 @@ ghost use Rattle.std.specs.Option.{option_copied};
 
 use crate::{Act, Effect, effect};
 use cond_expr::{Found, Lookups};
-use hl_base::{Answer, Declaration, Key, Name, Note, OutOfMemory, SetKind, SetValue, Severity, Text};
+use hl_base::{
+    Answer, Declaration, Key, Name, Note, OutOfMemory, SetKind, SetValue, Severity, Text,
+};
 use hlasm_statements::read_statements;
 use std::alloc::Global;
 use std::test::Fail;
@@ -391,8 +393,14 @@ fn operations_without_a_definition_are_built_in(rt: HostRuntime) -> Result<(), F
         (" LR 1,&P(", "next 10@5"),
         (" TITLE 'x &P(", "next 6"),
         (" SPACE 3", "next"),
-        (" PUNCH 'x'", "next 41 operation PUNCH is left out of this profile"),
-        (" ccw 'x", "next 6 41 operation CCW is left out of this profile"),
+        (
+            " PUNCH 'x'",
+            "next 41 operation PUNCH is left out of this profile",
+        ),
+        (
+            " ccw 'x",
+            "next 6 41 operation CCW is left out of this profile",
+        ),
         (" OWN 1", "call OWN"),
         (" own 'x", "call OWN 6"),
         (" A-B 1", "next 40 operation A-B is not defined"),

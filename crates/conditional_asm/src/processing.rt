@@ -149,12 +149,7 @@ fn complain(alloc: Global, op: &str, notes: &mut Notes) -> Result<Act, Stop>
 }
 
 /// The same, behind the note of an operand field that is not closed.
-fn complain_behind(
-    alloc: Global,
-    op: &str,
-    operands: &str,
-    notes: &mut Notes,
-) -> Result<Act, Stop>
+fn complain_behind(alloc: Global, op: &str, operands: &str, notes: &mut Notes) -> Result<Act, Stop>
     ensures { effects.Complains (chars op.now) (chars operands.now) notes.old notes.new result }
 {
     match check(alloc, operands, notes) {

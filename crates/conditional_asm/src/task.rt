@@ -91,7 +91,8 @@ pub fn is_lasting(meaning: Operation) -> bool
 {
     match meaning {
         Operation::Conditional | Operation::Ordinary | Operation::Both => true,
-        Operation::Silent | Operation::LeftOut | Operation::Machine(_) | Operation::Unknown => false,
+        Operation::Silent | Operation::LeftOut | Operation::Machine(_) | Operation::Unknown =>
+            false,
     }
 }
 
