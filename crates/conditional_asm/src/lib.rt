@@ -52,8 +52,8 @@ pub use trouble::{left_out, no_operation, open_apostrophe, undefined, unreadable
 #[cfg(test)]
 mod act_tests;
 #[cfg(test)]
-mod setting_tests;
-#[cfg(test)]
 mod effect_tests;
+#[cfg(test)]
+mod setting_tests;
 #[cfg(test)]
 mod tests;
