@@ -1,21 +1,32 @@
 -- What some texts cannot begin with.
-use Rattle.std.proofs.Common.{◌≡◌, ℕ, ◌+◌, ◌<◌, ◌≤◌, true, false, List, [], ◌∷◌, ◌++◌, length, take, drop, refl, sym, ap, ◌∙◌, subst, append_assoc, append-nil, take-append-drop, inl, inr, zero, suc, get_or, arith}
-use Rattle.std.specs.Prelude.{nat_lt}
+use Rattle.std.proofs.Common.{◌≡◌, ℕ, ◌+◌, ◌<◌, ◌≤◌, false, List, [], ◌++◌, length, take, drop, sym, ap, ◌∙◌, subst, append_assoc, append-nil, take-append-drop, inl, inr, get_or, arith}
+use Rattle.std.specs.Prelude.{nat_lt, MatchResult, Result}
 use Rattle.std.proofs.Math.Nat.{eq-or-lt_of_le}
 use Rattle.std.proofs.Math.Seq.{take-length}
 use Rattle.std.proofs.lemmas.List.{take-take, get_or_past}
 use Rattle.std.proofs.lemmas.Grind.{get_or_default_zero}
 use Rattle.expression_grammar.specs.declared.character.Grammar.TheVariants.{Arithmetic}
+use Rattle.expression_grammar.specs.declared.fault.SyntaxFault.{SyntaxFault}
+use Rattle.expression_grammar.specs.declared.tree.Expr.{Expr}
+use Rattle.expression_grammar.specs.Answers.{IsFault}
 use Rattle.expression_grammar.specs.Trees.{Tree}
-use Rattle.expression_grammar.specs.Spelling.{IsExpression, IsAt, IsViable, Spells, most_parts}
+use Rattle.expression_grammar.specs.Views.{tree_of}
+use Rattle.expression_grammar.specs.Spelling.{IsExpression, IsAt, Spells, most_parts}
 use Rattle.expression_grammar.specs.declared.character.Grammar.{Grammar}
 use Rattle.std.proofs.lemmas.Bool.{true≢false, cases_Bool, ltb-true, ltb-false}
 use Rattle.conditional_asm.specs.declared.front.Sought.{Sought}
-use Rattle.conditional_asm.specs.declared.front.Sought.TheVariants.{Number, Variable}
-use Rattle.conditional_asm.specs.Fronts.{IsSought, IsClosed, accepts, extent, IsReach}
+use Rattle.conditional_asm.specs.declared.front.Sought.TheVariants.{Number, Condition, Variable}
+use Rattle.conditional_asm.specs.Fronts.{IsSought, IsClosed, Written, accepts, extent, IsReach}
+
+-- how a text is read that is sought, whatever it is
+pub read_as : (sought known : Sought) (text : List ℕ) (r : Result Expr SyntaxFault) → sought ≡ known →
+    MatchResult r (λ e. IsExpression (Written known) most_parts text (tree_of e)) (IsFault (Written known) text) →
+    MatchResult r (λ e. IsExpression (Written sought) most_parts text (tree_of e)) (IsFault (Written sought) text)
+read_as sought known text r is read =
+    subst (λ (s : Sought). MatchResult r (λ e. IsExpression (Written s) most_parts text (tree_of e)) (IsFault (Written s) text)) (sym is) read
 
 -- where an expression goes no further than a place within a text, no longer text that begins with it is one
-pub never_longer : (sought : Sought) (text : List ℕ) (count : ℕ) → IsAt (Spells Arithmetic) most_parts text count → count < length text → (rest : List ℕ) (tree : Tree) → IsSought sought (text ++ rest) tree → ⊥
+pub never_longer : (sought : Sought) (text : List ℕ) (count : ℕ) → IsAt (Written sought) most_parts text count → count < length text → (rest : List ℕ) (tree : Tree) → IsSought sought (text ++ rest) tree → ⊥
 never_longer sought text count at short rest tree s =
     let seam : text ++ rest ≡ take (count + 1) text ++ (drop (count + 1) text ++ rest) =
     ap (λ front. front ++ rest) (sym (take-append-drop (count + 1) text)) ∙ append_assoc (take (count + 1) text) (drop (count + 1) text) rest in
@@ -23,36 +34,39 @@ never_longer sought text count at short rest tree s =
     (record {
       rest = drop (count + 1) text ++ rest;
       tree = tree;
-      expression = subst (λ (whole : List ℕ). IsExpression (Spells Arithmetic) most_parts whole tree) seam s.expression;
+      expression = subst (λ (whole : List ℕ). IsExpression (Written sought) most_parts whole tree) seam s.expression;
     })
 
 -- a text whose one tree is not accepted is not what is sought
-pub other_tree : (sought : Sought) (text : List ℕ) (tree : Tree) → IsExpression (Spells Arithmetic) most_parts text tree → accepts sought tree ≡ false →
+pub other_tree : (sought : Sought) (text : List ℕ) (tree : Tree) → IsExpression (Written sought) most_parts text tree → accepts sought tree ≡ false →
     ((g : Grammar) (t : List ℕ) (one two : Tree) → Spells g t one → Spells g t two → one ≡ two) →
     (other : Tree) → IsSought sought text other → ⊥
-other_tree sought text tree e refused one other s =
+other_tree Number text tree e refused one other s = true≢false refused
+other_tree Condition text tree e refused one other s = true≢false refused
+other_tree Variable text tree e refused one other s =
     let same : tree ≡ other = one Arithmetic text tree other e.spells s.expression.spells in
-    true≢false (sym s.accepted ∙ ap (accepts sought) (sym same) ∙ refused)
+    true≢false (sym s.accepted ∙ ap (accepts Variable) (sym same) ∙ refused)
 
 -- an expression is its own longest front
-pub whole_reach : (text : List ℕ) (tree : Tree) → IsExpression (Spells Arithmetic) most_parts text tree → IsReach text (length text)
-whole_reach text tree e = record {
+pub whole_reach : (sought : Sought) (text : List ℕ) (tree : Tree) → IsExpression (Written sought) most_parts text tree → IsReach sought text (length text)
+whole_reach sought text tree e = record {
   within = omega arith;
   viable = record {
     rest = [];
     tree = tree;
-    expression = subst (λ (whole : List ℕ). IsExpression (Spells Arithmetic) most_parts whole tree) (sym (append-nil _ ∙ take-length text)) e;
+    expression = subst (λ (whole : List ℕ). IsExpression (Written sought) most_parts whole tree) (sym (append-nil _ ∙ take-length text)) e;
   };
   longest = λ more above within. absurd (omega arith);
 }
 
-pub at_reach : (text : List ℕ) (count : ℕ) → IsAt (Spells Arithmetic) most_parts text count → IsReach text count
-at_reach text count at = record { within = at.within; viable = at.viable; longest = at.longest }
+pub at_reach : (sought : Sought) (text : List ℕ) (count : ℕ) → IsAt (Written sought) most_parts text count → IsReach sought text count
+at_reach sought text count at = record { within = at.within; viable = at.viable; longest = at.longest }
 
 -- ---- where what is sought may end
 
 extent-le : (sought : Sought) (j k : ℕ) → j ≤ k → extent sought j ≤ extent sought k
 extent-le Number j k h = h
+extent-le Condition j k h = h
 extent-le Variable j k h = omega arith
 
 -- it does not end at a character that is no closing parenthesis

@@ -8,3 +8,7 @@ pub mod SubstitutionLaws
 pub mod EndingLaws
 pub mod DeclaringLaws
 pub mod BranchingLaws
+pub mod SettingLaws
+pub mod ConditionLaws
+pub mod EffectLaws
+pub mod MessageLaws

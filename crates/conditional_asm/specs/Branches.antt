@@ -6,6 +6,7 @@ use Rattle.expression_grammar.specs.declared.fault.SyntaxFault.TheVariants.{At, 
 use Rattle.operand_grammar.specs.Split.{operands_of}
 use Rattle.expression_grammar.specs.Trees.{Tree}
 use Rattle.expression_grammar.specs.Views.{tree_of}
+use Rattle.conditional_asm.specs.declared.front.Sought.{Sought}
 use Rattle.conditional_asm.specs.declared.front.Sought.TheVariants.{Number}
 use Rattle.conditional_asm.specs.declared.branch.Selector.{Selector}
 use Rattle.conditional_asm.specs.declared.branch.Goto.{Goto}
@@ -14,44 +15,44 @@ use Rattle.conditional_asm.specs.Answers.{Answers, IsPlaced, each}
 use Rattle.conditional_asm.specs.Fronts.{IsFirstClosed, IsNeverClosed, IsReach}
 use Rattle.conditional_asm.specs.Sequences.{sequence}
 
--- an operand is a number in parentheses and a sequence symbol of this name
-pub record IsChoice (operand : List ℕ) (tree : Tree) (name : List ℕ) : Type 0 where
+-- an operand is a number, or a condition, in parentheses and a sequence symbol of this name
+pub record IsChoice (sought : Sought) (operand : List ℕ) (tree : Tree) (name : List ℕ) : Type 0 where
   pub before : ℕ
-  pub number : IsFirstClosed Number (drop 1 operand) before tree
+  pub inner : IsFirstClosed sought (drop 1 operand) before tree
   pub label : sequence (drop (before + 2) operand) ≡ Ok name
 
--- such an operand goes wrong within the number
-pub record IsNumberFault (operand : List ℕ) (at : ℕ) : Type 0 where
-  pub none : IsNeverClosed Number (drop 1 operand)
+-- such an operand goes wrong within its parentheses
+pub record IsInnerFault (sought : Sought) (operand : List ℕ) (at : ℕ) : Type 0 where
+  pub none : IsNeverClosed sought (drop 1 operand)
   pub inside : ℕ
-  pub reach : IsReach (drop 1 operand) inside
+  pub reach : IsReach sought (drop 1 operand) inside
   pub place : at ≡ inside + 1
 
--- or behind its parenthesis
-pub record IsLabelFault (operand : List ℕ) (at : ℕ) : Type 0 where
+-- or behind them
+pub record IsLabelFault (sought : Sought) (operand : List ℕ) (at : ℕ) : Type 0 where
   pub before : ℕ
   pub tree : Tree
-  pub number : IsFirstClosed Number (drop 1 operand) before tree
+  pub inner : IsFirstClosed sought (drop 1 operand) before tree
   pub inside : ℕ
   pub label : sequence (drop (before + 2) operand) ≡ Err inside
   pub place : at ≡ inside + (before + 2)
 
 -- how such an operand is read
-abbrev pub IsChoiceRead : List ℕ → Result Selector SyntaxFault → Type 0
-IsChoiceRead operand (Ok choice) = IsChoice operand (tree_of choice.tree) choice.label
-IsChoiceRead operand (Err (At at)) = IsNumberFault operand at ⊎ IsLabelFault operand at
-IsChoiceRead operand (Err OutOfMemory) = Unit {0}
+abbrev pub IsChoiceRead : Sought → List ℕ → Result Selector SyntaxFault → Type 0
+IsChoiceRead sought operand (Ok choice) = IsChoice sought operand (tree_of choice.tree) choice.label
+IsChoiceRead sought operand (Err (At at)) = IsInnerFault sought operand at ⊎ IsLabelFault sought operand at
+IsChoiceRead sought operand (Err OutOfMemory) = Unit {0}
 
--- where a number goes wrong that stands behind a parenthesis
-abbrev pub IsReachFault : List ℕ → SyntaxFault → Type 0
-IsReachFault inner (At at) = (inside : ℕ) × IsReach inner inside × (at ≡ inside + 1)
-IsReachFault inner OutOfMemory = Unit {0}
+-- where a number or condition goes wrong that stands behind a parenthesis
+abbrev pub IsReachFault : Sought → List ℕ → SyntaxFault → Type 0
+IsReachFault sought inner (At at) = (inside : ℕ) × IsReach sought inner inside × (at ≡ inside + 1)
+IsReachFault sought inner OutOfMemory = Unit {0}
 
 -- the operands of a computed AGO go wrong in the first, or else in the first of the others that does
 pub record IsOtherFault (first : List ℕ) (others : List (List ℕ)) (at : ℕ) : Type 0 where
   pub tree : Tree
   pub name : List ℕ
-  pub choice : IsChoice first tree name
+  pub choice : IsChoice Number first tree name
   pub names : each sequence others ≡ Err at
 
 -- how the operands of a computed AGO are read
@@ -59,8 +60,8 @@ abbrev pub IsAmong : List (List ℕ) → Result Goto SyntaxFault → Type 0
 IsAmong [] (Ok goto) = ⊥
 IsAmong [] (Err fault) = IsPlaced 0 fault
 IsAmong (first ∷ others) (Ok (To label)) = ⊥
-IsAmong (first ∷ others) (Ok (Among tree label labels)) = IsChoice first (tree_of tree) label × (each sequence others ≡ Ok labels.items)
-IsAmong (first ∷ others) (Err (At at)) = (IsNumberFault first at ⊎ IsLabelFault first at) ⊎ IsOtherFault first others at
+IsAmong (first ∷ others) (Ok (Among tree label labels)) = IsChoice Number first (tree_of tree) label × (each sequence others ≡ Ok labels.items)
+IsAmong (first ∷ others) (Err (At at)) = (IsInnerFault Number first at ⊎ IsLabelFault Number first at) ⊎ IsOtherFault first others at
 IsAmong (first ∷ others) (Err OutOfMemory) = Unit {0}
 
 -- one label

@@ -12,3 +12,8 @@ pub mod Troubles
 pub mod Acts
 pub mod Branching
 pub mod Generating
+pub mod Setting
+pub mod Messages
+pub mod Tasks
+pub mod Conditions
+pub mod Effects

@@ -3,6 +3,7 @@ use Rattle.std.specs.Prelude.{◌≡◌, ℕ, ◌+◌, ◌-◌, ◌<◌, Bool, f
 use Rattle.expression_grammar.specs.Views.{tree_of}
 use Rattle.expression_grammar.specs.declared.fault.SyntaxFault.{SyntaxFault}
 use Rattle.expression_grammar.specs.declared.fault.SyntaxFault.TheVariants.{At, OutOfMemory}
+use Rattle.conditional_asm.specs.declared.front.Sought.TheVariants as sought
 use Rattle.conditional_asm.specs.declared.template.Found.{Found}
 use Rattle.conditional_asm.specs.declared.template.Step.{Step}
 use Rattle.conditional_asm.specs.Fronts.{IsReach}
@@ -20,7 +21,7 @@ IsStep text (Some step) = IsPiece text step.piece (drop step.length text) × (0 
 
 -- where the rest of a field reads as a variable symbol no further
 abbrev pub IsPlace : List ℕ → List ℕ → ℕ → Type 0
-IsPlace field rest at = (inside : ℕ) × IsReach rest inside × (at ≡ length field - length rest + inside)
+IsPlace field rest at = (inside : ℕ) × IsReach sought.Variable rest inside × (at ≡ length field - length rest + inside)
 
 -- a field cannot be read; only want of memory is no word on it
 abbrev pub IsFault : List ℕ → SyntaxFault → Type 0

@@ -48,7 +48,7 @@ HasNoSymbolWith false text = (tree : Tree) → IsSought sought.Variable (take (b
 -- a text begins with no variable symbol, and reads as one up to this character
 pub record IsBroken (text : List ℕ) (at : ℕ) : Type 0 where
   pub none : HasNoSymbolWith (has_subscripts text) text
-  pub reach : IsReach text at
+  pub reach : IsReach sought.Variable text at
 
 -- what is left behind a variable symbol: one period vanishes
 abbrev pub behind_symbol : List ℕ → List ℕ

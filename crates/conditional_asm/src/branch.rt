@@ -22,17 +22,17 @@ pub enum Goto {
     Among(Expr, Name, Vec<Name>),
 }
 
-/// The first operand of a computed AGO.
+/// A number, or a condition, in parentheses and a sequence symbol: the first operand of a computed AGO, or one of an AIF.
 #[derive(Drop)]
-struct Selector {
-    tree: Expr,
-    label: Name,
+pub struct Selector {
+    pub tree: Expr,
+    pub label: Name,
 }
 
-/// The sequence symbol behind the closing parenthesis of a number.
-fn labelled(front: Front, operand: &str) -> Result<Selector, SyntaxFault>
-    requires { IsFirstClosed Sought.Number (drop 1 (chars operand.now)) front.before (tree_of front.tree) }
-    ensures { branches.IsChoiceRead (chars operand.now) result }
+/// The sequence symbol behind the closing parenthesis of a number or condition.
+fn labelled(sought: Sought, front: Front, operand: &str) -> Result<Selector, SyntaxFault>
+    requires { IsFirstClosed sought (drop 1 (chars operand.now)) front.before (tree_of front.tree) }
+    ensures { branches.IsChoiceRead sought (chars operand.now) result }
 {
     let length = front.before.checked_add(2).ok_or(OutOfMemory)?;
     match sequence(behind(operand, length)) {
@@ -44,22 +44,22 @@ fn labelled(front: Front, operand: &str) -> Result<Selector, SyntaxFault>
     }
 }
 
-/// A number in parentheses and a sequence symbol.
-fn choice(alloc: Global, operand: &str) -> Result<Selector, SyntaxFault>
-    ensures { branches.IsChoiceRead (chars operand.now) result }
+/// A number, or a condition, in parentheses and a sequence symbol; the first character is not looked at.
+pub fn choice(alloc: Global, sought: Sought, operand: &str) -> Result<Selector, SyntaxFault>
+    ensures { branches.IsChoiceRead sought (chars operand.now) result }
 {
     let inner = behind(operand, 1);
-    match begins_with_sought(alloc, Sought::Number, inner)? {
-        Some(front) => labelled(front, operand),
-        None => Err(number_fault(alloc, inner)),
+    match begins_with_sought(alloc, sought, inner)? {
+        Some(front) => labelled(sought, front, operand),
+        None => Err(inner_fault(alloc, sought, inner)),
     }
 }
 
-/// Where a number goes wrong that stands behind a parenthesis.
-fn number_fault(alloc: Global, inner: &str) -> SyntaxFault
-    ensures { branches.IsReachFault (chars inner.now) result }
+/// Where a number or condition goes wrong that stands behind a parenthesis.
+fn inner_fault(alloc: Global, sought: Sought, inner: &str) -> SyntaxFault
+    ensures { branches.IsReachFault sought (chars inner.now) result }
 {
-    match reach(alloc, inner) {
+    match reach(alloc, sought, inner) {
         Ok(inside) => fault_at(inside as usize, 1),
         Err(_) => SyntaxFault::OutOfMemory,
     }
@@ -95,7 +95,7 @@ fn among(alloc: Global, operands: &[Text]) -> Result<Goto, SyntaxFault>
     let [first, others @ ..] = operands else {
         return Err(SyntaxFault::At(0));
     };
-    match choice(alloc, first.as_str()) {
+    match choice(alloc, Sought::Number, first.as_str()) {
         Ok(choice) => match labels(alloc, others) {
             Ok(names) => Ok(Goto::Among(choice.tree, choice.label, names)),
             Err(fault) => Err(fault),

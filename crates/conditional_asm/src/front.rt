@@ -1,14 +1,17 @@
 //! What a text begins with: an expression before a closing parenthesis, or a variable symbol with its subscripts.
-ghost use Rattle.std.specs.Prelude.{◌≡◌, IfOk};
+ghost use Rattle.std.specs.Prelude.{◌≡◌, IfOk, MatchResult};
 ghost use Rattle.std.specs.Str.{chars};
+ghost use Rattle.expression_grammar.specs.Answers.{IsFault};
+ghost use Rattle.expression_grammar.specs.Spelling.{IsExpression, most_parts};
 ghost use Rattle.expression_grammar.specs.Views.{tree_of};
 ghost use Rattle.conditional_asm.specs.Fronts as fronts;
 ghost use Rattle.conditional_asm.specs.Tries.{IsTried, IsFront};
 
 use crate::character::{character_count, short_count};
+use crate::logic_stand_in::parse_logic;
+use expression_grammar::laws::one_tree;
 use hl_base::OutOfMemory;
 use hlasm_statements::split_columns;
-use expression_grammar::laws::one_tree;
 use operand_grammar::{Expr, Reference, SyntaxFault, parse_arith};
 use std::alloc::Global;
 
@@ -17,6 +20,8 @@ use std::alloc::Global;
 pub enum Sought {
     /// An arithmetic expression; the closing parenthesis behind it does not belong to it.
     Number,
+    /// A logical expression; the same of its parenthesis.
+    Condition,
     /// A variable symbol with its subscripts and their parentheses.
     Variable,
 }
@@ -68,7 +73,7 @@ impl Sought {
         ensures { result ≡ fronts.accepts self (tree_of tree.now) }
     {
         match self {
-            Sought::Number => true,
+            Sought::Number | Sought::Condition => true,
             Sought::Variable => is_variable(tree),
         }
     }
@@ -79,9 +84,19 @@ impl Sought {
         ensures { IfOk result (λ n. n ≡ fronts.extent self before) }
     {
         match self {
-            Sought::Number => Ok(before),
+            Sought::Number | Sought::Condition => Ok(before),
             Sought::Variable => before.checked_add(1).ok_or(OutOfMemory),
         }
+    }
+}
+
+/// The expression that a text is, written as what is sought.
+fn parse(alloc: Global, sought: Sought, text: &str) -> Result<Expr, SyntaxFault>
+    ensures { MatchResult result (λ e. IsExpression (fronts.Written sought) most_parts (chars text.now) (tree_of e)) (IsFault (fronts.Written sought) (chars text.now)) }
+{
+    match sought {
+        Sought::Number | Sought::Variable => parse_arith(alloc, text),
+        Sought::Condition => parse_logic(alloc, text),
     }
 }
 
@@ -89,7 +104,7 @@ impl Sought {
 pub fn attempt(alloc: Global, sought: Sought, text: &str) -> Result<Tried, OutOfMemory>
     ensures { IfOk result (IsTried sought (chars text.now)) }
 {
-    match parse_arith(alloc, text) {
+    match parse(alloc, sought, text) {
         Ok(tree) => {
             one_tree();
             if sought.accepts(&tree) {
@@ -130,11 +145,11 @@ pub fn begins_with_sought(
     Ok(None)
 }
 
-/// How many characters of a text some arithmetic expression begins with.
-pub fn reach(alloc: Global, text: &str) -> Result<u32, OutOfMemory>
-    ensures { IfOk result (fronts.IsReach (chars text.now)) }
+/// How many characters of a text some expression begins with that is written as what is sought.
+pub fn reach(alloc: Global, sought: Sought, text: &str) -> Result<u32, OutOfMemory>
+    ensures { IfOk result (fronts.IsReach sought (chars text.now)) }
 {
-    match parse_arith(alloc, text) {
+    match parse(alloc, sought, text) {
         Ok(_tree) => {
             let count = short_count(text)?;
             Ok(count)

@@ -28,9 +28,9 @@ pub struct Template {
 
 /// A variable symbol at the front of a text, and how many characters it has.
 #[derive(Drop)]
-struct Found {
-    tree: Expr,
-    length: usize,
+pub struct Found {
+    pub tree: Expr,
+    pub length: usize,
 }
 
 /// A piece at the front of a text, and how many characters it takes.
@@ -107,7 +107,7 @@ fn bare(alloc: Global, text: &str, length: usize) -> Result<Option<Found>, OutOf
 }
 
 /// The variable symbol that a text begins with, if it can be read.
-fn symbol(alloc: Global, text: &str) -> Result<Option<Found>, OutOfMemory>
+pub fn symbol(alloc: Global, text: &str) -> Result<Option<Found>, OutOfMemory>
     ensures { IfOk result (IsSymbolFound (templates.has_subscripts (chars text.now)) (chars text.now)) }
 {
     let length = bare_length(text)?;
@@ -155,7 +155,7 @@ fn next_piece(alloc: Global, text: &str) -> Result<Option<Step>, OutOfMemory>
 fn place(alloc: Global, field: &str, rest: &str) -> Result<u32, OutOfMemory>
     ensures { IfOk result (IsPlace (chars field.now) (chars rest.now)) }
 {
-    let inside = reach(alloc, rest)?;
+    let inside = reach(alloc, Sought::Variable, rest)?;
     let before = character_count(field).saturating_sub(character_count(rest));
     let before = u32::try_from(before).map_err(|_| OutOfMemory)?;
     before.checked_add(inside).ok_or(OutOfMemory)

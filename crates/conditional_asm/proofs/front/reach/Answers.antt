@@ -7,5 +7,5 @@ use Rattle.conditional_asm.proofs.front.reach.Goals as goal
 
 pub returns-in_ok-count-in-Ok : goal.returns-in_ok-count-in-Ok
 returns-in_ok-count-in-Ok c =
-    subst (λ (n : ℕ). IsReach (chars c.args.text.now) n) (sym c.in_ok-count-in-Ok.ensures)
-    (whole_reach (chars c.args.text.now) (tree_of c.in-Ok._tree) c.in-Ok.ensures)
+    subst (λ (n : ℕ). IsReach c.args.sought (chars c.args.text.now) n) (sym c.in_ok-count-in-Ok.ensures)
+    (whole_reach c.args.sought (chars c.args.text.now) (tree_of c.in-Ok._tree) c.in-Ok.ensures)

@@ -1,0 +1,222 @@
+//! What SETA, SETB and SETC do.
+//!
+//! Each call tells an outcome, as those of `cond_expr::evaluate`.
+ghost use Rattle.std.specs.Prelude.{◌≡◌};
+ghost use Rattle.std.specs.Str.{chars};
+ghost use Rattle.expression_grammar.specs.Views.{tree_of};
+ghost use Rattle.cond_expr.specs.Outcome.{Tells};
+ghost use Rattle.cond_expr.specs.Characters.{not_below_0};
+ghost use Rattle.conditional_asm.specs.Setting as settings;
+
+use crate::act::Act;
+use crate::character::{begins_with, character_count};
+use crate::declaring::refused;
+use crate::front::{Sought, reach};
+use crate::logic_stand_in::parse_logic;
+use crate::place::fault_at;
+use crate::template::symbol;
+use cond_expr::evaluate::{number, numbers, text};
+use cond_expr::{Lookups, Numbers, Stop};
+use hl_base::{Notes, SetKind, SetValue};
+use operand_grammar::{Expr, SyntaxFault, parse_arith, parse_char};
+use std::alloc::Global;
+
+/// The SET symbol that gets a value, and the value, as they are written.
+#[derive(Drop)]
+pub struct Setting {
+    pub target: Expr,
+    pub value: Expr,
+}
+
+/// A name entry as a variable symbol.
+fn target(alloc: Global, label: &str) -> Result<Expr, SyntaxFault>
+    ensures { settings.IsTarget (chars label.now) result }
+{
+    if !begins_with(label, '&') {
+        return Err(SyntaxFault::At(0));
+    }
+    match symbol(alloc, label)? {
+        Some(found) => {
+            if found.length == character_count(label) {
+                return Ok(found.tree);
+            }
+            Err(fault_at(found.length, 0))
+        }
+        None => {
+            let at = reach(alloc, Sought::Variable, label)?;
+            Err(SyntaxFault::At(at))
+        }
+    }
+}
+
+/// An operand as a value.
+fn operand(alloc: Global, kind: SetKind, field: &str) -> Result<Expr, SyntaxFault>
+    ensures { settings.IsOperand kind (chars field.now) result }
+{
+    match kind {
+        SetKind::A => parse_arith(alloc, field),
+        SetKind::B => parse_logic(alloc, field),
+        SetKind::C => parse_char(alloc, field),
+    }
+}
+
+/// Reads name entry and operand.
+fn read_setting(
+    alloc: Global,
+    kind: SetKind,
+    label: &str,
+    field: &str,
+) -> Result<Setting, SyntaxFault>
+    ensures { settings.IsSetting kind (chars label.now) (chars field.now) result }
+{
+    match target(alloc, label) {
+        Ok(target) => match operand(alloc, kind, field) {
+            Ok(value) => Ok(Setting { target, value }),
+            Err(fault) => Err(fault),
+        },
+        Err(fault) => Err(fault),
+    }
+}
+
+/// The numbers of a variable symbol's subscripts.
+fn subscripts_of<Q: Lookups>(
+    alloc: Global,
+    tree: &Expr,
+    q: &mut Q,
+    notes: &mut Notes,
+) -> Result<Numbers, Stop>
+    ensures told { Q.told q.new ≡ Q.told q.old }
+    ensures tells { Tells (settings.subscripts_of (tree_of tree.now) (Q.told q.old)) notes.old notes.new result }
+{
+    match tree {
+        Expr::Variable(_, _, subscripts) => match numbers(alloc, subscripts.as_slice(), q, notes) {
+            Ok(at) => Ok(at),
+            Err(stop) => Err(stop),
+        },
+        Expr::Number(_, _)
+        | Expr::Here
+        | Expr::Symbol(_, _)
+        | Expr::Signed(_, _)
+        | Expr::Pair(_, _, _)
+        | Expr::Paren(_)
+        | Expr::Not(_)
+        | Expr::Compared(_, _, _)
+        | Expr::Quoted(_)
+        | Expr::Duplicated(_, _)
+        | Expr::Substring(_, _, _)
+        | Expr::SubstringToEnd(_, _)
+        | Expr::Joined(_, _) => Ok(Numbers::new(alloc)),
+    }
+}
+
+/// The value of an operand.
+fn value_of<Q: Lookups>(
+    alloc: Global,
+    kind: SetKind,
+    tree: &Expr,
+    q: &mut Q,
+    notes: &mut Notes,
+) -> Result<SetValue, Stop>
+    ensures told { Q.told q.new ≡ Q.told q.old }
+    ensures tells { Tells (settings.value kind (tree_of tree.now) (Q.told q.old)) notes.old notes.new result }
+{
+    match kind {
+        SetKind::A => match number(alloc, tree, q, notes) {
+            Ok(n) => Ok(SetValue::A(n)),
+            Err(stop) => Err(stop),
+        },
+        SetKind::B => match number(alloc, tree, q, notes) {
+            Ok(n) => Ok(SetValue::B(n != 0)),
+            Err(stop) => Err(stop),
+        },
+        SetKind::C => match text(alloc, tree, q, notes) {
+            Ok(characters) => Ok(SetValue::C(characters)),
+            Err(stop) => Err(stop),
+        },
+    }
+}
+
+/// A number, and 0 in place of one below 0.
+fn from_0_on(number: i32) -> u32
+    ensures { result ≡ not_below_0 number }
+{
+    if number < 0 { 0 } else { number as u32 }
+}
+
+/// The element that subscripts name.
+fn element(at: &[i32]) -> Option<u32>
+    ensures { result ≡ settings.element at.now }
+{
+    match at {
+        [] => None,
+        [one] => Some(from_0_on(*one)),
+        _ => Some(0),
+    }
+}
+
+/// A SET symbol gets this value.
+fn set_to(tree: &Expr, at: &Numbers, value: SetValue) -> Act
+    ensures { result ≡ settings.set_to (tree_of tree.now) at.now value }
+{
+    match tree {
+        Expr::Variable(_, symbol, _) => {
+            Act::Set(symbol.name.copy(), element(at.as_slice()), value)
+        }
+        Expr::Number(_, _)
+        | Expr::Here
+        | Expr::Symbol(_, _)
+        | Expr::Signed(_, _)
+        | Expr::Pair(_, _, _)
+        | Expr::Paren(_)
+        | Expr::Not(_)
+        | Expr::Compared(_, _, _)
+        | Expr::Quoted(_)
+        | Expr::Duplicated(_, _)
+        | Expr::Substring(_, _, _)
+        | Expr::SubstringToEnd(_, _)
+        | Expr::Joined(_, _) => Act::Next,
+    }
+}
+
+/// The subscripts first, and then the value.
+fn assigned<Q: Lookups>(
+    alloc: Global,
+    kind: SetKind,
+    target: &Expr,
+    value: &Expr,
+    q: &mut Q,
+    notes: &mut Notes,
+) -> Result<Act, Stop>
+    ensures told { Q.told q.new ≡ Q.told q.old }
+    ensures tells { Tells (settings.assigning kind (tree_of target.now) (tree_of value.now) (Q.told q.old)) notes.old notes.new result }
+{
+    let at = subscripts_of(alloc, target, q, notes)?;
+    let value = value_of(alloc, kind, value, q, notes)?;
+    Ok(set_to(target, &at, value))
+}
+
+/// What SETA, SETB or SETC does, by the type of its SET symbol. The operand of SETB is a logical expression, whose
+/// parentheses are its own: it may stand without.
+pub fn assign<Q: Lookups>(
+    alloc: Global,
+    kind: SetKind,
+    label: &str,
+    field: &str,
+    q: &mut Q,
+    notes: &mut Notes,
+) -> Result<Act, Stop>
+    ensures told { Q.told q.new ≡ Q.told q.old }
+    ensures tells { settings.Assigns kind (chars label.now) (chars field.now) (Q.told q.old) notes.old notes.new result }
+{
+    match read_setting(alloc, kind, label, field) {
+        Ok(read) => match assigned(alloc, kind, &read.target, &read.value, q, notes) {
+            Ok(act) => Ok(act),
+            Err(stop) => Err(stop),
+        },
+        Err(SyntaxFault::At(at)) => match refused(alloc, at, notes) {
+            Ok(act) => Ok(act),
+            Err(stop) => Err(stop),
+        },
+        Err(SyntaxFault::OutOfMemory) => Err(Stop::OutOfMemory),
+    }
+}
