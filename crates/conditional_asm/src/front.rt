@@ -8,11 +8,10 @@ ghost use Rattle.conditional_asm.specs.Fronts as fronts;
 ghost use Rattle.conditional_asm.specs.Tries.{IsTried, IsFront};
 
 use crate::character::{character_count, short_count};
-use crate::logic_stand_in::parse_logic;
 use expression_grammar::laws::one_tree;
 use hl_base::OutOfMemory;
 use hlasm_statements::split_columns;
-use operand_grammar::{Expr, Reference, SyntaxFault, parse_arith};
+use operand_grammar::{Expr, Reference, SyntaxFault, parse_arith, parse_logic};
 use std::alloc::Global;
 
 /// What a text is to begin with.

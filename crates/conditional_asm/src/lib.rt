@@ -22,7 +22,6 @@ mod declaring;
 mod ending;
 mod front;
 mod generating;
-mod logic_stand_in;
 mod message;
 mod place;
 mod processing;

@@ -12,13 +12,12 @@ use crate::act::Act;
 use crate::character::{begins_with, character_count};
 use crate::declaring::refused;
 use crate::front::{Sought, reach};
-use crate::logic_stand_in::parse_logic;
 use crate::place::fault_at;
 use crate::template::symbol;
 use cond_expr::evaluate::{number, numbers, text};
 use cond_expr::{Lookups, Numbers, Stop};
 use hl_base::{Notes, SetKind, SetValue};
-use operand_grammar::{Expr, SyntaxFault, parse_arith, parse_char};
+use operand_grammar::{Expr, SyntaxFault, parse_arith, parse_char, parse_logic};
 use std::alloc::Global;
 
 /// The SET symbol that gets a value, and the value, as they are written.
