@@ -2,11 +2,11 @@
 //!
 //! It knows nothing of operations, symbols or values. Its contracts: the operands of a field are the texts between its
 //! commas outside quotes and parentheses, and those of a sublist the texts between its own (`split_operands`,
-//! `split_sublist`). `parse_arith`, `parse_char` and `parse_ordinary` give the tree of an expression, or `At(n)`, the
-//! length of the longest prefix of the text that some expression of at most `MOST_PARTS` terms, operators and pairs of
-//! parentheses begins with; a text has one tree (module `laws`). It follows the HLASM Language Reference SC26-4940,
-//! "Operand entry", "Sublists in operands", "Arithmetic (SETA) expressions", "Character (SETC) expressions" and
-//! "Expressions"; the grammar of expressions stands in docs/EXPRESSIONS.md.
+//! `split_sublist`). `parse_arith`, `parse_logic`, `parse_char` and `parse_ordinary` give the tree of an expression, or
+//! `At(n)`, the length of the longest prefix of the text that some expression of at most `MOST_PARTS` terms, operators and
+//! pairs of parentheses begins with; a text has one tree (module `laws`). It follows the HLASM Language Reference
+//! SC26-4940, "Operand entry", "Sublists in operands", "Arithmetic (SETA) expressions", "Logical (SETB) expressions",
+//! "Character (SETC) expressions" and "Expressions"; the grammar of expressions stands in docs/EXPRESSIONS.md.
 #![tactic(auto)]
 
 pub mod laws;
