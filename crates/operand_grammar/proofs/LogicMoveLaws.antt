@@ -19,13 +19,17 @@ use Rattle.operand_grammar.specs.declared.text_point.TextPoint.{TextPoint}
 use Rattle.operand_grammar.specs.declared.text_point.TextPoint.TheVariants as text
 use Rattle.operand_grammar.specs.declared.text_point.Holder.{Holder}
 use Rattle.operand_grammar.specs.declared.text_point.Holder.TheVariants as holder
+use Rattle.expression_grammar.specs.declared.reader.Moved.{Moved}
 use Rattle.operand_grammar.specs.declared.logic_point.LogicMoved.{LogicMoved}
+use Rattle.operand_grammar.specs.declared.logic_point.LogicPoint.TheVariants as logic_point
+use Rattle.operand_grammar.specs.declared.logic_point.Opening.{Opening}
 use Rattle.expression_grammar.specs.declared.tree.Expr.{Expr}
 use Rattle.expression_grammar.specs.declared.tree.Operator.{Operator}
 use Rattle.expression_grammar.specs.Characters.{kind_of, strength}
 use Rattle.expression_grammar.specs.Spelling.{Placed, is_figure, most_parts}
 use Rattle.expression_grammar.specs.Parts.{after, after_figures, after_quote, after_property, after_named, close_figures, finish, has_room, lengthen, symbol_at}
-use Rattle.expression_grammar.specs.Trees.{Tree, Items, NoItems, NoTrees, Quoted, size}
+use Rattle.expression_grammar.specs.Trees.{Tree, Items, NoItems, NoTrees, Paren, Quoted, size}
+use Rattle.expression_grammar.specs.Moves.{Moves}
 use Rattle.expression_grammar.specs.Reading as reading
 use Rattle.expression_grammar.specs.Reading.{Layer, State, Have, Within, Folded, fold, closed, behind, moved, ended, settled, whole, step, accept, weight, layers_size}
 use Rattle.expression_grammar.specs.Stacks.{stack_of, stand}
@@ -34,8 +38,8 @@ use Rattle.operand_grammar.specs.TextReading as texts
 use Rattle.operand_grammar.specs.TextReading.{TextState, text_step, text_accept, text_weight, after_part}
 use Rattle.operand_grammar.specs.TextViews.{text_state, holder_of, left_of, opened_of}
 use Rattle.operand_grammar.specs.LogicReading as logic
-use Rattle.operand_grammar.specs.LogicReading.{Open, LogicState, Against, Operand, NumberOne, TruthOne, TextOne, number_side, text_side, on_number, on_text, behind_one, point_step, against_size, text_against_size, open_size, grouped, pushed, logic_fold, LogicFolded, at_point, logic_step, logic_weight, logic_kept, logic_advance}
-use Rattle.operand_grammar.specs.LogicViews.{LogicMoves, ends_number, closes_number, takes_letter, part_takes_letter, may_end_text, text_takes_letter, operand_weight, point_of}
+use Rattle.operand_grammar.specs.LogicReading.{Open, LogicState, Against, Operand, NumberOne, TruthOne, TextOne, number_side, text_side, on_number, on_text, behind_one, point_step, against_size, text_against_size, open_size, grouped, pushed, logic_fold, whole_over, LogicFolded, at_point, logic_step, logic_weight, logic_kept, logic_advance}
+use Rattle.operand_grammar.specs.LogicViews.{LogicMoves, ends_number, closes_number, takes_letter, part_takes_letter, may_end_text, text_takes_letter, operand_weight, point_of, opening_of, open_of}
 use Rattle.expression_grammar.proofs.CharacterLaws.{digit-kind}
 use Rattle.expression_grammar.proofs.Completions.{if-true}
 use Rattle.expression_grammar.proofs.Folds.{fold-size}
@@ -148,7 +152,7 @@ pub within_number : (against : Option Against) (at : Point) (ls : List Layer) (t
     point_step (logic.Number against (stand at ls) touch) p layers ≡ on_number against (step Arithmetic (stand at ls) p) None false p layers
 within_number against at ls touch p layers n =
     let go : (found : Option State) → step Arithmetic (stand at ls) p ≡ found →
-        on_number against found (option_map (number_side against) (accept Arithmetic (stand at ls))) touch p layers ≡ on_number against found None false p layers =
+    on_number against found (option_map (number_side against) (accept Arithmetic (stand at ls))) touch p layers ≡ on_number against found None false p layers =
     elim [
       | None ↦ λ e. stays-within against at ls touch p layers (kind_of p.code) (accept Arithmetic (stand at ls)) refl refl n e
       | Some next ↦ λ e. refl
@@ -364,7 +368,7 @@ pub within_text : (against : Option Against) (at : TextPoint) (touch : Bool) (p 
     point_step (logic.Text against (text_state at) touch) p layers ≡ on_text against (text_step (text_state at) p) None false p layers
 within_text against at touch p layers n =
     let go : (found : Option TextState) → text_step (text_state at) p ≡ found →
-        on_text against found (option_map (text_side against) (text_accept (text_state at))) touch p layers ≡ on_text against found None false p layers =
+    on_text against found (option_map (text_side against) (text_accept (text_state at))) touch p layers ≡ on_text against found None false p layers =
     elim [
       | None ↦ λ e. stays-text against at touch p layers (kind_of p.code) (text_accept (text_state at)) refl n e
       | Some next ↦ λ e. refl
@@ -387,6 +391,96 @@ behind_text against at tree touch p layers n a =
     let may = and-second (is_some (text_accept (text_state at))) (may_end_text at (kind_of p.code)) n in
     ap (λ x. on_text against x (option_map (text_side against) (text_accept (text_state at))) touch p layers) (text-stops at p whole_here may)
     ∙ ap (λ x. logic.behind (option_map (text_side against) x) touch p layers) a
+
+-- An N and an apostrophe.
+
+and-then-some : (found : Option State) → option_and_then (λ next. reading.run Arithmetic next []) found ≡ found
+and-then-some None = refl
+and-then-some (Some next) = refl
+
+attribute-run : (first p : Placed) (state : State) → step Arithmetic (reading.Want []) first ≡ Some state → reading.run Arithmetic (reading.Want []) (first ∷ p ∷ []) ≡ step Arithmetic state p
+attribute-run first p state e = ap (option_and_then (λ next. reading.run Arithmetic next (p ∷ []))) e ∙ and-then-some (step Arithmetic state p)
+
+pub attribute_none : (first p : Placed) (layers : List Open) → step Arithmetic (reading.Want []) first ≡ None → logic.after_first first kind.Quote p layers ≡ None
+attribute_none first p layers e = ap (λ x. on_number None x None false p layers) (ap (option_and_then (λ next. reading.run Arithmetic next (p ∷ []))) e)
+
+pub attribute_moves : (first p : Placed) (state : State) (more : ℕ) (found : Option LogicMoved) (layers : List Open) → step Arithmetic (reading.Want []) first ≡ Some state → weight state ≡ 1 + more →
+    LogicMoves (on_number None (step Arithmetic state p) None false p layers) (open_size layers + (against_size None + weight state)) found layers →
+    LogicMoves (logic.after_first first kind.Quote p layers) (open_size layers + 1 + more) found layers
+attribute_moves first p state more found layers e w m =
+    LogicMoves-same (logic.after_first first kind.Quote p layers) (on_number None (step Arithmetic state p) None false p layers) (open_size layers + 1 + more) (open_size layers + (against_size None + weight state)) found layers
+    (ap (λ x. on_number None x None false p layers) (attribute-run first p state e)) (omega arith) m
+
+pub more_moves : (found : Option LogicState) (before more : ℕ) (moved next : LogicMoved) (layers : List Open) → LogicMoves found (before + more) (Some moved) layers → next.point ≡ moved.point →
+    next.more ≡ more + moved.more → LogicMoves found before (Some next) layers
+more_moves found before more moved next layers m p n =
+    (m.0 ∙ ap (λ x. Some (at_point layers (point_of x))) (sym p), ap (λ x. logic_weight (at_point layers (point_of x))) p ∙ m.1 ∙ (let total = n in omega arith))
+
+-- a stack with something open leaves no whole truth
+open-over : (tree : Tree) (items : List Opening) (top : Open) (below : List Open) → whole_over tree (open_of items (top ∷ below)) ≡ None
+open-over tree [] top below = refl
+open-over tree (one ∷ items) top below = open-over tree items (opening_of one) (top ∷ below)
+
+pub open_truth : (tree : Tree) (items : List Opening) (folded : LogicFolded) → folded ≡ record { tree = tree; layers = open_of items [] } → (items ≡ [] → ⊥) → whole_over folded.tree folded.layers ≡ None
+open_truth tree [] folded e h = absurd (h refl)
+open_truth tree (one ∷ items) folded e h = ap (λ (f : LogicFolded). whole_over f.tree f.layers) e ∙ open-over tree items (opening_of one) []
+
+letter-moved : (first : Placed) (letter : Moved) (empty : List Pending) (above : List Layer) (found : Option Moved) → empty ≡ [] →
+    Moves (step Arithmetic (reading.Want (stack_of empty [])) first) (weight (reading.Want (stack_of empty []))) found above → found ≡ Some letter →
+    (step Arithmetic (reading.Want []) first ≡ Some (stand letter.point above)) × (weight (stand letter.point above) ≡ 1 + letter.more)
+letter-moved first letter empty above found e m s =
+    subst (λ (xs : List Pending). Moves (step Arithmetic (reading.Want (stack_of xs [])) first) (weight (reading.Want (stack_of xs []))) (Some letter) above) e
+    (subst (λ (o : Option Moved). Moves (step Arithmetic (reading.Want (stack_of empty [])) first) (weight (reading.Want (stack_of empty []))) o above) s m)
+
+pub attribute_stops : (first p : Placed) (letter : Moved) (empty : List Pending) (above : List Layer) (found : Option Moved) (next : Option LogicMoved) (layers : List Open) → empty ≡ [] →
+    Moves (step Arithmetic (reading.Want (stack_of empty [])) first) (weight (reading.Want (stack_of empty []))) found above → found ≡ Some letter →
+    ((all : List Open) → LogicMoves (on_number None (step Arithmetic (stand letter.point above) p) None false p all) (open_size all + (against_size None + weight (stand letter.point above))) next all) →
+    next ≡ None → logic.after_first first kind.Quote p layers ≡ None
+attribute_stops first p letter empty above found next layers e m s n o =
+    let l = letter-moved first letter empty above found e m s in
+    attribute_moves first p (stand letter.point above) letter.more None layers l.0 l.1
+    (subst (λ (x : Option LogicMoved). LogicMoves (on_number None (step Arithmetic (stand letter.point above) p) None false p layers) (open_size layers + (against_size None + weight (stand letter.point above))) x layers) o (n layers))
+
+pub attribute_goes_on : (first p : Placed) (letter : Moved) (empty : List Pending) (above : List Layer) (found : Option Moved) (next : Option LogicMoved) (one : LogicMoved) (moved : Option LogicMoved) (wide : ℕ) (layers : List Open) →
+    empty ≡ [] → Moves (step Arithmetic (reading.Want (stack_of empty [])) first) (weight (reading.Want (stack_of empty []))) found above → found ≡ Some letter →
+    ((all : List Open) → LogicMoves (on_number None (step Arithmetic (stand letter.point above) p) None false p all) (open_size all + (against_size None + weight (stand letter.point above))) next all) →
+    next ≡ Some one → wide ≡ letter.more → moved ≡ Some (record { point = one.point; more = wide + one.more }) → LogicMoves (logic.after_first first kind.Quote p layers) (open_size layers + 1) moved layers
+attribute_goes_on first p letter empty above found next one moved wide layers e m s n o w r =
+    let l = letter-moved first letter empty above found e m s in
+    let a : LogicMoves (logic.after_first first kind.Quote p layers) (open_size layers + 1 + letter.more) (Some one) layers =
+    attribute_moves first p (stand letter.point above) letter.more (Some one) layers l.0 l.1
+    (subst (λ (x : Option LogicMoved). LogicMoves (on_number None (step Arithmetic (stand letter.point above) p) None false p layers) (open_size layers + (against_size None + weight (stand letter.point above))) x layers) o (n layers)) in
+    subst (λ (x : Option LogicMoved). LogicMoves (logic.after_first first kind.Quote p layers) (open_size layers + 1) x layers) (sym r)
+    (more_moves (logic.after_first first kind.Quote p layers) (open_size layers + 1) letter.more one (record { point = one.point; more = wide + one.more }) layers a refl (ap (λ n. n + one.more) w))
+
+-- Behind a number in parentheses.
+
+quoted-step : (inner : Tree) (p : Placed) → kind_of p.code ≡ kind.Quote → text_step (texts.WantQuote None inner) p ≡ Some (texts.Inside (record { left = None; factor = Some inner }) NoItems [])
+unfolding text_step
+quoted-step inner p k = ap (texts.begin_quoted None inner) k
+
+pub factor_moves : (inner : Tree) (text : TextPoint) (touch : Bool) (p : Placed) (layers : List Open) (moved : Option LogicMoved) → kind_of p.code ≡ kind.Quote →
+    text_state text ≡ texts.Inside (record { left = None; factor = Some inner }) NoItems [] → touch ≡ is_symbol_character p.code → moved ≡ Some (record { point = logic_point.Text None text touch; more = 3 }) →
+    LogicMoves (logic.after_closed inner kind.Quote p layers) (open_size layers + (1 + size inner)) moved layers
+factor_moves inner text touch p layers moved k t s e =
+    subst (λ (x : Option LogicMoved). LogicMoves (logic.after_closed inner kind.Quote p layers) (open_size layers + (1 + size inner)) x layers) (sym e) (
+      ap (λ x. on_text None x None false p layers) (quoted-step inner p k ∙ ap Some (sym t)) ∙ ap (λ b. Some (at_point layers (logic.Text None (text_state text) b))) (sym s),
+      let w : text_weight (text_state text) ≡ size inner + 2 = ap text_weight t ∙ omega arith in omega arith,
+    )
+
+accept-paren : (inner : Tree) → accept Arithmetic (Have (Paren inner) []) ≡ Some (Paren inner)
+unfolding accept
+accept-paren inner = refl
+
+closed-other : (inner : Tree) (k : Kind) (p : Placed) (layers : List Open) → (k ≡ kind.Quote → ⊥) →
+    logic.after_closed inner k p layers ≡ on_number None (step Arithmetic (Have (Paren inner) []) p) (Some (NumberOne (Paren inner))) false p layers
+closed-other inner kind.Quote p layers n = absurd (n refl)
+closed-other inner _ p layers n = refl
+
+pub closed_number : (inner : Tree) (k : Kind) (p : Placed) (layers : List Open) → (k ≡ kind.Quote → ⊥) →
+    logic.after_closed inner k p layers ≡ point_step (logic.Number None (Have (Paren inner) []) false) p layers
+closed_number inner k p layers n =
+    closed-other inner k p layers n ∙ ap (λ x. on_number None (step Arithmetic (Have (Paren inner) []) p) (option_map (number_side None) x) false p layers) (sym (accept-paren inner))
 
 -- Closing parentheses.
 

@@ -2,12 +2,12 @@
 //!
 //! A stack holds what is open, and a point stands above it, which reads numbers by the automaton of arithmetic and texts by
 //! that of character expressions. No call recurses on the text.
-ghost use Rattle.std.specs.Prelude.{◌≡◌, ℕ, ◌+◌, ◌<◌, ◌^◌, List, [], ◌∷◌, ◌&&◌, true, IfOk, IfSome, None, Some, is_some, option_map, if◌then◌else◌};
+ghost use Rattle.std.specs.Prelude.{◌≡◌, ℕ, ◌+◌, ◌<◌, ◌^◌, List, [], ◌∷◌, ◌&&◌, ◌==◌, true, false, IfOk, IfSome, None, Some, is_some, option_map, if◌then◌else◌};
 ghost use Rattle.std.specs.Char.{to_ascii_uppercase};
 ghost use Rattle.expression_grammar.specs.Characters as characters;
 ghost use Rattle.expression_grammar.specs.Reading as reading;
 ghost use Rattle.expression_grammar.specs.Stacks.{stack_of, stand};
-ghost use Rattle.expression_grammar.specs.Trees.{size};
+ghost use Rattle.expression_grammar.specs.Trees.{Paren, size};
 ghost use Rattle.expression_grammar.specs.Views.{tree_of};
 ghost use Rattle.operand_grammar.specs.LogicReading as logic;
 ghost use Rattle.operand_grammar.specs.LogicViews.{LogicMoves, against_of, closes_number, ends_number, letter_of, letters_of, may_end_text, open_of, operand_of, part_takes_letter, point_of, text_takes_letter};
@@ -197,6 +197,23 @@ fn ends_text(inner: &TextPoint, kind: Kind) -> bool
     is_whole(inner) && may_end_text(inner, kind)
 }
 
+/// A character behind a text.
+fn end_text(
+    alloc: Global,
+    against: Option<Against>,
+    tree: Expr,
+    touch: bool,
+    c: char,
+    layers: &mut Vec<Opening>,
+) -> Result<Option<LogicMoved>, OutOfMemory>
+    ensures { IfOk result (λ found. LogicMoves (logic.behind_one (logic.text_side (option_map against_of against) (tree_of tree)) touch (characters.kind_of c) c (open_of layers.old.items []))
+        (logic.open_size (open_of layers.old.items []) + (logic.text_against_size (option_map against_of against) + size (tree_of tree))) found (open_of layers.new.items [])) }
+{
+    let operand = text_side(alloc, against, tree)?;
+    let moved = behind(alloc, operand, touch, kind_of(c), c, layers)?;
+    Ok(moved)
+}
+
 /// A character within a text, or behind it.
 fn go_text(
     alloc: Global,
@@ -214,10 +231,10 @@ fn go_text(
         let found = step_text(alloc, against, inner, c, at)?;
         return Ok(found);
     }
-    match text_finish(alloc, inner)? {
+    let ended = text_finish(alloc, inner)?;
+    match ended {
         Some(tree) => {
-            let operand = text_side(alloc, against, tree)?;
-            let moved = behind(alloc, operand, touch, kind_of(c), c, layers)?;
+            let moved = end_text(alloc, against, tree, touch, c, layers)?;
             Ok(moved)
         }
         None => Ok(None),
@@ -266,15 +283,17 @@ fn begin_letter(
 }
 
 /// A character where a truth is wanted, which does not touch a word.
+#[tactic(auto, using(crate::proofs::LogicStackLaws::open_of_push))]
 fn begin_apart(
     alloc: Global,
+    kind: Kind,
     c: char,
     at: u32,
     layers: &mut Vec<Opening>,
 ) -> Result<Option<LogicMoved>, OutOfMemory>
-    ensures { IfOk result (λ found. LogicMoves (logic.truth_apart (characters.kind_of c) (record { at = at; code = c }) (open_of layers.old.items [])) (logic.open_size (open_of layers.old.items []) + 1) found (open_of layers.new.items [])) }
+    requires { kind ≡ characters.kind_of c }
+    ensures { IfOk result (λ found. LogicMoves (logic.truth_apart kind (record { at = at; code = c }) (open_of layers.old.items [])) (logic.open_size (open_of layers.old.items []) + 1) found (open_of layers.new.items [])) }
 {
-    let kind = kind_of(c);
     match kind {
         Kind::Blank => Ok(logic_moved(LogicPoint::Want(false), 0)),
         Kind::Open => {
@@ -282,8 +301,14 @@ fn begin_apart(
             Ok(logic_moved(LogicPoint::Want(false), 1))
         }
         Kind::Quote => Ok(begin_text(alloc, kind, c)),
-        Kind::Letter => begin_letter(alloc, kind, c, at),
-        _ => begin_number(alloc, None, c, at),
+        Kind::Letter => {
+            let moved = begin_letter(alloc, kind, c, at)?;
+            Ok(moved)
+        }
+        _ => {
+            let moved = begin_number(alloc, None, c, at)?;
+            Ok(moved)
+        }
     }
 }
 
@@ -300,7 +325,7 @@ fn begin_truth(
     if touch && is_symbol_character(c) {
         return Ok(None);
     }
-    begin_apart(alloc, c, at, layers)
+    begin_apart(alloc, kind_of(c), c, at, layers)
 }
 
 /// A character where the right side of a comparison is wanted.
@@ -336,10 +361,11 @@ fn begin_side(
         (logic.open_size layers + (size (tree_of against.left) + 2)) found layers) }
 {
     if is_text {
-        step_text(alloc, Some(against), TextPoint::WantPart(None), c, at)
-    } else {
-        begin_number(alloc, Some(against), c, at)
+        let text = step_text(alloc, Some(against), TextPoint::WantPart(None), c, at)?;
+        return Ok(text);
     }
+    let number = begin_number(alloc, Some(against), c, at)?;
+    Ok(number)
 }
 
 /// The apostrophe behind an N: an attribute.
@@ -371,23 +397,43 @@ fn begin_attribute(
     }
 }
 
+/// A letter behind an N where a truth was wanted, upper-cased.
+#[tactic(auto, using(crate::proofs::LogicStackLaws::open_of_push))]
+fn begin_negation(
+    letter: char,
+    layers: &mut Vec<Opening>,
+) -> Result<Option<LogicMoved>, OutOfMemory>
+    ensures { IfOk result (λ found. LogicMoves
+        (if letter == 79 then Some (logic.at_point (logic.Negation ∷ open_of layers.old.items []) (logic.Letters (84 ∷ []))) else None)
+        (logic.open_size (open_of layers.old.items []) + 1) found (open_of layers.new.items [])) }
+{
+    match letter {
+        'O' => {
+            layers.push(Opening::Negation)?;
+            Ok(logic_moved(LogicPoint::Letters(Remainder::T), 1))
+        }
+        _ => Ok(None),
+    }
+}
+
 /// A character behind an N where a truth was wanted.
 fn after_first(
     alloc: Global,
     first: char,
     place: u32,
+    kind: Kind,
     c: char,
     at: u32,
     layers: &mut Vec<Opening>,
 ) -> Result<Option<LogicMoved>, OutOfMemory>
-    ensures { IfOk result (λ found. LogicMoves (logic.after_first (record { at = place; code = first }) (characters.kind_of c) (record { at = at; code = c }) (open_of layers.old.items [])) (logic.open_size (open_of layers.old.items []) + 1) found (open_of layers.new.items [])) }
+    ensures { IfOk result (λ found. LogicMoves (logic.after_first (record { at = place; code = first }) kind (record { at = at; code = c }) (open_of layers.old.items [])) (logic.open_size (open_of layers.old.items []) + 1) found (open_of layers.new.items [])) }
 {
-    match kind_of(c) {
-        Kind::Quote => begin_attribute(alloc, first, place, c, at),
-        Kind::Letter if c.to_ascii_uppercase() == 'O' => {
-            layers.push(Opening::Negation)?;
-            Ok(logic_moved(LogicPoint::Letters(Remainder::T), 1))
+    match kind {
+        Kind::Quote => {
+            let moved = begin_attribute(alloc, first, place, c, at)?;
+            Ok(moved)
         }
+        Kind::Letter => begin_negation(c.to_ascii_uppercase(), layers),
         _ => Ok(None),
     }
 }
@@ -431,33 +477,58 @@ fn after_comparing(first: Initial, is_text: bool, left: Expr, letter: char) -> O
     logic_moved(LogicPoint::Right(is_text, against, true), 0)
 }
 
-/// A character behind a number in parentheses, which may be the duplication factor of a text.
-fn after_closed(
+/// An apostrophe behind a number in parentheses, which is the duplication factor of a text.
+fn begin_factored(alloc: Global, inner: Expr, c: char) -> Option<LogicMoved>
+    requires { characters.kind_of c ≡ Kind.Quote }
+    ensures { (at : ℕ) (layers : List logic.Open) → LogicMoves (logic.after_closed (tree_of inner) Kind.Quote (record { at = at; code = c }) layers)
+        (logic.open_size layers + (1 + size (tree_of inner))) result layers }
+{
+    let text = quotation(alloc, None, Some(inner));
+    logic_moved(LogicPoint::Text(None, text, is_symbol_character(c)), 3)
+}
+
+/// Another character there.
+fn resume_number(
     alloc: Global,
     inner: Expr,
     c: char,
     at: u32,
     layers: &mut Vec<Opening>,
 ) -> Result<Option<LogicMoved>, OutOfMemory>
-    ensures { IfOk result (λ found. LogicMoves (logic.after_closed (tree_of inner) (characters.kind_of c) (record { at = at; code = c }) (open_of layers.old.items [])) (logic.open_size (open_of layers.old.items []) + (1 + size (tree_of inner))) found (open_of layers.new.items [])) }
+    ensures { IfOk result (λ found. LogicMoves (logic.point_step (logic.Number None (reading.Have (Paren (tree_of inner)) []) false) (record { at = at; code = c }) (open_of layers.old.items []))
+        (logic.open_size (open_of layers.old.items []) + (1 + size (tree_of inner))) found (open_of layers.new.items [])) }
 {
-    match kind_of(c) {
-        Kind::Quote => {
-            let text = quotation(alloc, None, Some(inner));
-            Ok(logic_moved(LogicPoint::Text(None, text, is_symbol_character(c)), 3))
-        }
+    let tree = paren(alloc, inner)?;
+    let moved = go_number(
+        alloc,
+        None,
+        Point::Have(tree),
+        Vec::new(alloc),
+        false,
+        c,
+        at,
+        layers,
+    )?;
+    Ok(moved)
+}
+
+/// A character behind a number in parentheses, which may be the duplication factor of a text.
+fn after_closed(
+    alloc: Global,
+    inner: Expr,
+    kind: Kind,
+    c: char,
+    at: u32,
+    layers: &mut Vec<Opening>,
+) -> Result<Option<LogicMoved>, OutOfMemory>
+    requires { kind ≡ characters.kind_of c }
+    ensures { IfOk result (λ found. LogicMoves (logic.after_closed (tree_of inner) kind (record { at = at; code = c }) (open_of layers.old.items [])) (logic.open_size (open_of layers.old.items []) + (1 + size (tree_of inner))) found (open_of layers.new.items [])) }
+{
+    match kind {
+        Kind::Quote => Ok(begin_factored(alloc, inner, c)),
         _ => {
-            let tree = paren(alloc, inner)?;
-            go_number(
-                alloc,
-                None,
-                Point::Have(tree),
-                Vec::new(alloc),
-                false,
-                c,
-                at,
-                layers,
-            )
+            let moved = resume_number(alloc, inner, c, at, layers)?;
+            Ok(moved)
         }
     }
 }
@@ -474,9 +545,12 @@ pub(crate) fn logic_step(
     ensures { IfOk result (λ found. LogicMoves (logic.logic_step (logic.at_point (open_of layers.old.items []) (point_of point)) (record { at = at; code = c }))
         (logic.logic_weight (logic.at_point (open_of layers.old.items []) (point_of point))) found (open_of layers.new.items [])) }
 {
+    let kind = kind_of(c);
     match point {
         LogicPoint::Want(touch) => begin_truth(alloc, touch, c, at, layers),
-        LogicPoint::MaybeNot(first, place) => after_first(alloc, first, place, c, at, layers),
+        LogicPoint::MaybeNot(first, place) => {
+            after_first(alloc, first, place, kind, c, at, layers)
+        }
         LogicPoint::Letters(rest) => Ok(after_letters(rest, c.to_ascii_uppercase())),
         LogicPoint::Number(against, inner, stack, touch) => {
             go_number(alloc, against, inner, stack, touch, c, at, layers)
@@ -484,15 +558,16 @@ pub(crate) fn logic_step(
         LogicPoint::Text(against, inner, touch) => {
             go_text(alloc, against, inner, touch, c, at, layers)
         }
-        LogicPoint::Ended(text) => behind(alloc, Operand::Text(text), false, kind_of(c), c, layers),
+        LogicPoint::Ended(text) => behind(alloc, Operand::Text(text), false, kind, c, layers),
         LogicPoint::Comparing(first, is_text, left) => {
             Ok(after_comparing(first, is_text, left, c.to_ascii_uppercase()))
         }
         LogicPoint::Right(is_text, against, touch) => {
-            begin_right(alloc, is_text, against, touch, c, at)
+            let moved = begin_right(alloc, is_text, against, touch, c, at)?;
+            Ok(moved)
         }
-        LogicPoint::Closed(inner) => after_closed(alloc, inner, c, at, layers),
-        LogicPoint::Had(tree) => behind(alloc, Operand::Truth(tree), false, kind_of(c), c, layers),
+        LogicPoint::Closed(inner) => after_closed(alloc, inner, kind, c, at, layers),
+        LogicPoint::Had(tree) => behind(alloc, Operand::Truth(tree), false, kind, c, layers),
     }
 }
 
@@ -519,6 +594,23 @@ fn settled(alloc: Global, point: LogicPoint) -> Result<Option<Operand>, OutOfMem
     }
 }
 
+/// The tree of a text that ends behind a truth.
+fn finish_truth(
+    alloc: Global,
+    tree: Expr,
+    layers: Vec<Opening>,
+) -> Result<Option<Expr>, OutOfMemory>
+    ensures { IfOk result (λ found. option_map tree_of found ≡ logic.whole (open_of layers.items []) (tree_of tree)) }
+{
+    let mut below = layers;
+    let whole = logic_fold(alloc, 0, tree, &mut below)?;
+    if below.is_empty() {
+        Ok(Some(whole))
+    } else {
+        Ok(None)
+    }
+}
+
 /// The tree of a text that ends here.
 #[tactic(auto, unfolding(crate::specs::LogicReading::logic_accept))]
 pub(crate) fn logic_finish(
@@ -534,11 +626,6 @@ pub(crate) fn logic_finish(
     let Some(tree) = truth_of(operand) else {
         return Ok(None);
     };
-    let mut below = layers;
-    let whole = logic_fold(alloc, 0, tree, &mut below)?;
-    if below.is_empty() {
-        Ok(Some(whole))
-    } else {
-        Ok(None)
-    }
+    let found = finish_truth(alloc, tree, layers)?;
+    Ok(found)
 }

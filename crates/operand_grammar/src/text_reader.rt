@@ -12,13 +12,13 @@ ghost use Rattle.operand_grammar.specs.TextViews.{TextMoves, Settles, left_of, o
 ghost use Rattle.expression_grammar.specs.Trees.{NoItems, NoTrees, Quoted, size, size_items};
 ghost use Rattle.expression_grammar.specs.Views.{tree_of, trees_in, items_in};
 
+use crate::quoted::{Characters, with_characters, with_symbol};
+use crate::text_point::{Frame, Holder, Opened, TextPoint, built, typed, typed_name};
 use expression_grammar::character::{Grammar, Kind, kind_of};
 use expression_grammar::part::Part;
 use expression_grammar::pending::{Pending, Point, fold};
-use crate::quoted::{Characters, with_characters, with_symbol};
 use expression_grammar::reader::step;
 use expression_grammar::spelled::{LONGEST, Spelled};
-use crate::text_point::{Frame, Holder, Opened, TextPoint, built, typed, typed_name};
 use expression_grammar::tree::{Expr, Item, Operator, Symbol, quoted, substring, substring_to_end};
 use hl_base::OutOfMemory;
 use std::alloc::Global;
@@ -66,7 +66,12 @@ pub(crate) fn quotation(alloc: Global, left: Option<Expr>, factor: Option<Expr>)
 }
 
 /// A character where a part is wanted.
-pub(crate) fn begin_part(alloc: Global, left: Option<Expr>, kind: Kind, c: char) -> Option<TextMoved>
+pub(crate) fn begin_part(
+    alloc: Global,
+    left: Option<Expr>,
+    kind: Kind,
+    c: char,
+) -> Option<TextMoved>
     ensures moves { TextMoves (texts.begin_part (left_of left) kind c) (texts.left_size (left_of left) + 1) result }
     ensures small { IfSome result (λ moved. moved.more ≤ 2) }
 {
