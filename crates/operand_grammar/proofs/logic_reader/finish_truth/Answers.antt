@@ -6,8 +6,8 @@ use Rattle.operand_grammar.specs.LogicViews.{open_of}
 use Rattle.operand_grammar.proofs.LogicMoveLaws.{open_truth}
 use Rattle.operand_grammar.proofs.logic_reader.finish_truth.Goals as goal
 
-pub returns-else-is_empty : goal.returns-else-is_empty
-returns-else-is_empty c =
+pub returns : goal.returns
+returns c =
     let some : 0 < length c.logic_fold.new.stack.items = grind (arith, nat_tests) in
     sym (open_truth (tree_of c.in_ok-whole.whole) c.logic_fold.new.stack.items (logic_fold 0 (tree_of c.args.tree) (open_of c.args.layers.items [])) c.in_ok-whole.ensures
     (λ e. let none : length c.logic_fold.new.stack.items ≡ 0 = ap length e in absurd (omega arith)))

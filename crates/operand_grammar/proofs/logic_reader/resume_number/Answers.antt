@@ -1,4 +1,4 @@
-use Rattle.std.proofs.Common.{◌≡◌, ◌+◌, List, [], ap, subst, arith}
+use Rattle.std.proofs.Common.{◌≡◌, ◌+◌, List, [], refl, subst, arith}
 use Rattle.std.specs.Prelude.{None, false}
 use Rattle.expression_grammar.specs.declared.pending.Pending.{Pending}
 use Rattle.expression_grammar.specs.Reading.{State, Have, layers_size}
@@ -9,6 +9,7 @@ use Rattle.expression_grammar.specs.Views.{tree_of}
 use Rattle.operand_grammar.specs.LogicReading as logic
 use Rattle.operand_grammar.specs.LogicReading.{Open, point_step, open_size}
 use Rattle.operand_grammar.specs.LogicViews.{LogicMoves, open_of}
+use Rattle.operand_grammar.proofs.LogicMoveLaws.{LogicMoves-same}
 use Rattle.operand_grammar.proofs.logic_reader.resume_number.Goals as goal
 
 pub returns : goal.returns
@@ -19,4 +20,7 @@ returns c =
     let m : LogicMoves (point_step (logic.Number None (Have (tree_of c.in_ok-tree.tree) []) false) p old) (open_size old + (0 + (0 + size (tree_of c.in_ok-tree.tree)))) c.in_ok-moved.moved new =
     subst (λ (xs : List Pending). LogicMoves (point_step (logic.Number None (Have (tree_of c.in_ok-tree.tree) (stack_of xs [])) false) p old)
     (open_size old + (0 + (layers_size (stack_of xs []) + size (tree_of c.in_ok-tree.tree)))) c.in_ok-moved.moved new) c.new.ensures.items c.in_ok-moved.ensures in
-    subst (λ (t : Tree). LogicMoves (point_step (logic.Number None (Have t []) false) p old) (open_size old + (0 + (0 + size t))) c.in_ok-moved.moved new) c.in_ok-tree.ensures m
+    let n : LogicMoves (point_step (logic.Number None (Have (Paren (tree_of c.args.inner)) []) false) p old) (open_size old + (0 + (0 + (1 + size (tree_of c.args.inner))))) c.in_ok-moved.moved new =
+    subst (λ (t : Tree). LogicMoves (point_step (logic.Number None (Have t []) false) p old) (open_size old + (0 + (0 + size t))) c.in_ok-moved.moved new) c.in_ok-tree.ensures m in
+    LogicMoves-same (point_step (logic.Number None (Have (Paren (tree_of c.args.inner)) []) false) p old) (point_step (logic.Number None (Have (Paren (tree_of c.args.inner)) []) false) p old)
+    (open_size old + (1 + size (tree_of c.args.inner))) (open_size old + (0 + (0 + (1 + size (tree_of c.args.inner))))) c.in_ok-moved.moved new refl (omega arith) n
