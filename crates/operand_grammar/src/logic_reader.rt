@@ -605,10 +605,9 @@ fn finish_truth(
     let mut below = layers;
     let whole = logic_fold(alloc, 0, tree, &mut below)?;
     if below.is_empty() {
-        Ok(Some(whole))
-    } else {
-        Ok(None)
+        return Ok(Some(whole));
     }
+    Ok(None)
 }
 
 /// The tree of a text that ends here.
