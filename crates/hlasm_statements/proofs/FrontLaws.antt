@@ -11,11 +11,11 @@ use Rattle.hlasm_statements.proofs.ListLaws.{prefix_len-pass, prefix_len-stop}
 use Rattle.hlasm_statements.proofs.CharLaws.{ascii-front, ascii-back}
 use Rattle.hlasm_statements.proofs.ByteLaws.{blank_small, ascii_parts}
 
-ascii-cons : (b : ℕ) (bs : List ℕ) → b < 128 → IsAscii bs → IsAscii (b ∷ bs)
+pub ascii-cons : (b : ℕ) (bs : List ℕ) → b < 128 → IsAscii bs → IsAscii (b ∷ bs)
 ascii-cons b bs small all zero = small
 ascii-cons b bs small all (suc i) = all i
 
-ascii-nil : IsAscii []
+pub ascii-nil : IsAscii []
 ascii-nil i = omega arith
 
 -- what passes a test that only ASCII bytes pass

@@ -13,3 +13,4 @@ pub mod BuildLaws
 pub mod StatementLaws
 pub mod GroupsLaws
 pub mod FrontLaws
+pub mod FrontFieldLaws

@@ -154,7 +154,7 @@ goes-ended alternate keeps remarks before line column count c text tail other pa
     ∙ ap (operand_field alternate keeps remarks before) (append_assoc (placed line column front) (placed line at (c ∷ back)) tail)
     ∙ front-ended alternate keeps remarks before line column at c front back tail other passes ends
 
-goes-scanned : (alternate keeps : Bool) (remarks : Option ℕ) (before : List ℕ) (stage : Stage) (line column : ℕ) (text : List ℕ) (scan : Scan) (tail : List Placed) → is_remark remarks line ≡ false → 0 < length text → IsScan keeps before text scan
+goes-scanned : (alternate keeps : Bool) (remarks : Option ℕ) (before : List ℕ) (stage : Stage) (line column : ℕ) (text : List ℕ) (scan : Scan) (tail : List Placed) → is_remark remarks line ≡ false → 0 < length text → IsScan alternate keeps before text scan
     → (ended : Bool) → EndsAt ended keeps scan.count (reverse (take scan.count text) ++ before) text
     → Goes alternate keeps remarks before (cond ended (cond (alternate && scan.ends_in_comma) (Remarks line) Done) (cond (nat_lt 0 scan.count) Operands stage)) line column (take scan.count text) text tail
 goes-scanned alternate keeps remarks before stage line column text scan tail other some is false all =
@@ -194,11 +194,11 @@ pub record Scanned (old new : Reader) (alternate : Bool) (line column : ℕ) (te
   pub comma : new.ends_in_comma ≡ scan.ends_in_comma
 
 -- a scan that is not over leaves a stage that is not done
-over_done : (alternate ended comma more : Bool) (s : Stage) (line : ℕ) → is_done (cond ended (cond (alternate && comma) (Remarks line) Done) (cond more Operands s)) ≡ false → (ended && not comma) ≡ false
+over_done : (alternate ended comma more : Bool) (s : Stage) (line : ℕ) → is_done (cond ended (cond (alternate && comma) (Remarks line) Done) (cond more Operands s)) ≡ false → (ended && not (alternate && comma)) ≡ false
 over_done alternate false comma more s line h = refl
-over_done alternate true true more s line h = refl
+over_done true true true more s line h = refl
 over_done true true false more s line h = absurd (true≢false h)
-over_done false true false more s line h = absurd (true≢false h)
+over_done false true comma more s line h = absurd (true≢false h)
 
 past_open : (s : Stage) (line : ℕ) → is_past s line ≡ false → is_done s ≡ false
 past_open Label line h = refl
@@ -209,7 +209,7 @@ past_open Operands line h = refl
 past_open (Remarks remarks) line h = refl
 past_open Done line h = absurd (true≢false h)
 
-operands-on : (old new : Reader) (alternate : Bool) (line column c : ℕ) (cs : List ℕ) (scan : Scan) → precedes old.stage (is_blank c) ≡ false → is_past old.stage line ≡ false → Scans old (c ∷ cs) scan → Scanned old new alternate line column (c ∷ cs) scan
+operands-on : (old new : Reader) (alternate : Bool) (line column c : ℕ) (cs : List ℕ) (scan : Scan) → precedes old.stage (is_blank c) ≡ false → is_past old.stage line ≡ false → Scans alternate old (c ∷ cs) scan → Scanned old new alternate line column (c ∷ cs) scan
     → ReadsOn old new alternate (placed line column (c ∷ cs))
 operands-on old new alternate line column c cs scan at past scans is source read =
     let text = c ∷ cs in
@@ -218,8 +218,8 @@ operands-on old new alternate line column c cs scan at past scans is source read
     let before = backwards read.operands in
     let before_is : backwards read.operands ≡ reverse old.operands = ap reverse (sym read.operands_text) in
     let B : List ℕ → Type 0 = λ b. IsBehind old.nesting b in
-    let S : List ℕ → Type 0 = λ b. IsScan (keeps_groups old.op) b text scan in
-    let scanned : IsScan (keeps_groups old.op) before text scan =
+    let S : List ℕ → Type 0 = λ b. IsScan alternate (keeps_groups old.op) b text scan in
+    let scanned : IsScan alternate (keeps_groups old.op) before text scan =
     subst S (sym before_is) (scans (subst B before_is (read.nesting (past_open old.stage line past))) (read.comma ∙ ap (λ b. slice_index b 0 == 44) before_is)) in
     let field : in_field old.stage ≡ true = (enters alternate true before old.stage line column c cs [] at past).2 in
     let other = (enters alternate true before old.stage line column c cs [] at past).1 in
@@ -239,8 +239,8 @@ operands-on old new alternate line column c cs scan at past scans is source read
     (λ tail.
     let keeps = keeps_groups (text_of (op_after old.stage read.op (more ++ tail))) in
     let kept : keeps_groups old.op ≡ keeps = ap keeps_groups (read.op_text ∙ ap text_of (sym (op-field old.stage read.op (more ++ tail) field))) in
-    let K : Bool → Type 0 = λ k. IsScan k before text scan in
-    let told : IsScan keeps before text scan = subst K kept scanned in
+    let K : Bool → Type 0 = λ k. IsScan alternate k before text scan in
+    let told : IsScan alternate keeps before text scan = subst K kept scanned in
     ap (λ b. (read.operands ++ placed line column front) ++ rest_after alternate keeps b new.stage tail) behind
     ∙ ap (λ s. (read.operands ++ placed line column front) ++ rest_after alternate keeps (reverse front ++ before) s tail) is.stage
     ∙ append_assoc read.operands (placed line column front) (rest_after alternate keeps (reverse front ++ before) (stage_scanned alternate old.stage scan line) tail)
@@ -248,7 +248,7 @@ operands-on old new alternate line column c cs scan at past scans is source read
     ∙ goes_is alternate keeps (remarks_of old.stage) before (stage_scanned alternate old.stage scan line) line column front text tail
     (goes-scanned alternate keeps (remarks_of old.stage) before old.stage line column text scan tail other (omega arith) told scan.is_ended told.ends))))
 
-pub read-scanned : (old new : Reader) (alternate : Bool) (line column : ℕ) (text : List ℕ) (scan : Scan) → is_before_operands old.stage text ≡ false → is_past old.stage line ≡ false → 0 < length text → Scans old text scan → Scanned old new alternate line column text scan
+pub read-scanned : (old new : Reader) (alternate : Bool) (line column : ℕ) (text : List ℕ) (scan : Scan) → is_before_operands old.stage text ≡ false → is_past old.stage line ≡ false → 0 < length text → Scans alternate old text scan → Scanned old new alternate line column text scan
     → ReadsOn old new alternate (placed line column text)
 read-scanned old new alternate line column [] scan at past some scans is = absurd (omega arith)
 read-scanned old new alternate line column (c ∷ cs) scan at past some scans is = operands-on old new alternate line column c cs scan at past scans is

@@ -38,8 +38,8 @@ scanning-more keeps before cs c nesting next comma ends is on read comma_is =
     }
 
 -- a scan that is at its end
-pub scanned-whole : (keeps : Bool) (before text : List ℕ) (scan : Scan) → IsScanning keeps before text scan.nesting scan.ends_in_comma → scan.count ≡ length text → scan.is_ended ≡ false → IsScan keeps before text scan
-scanned-whole keeps before text scan is count ended =
+pub scanned-whole : (alternate keeps : Bool) (before text : List ℕ) (scan : Scan) → IsScanning keeps before text scan.nesting scan.ends_in_comma → scan.count ≡ length text → scan.is_ended ≡ false → IsScan alternate keeps before text scan
+scanned-whole alternate keeps before text scan is count ended =
     let whole : take scan.count text ≡ text = take_all scan.count text (omega (arith, count)) in
     let P : List ℕ → Type 0 = λ front. Passes keeps before front in
     let Q : List ℕ → Type 0 = λ front. IsBehind scan.nesting (reverse front ++ before) in
@@ -51,9 +51,9 @@ scanned-whole keeps before text scan is count ended =
       comma = is.comma ∙ ap (λ front. slice_index (reverse front ++ before) 0 == 44) (sym whole);
     }
 
-pub scanned-ended : (keeps : Bool) (before text front : List ℕ) (c : ℕ) (scan : Scan) → IsScanning keeps before front scan.nesting scan.ends_in_comma → front ≡ take scan.count text → scan.is_ended ≡ true
-    → scan.count < length text → c ≡ get_or text scan.count c → (is_blank c && ends_field keeps c (reverse front ++ before)) ≡ true → IsScan keeps before text scan
-scanned-ended keeps before text front c scan is whole ended within item ends =
+pub scanned-ended : (alternate keeps : Bool) (before text front : List ℕ) (c : ℕ) (scan : Scan) → IsScanning keeps before front scan.nesting scan.ends_in_comma → front ≡ take scan.count text → scan.is_ended ≡ true
+    → scan.count < length text → c ≡ get_or text scan.count c → (is_blank c && ends_field keeps c (reverse front ++ before)) ≡ true → IsScan alternate keeps before text scan
+scanned-ended alternate keeps before text front c scan is whole ended within item ends =
     let P : List ℕ → Type 0 = λ front. Passes keeps before front in
     let Q : List ℕ → Type 0 = λ front. IsBehind scan.nesting (reverse front ++ before) in
     let E : List ℕ → Type 0 = λ front. (is_blank c && ends_field keeps c (reverse front ++ before)) ≡ true in

@@ -1,8 +1,8 @@
 -- What the reader of a source keeps of the characters so far. This project.
 use Rattle.std.specs.Prelude.{◌≡◌, ℕ, ◌+◌, ◌-◌, not, ◌<◌, ◌≤◌, ⊤, Bool, true, false, ◌&&◌, ◌==◌, List, [], ◌∷◌, ◌++◌, Some, None, take, drop, take_while, nat_lt, length, slice_index, slice_index_or, reverse, map, chars, if◌then◌else◌}
-use Rattle.std.specs.List.{prefix_len}
+use Rattle.std.specs.List.{list_all}
 use Rattle.std.specs.Borrow.{Bor}
-use Rattle.hl_base.specs.Quoting.{IsBehind}
+use Rattle.hl_base.specs.Quoting.{IsBehind, is_quoted, depth}
 use Rattle.hlasm_statements.specs.declared.statement.Shape.{Shape}
 use Rattle.hlasm_statements.specs.declared.statement.Shape.TheVariants.{Plain, Comment, InnerComment}
 use Rattle.hlasm_statements.specs.declared.reader.Stage.{Stage}
@@ -10,6 +10,8 @@ use Rattle.hlasm_statements.specs.declared.reader.Stage.TheVariants.{Label, Gap,
 use Rattle.hlasm_statements.specs.declared.reader.Reader.{Reader}
 use Rattle.hlasm_statements.specs.declared.reader.Scan.{Scan}
 use Rattle.hlasm_statements.specs.declared.column.Front.{Front}
+use Rattle.hlasm_statements.specs.declared.front_field.Sight.{Sight}
+use Rattle.hlasm_statements.specs.declared.front_field.FrontField.{FrontField}
 use Rattle.hlasm_statements.specs.Columns.{Placed, placed, continued, is_blank, is_ink, text_of, places_of}
 use Rattle.hlasm_statements.specs.Shape.{skip_while, label_of, operation_of}
 use Rattle.hlasm_statements.specs.Fields.{keeps_groups, ends_field, operand_field, operands_of}
@@ -131,21 +133,15 @@ pub record IsFront (front : Front) (size : ℕ) (whole : List ℕ) : Type 0 wher
 abbrev pub is_ascii_ink : ℕ → Bool
 is_ascii_ink b = nat_lt b 128 && not (is_blank b)
 
--- and no apostrophe
-abbrev pub is_simple : ℕ → Bool
-is_simple b = is_ascii_ink b && not (b == 39)
+-- whether a byte is ASCII and stands behind the parentheses there, so that it is no blank, apostrophe or parenthesis
+abbrev pub is_plain : ℕ → Bool
+is_plain b = nat_lt 41 b && nat_lt b 128
 
--- a blank stands behind so many bytes, of which the last is no comma
-abbrev pub EndsSimply : List ℕ → ℕ → Type 0
-EndsSimply bytes count =
-    (0 < count) × (count < length bytes) × (is_blank (slice_index bytes count) ≡ true) × ((slice_index bytes (count - 1) == 44) ≡ false)
-
--- the operand field begins and ends with so many bytes of these
-pub record IsSimpleScan (reader : Reader) (bytes : List ℕ) (count : ℕ) : Type 0 where
-  pub first : reader.operands ≡ []
-  pub groups : keeps_groups reader.op ≡ false
-  pub simple : count ≡ prefix_len is_simple bytes
-  pub ends : EndsSimply bytes count
+-- what is kept of the bytes of an operand field so far, the nearest first
+pub record IsSeen (sight : Sight) (before : List ℕ) : Type 0 where
+  pub quoted : (c : ℕ) → is_quoted c before ≡ sight.is_quoted
+  pub depth : sight.depth ≡ depth before
+  pub last : sight.last ≡ slice_index before 0
 
 -- these characters are read on from any source
 abbrev pub ReadsOn : (old new : Reader) (alternate : Bool) (more : List Placed) → Type 0
@@ -161,19 +157,28 @@ abbrev pub EndsAt : (ended keeps : Bool) (count : ℕ) (before : List ℕ) → L
 EndsAt false keeps count before text = count ≡ length text
 EndsAt true keeps count before text = (c : ℕ) × (count < length text) × (c ≡ slice_index_or text count c) × ((is_blank c && ends_field keeps c before) ≡ true)
 
+-- so many bytes at the front are the operand field that begins there, a blank ends it, and each is a character
+pub record IsFrontField (alternate keeps : Bool) (bytes : List ℕ) (field : FrontField) : Type 0 where
+  pub within : field.count < length bytes
+  pub ascii : list_all (λ b. nat_lt b 128) (take field.count bytes) ≡ true
+  pub passes : Passes keeps [] (take field.count bytes)
+  pub ends : (is_blank (slice_index bytes field.count) && ends_field keeps (slice_index bytes field.count) (reverse (take field.count bytes))) ≡ true
+  pub comma : field.ends_in_comma ≡ (slice_index (reverse (take field.count bytes)) 0 == 44)
+  pub over : (alternate && field.ends_in_comma) ≡ false
+
 -- so many characters go on with the operand field, and this is what they leave
-pub record IsScan (keeps : Bool) (before text : List ℕ) (scan : Scan) : Type 0 where
+pub record IsScan (alternate keeps : Bool) (before text : List ℕ) (scan : Scan) : Type 0 where
   pub passes : Passes keeps before (take scan.count text)
   pub fits : scan.count ≤ length text
   pub ends : EndsAt scan.is_ended keeps scan.count (reverse (take scan.count text) ++ before) text
-  pub nesting : (scan.is_ended && not scan.ends_in_comma) ≡ false → IsBehind scan.nesting (reverse (take scan.count text) ++ before)
+  pub nesting : (scan.is_ended && not (alternate && scan.ends_in_comma)) ≡ false → IsBehind scan.nesting (reverse (take scan.count text) ++ before)
   pub comma : scan.ends_in_comma ≡ (slice_index (reverse (take scan.count text) ++ before) 0 == 44)
 
 -- what a scan says of the characters behind those that a reader has read
-abbrev pub Scans : Reader → List ℕ → Scan → Type 0
-Scans reader text scan =
+abbrev pub Scans : (alternate : Bool) → Reader → List ℕ → Scan → Type 0
+Scans alternate reader text scan =
     IsBehind reader.nesting (reverse reader.operands) → reader.ends_in_comma ≡ (slice_index (reverse reader.operands) 0 == 44)
-    → IsScan (keeps_groups reader.op) (reverse reader.operands) text scan
+    → IsScan alternate (keeps_groups reader.op) (reverse reader.operands) text scan
 
 -- the stage that they leave, with a blank that ends the field
 abbrev pub stage_scanned : (alternate : Bool) → Stage → Scan → (line : ℕ) → Stage

@@ -196,26 +196,3 @@ fn character_count(text: &str) -> usize
 {
     text.chars().count()
 }
-
-/// How many bytes at the front are ASCII, and neither blanks nor apostrophes.
-pub fn simple_length(bytes: &[u8]) -> usize
-    ensures { result ≡ prefix_len reading.is_simple bytes.now }
-{
-    match first_unlike(bytes) {
-        Some(count) => count,
-        None => bytes.len(),
-    }
-}
-
-fn first_unlike(bytes: &[u8]) -> Option<usize>
-    ensures { result ≡ position (λ b. not (reading.is_simple b)) bytes.now }
-{
-    bytes.iter().position(|byte| !is_simple(*byte))
-}
-
-#[inline(always)]
-fn is_simple(byte: u8) -> bool
-    ensures { result ≡ reading.is_simple byte }
-{
-    is_ascii_ink(byte) && byte != b'\''
-}

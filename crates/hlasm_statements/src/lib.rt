@@ -10,6 +10,7 @@
 mod build;
 mod column;
 mod fault;
+mod front_field;
 pub mod laws;
 mod places;
 mod quotes;

@@ -7,10 +7,11 @@ ghost use Rattle.hlasm_statements.specs.Columns as columns;
 ghost use Rattle.hlasm_statements.specs.Fields as fields;
 ghost use Rattle.hlasm_statements.specs.Places.{side_by_side};
 ghost use Rattle.hlasm_statements.specs.Reading as reading;
-ghost use Rattle.hlasm_statements.specs.Reading.{EndsSimply};
+ghost use Rattle.hlasm_statements.specs.Reading.{IsFrontField};
 
 use crate::build::count_on;
-use crate::column::{Front, front_blanks, front_word, is_blank, simple_length, split_columns};
+use crate::column::{Front, front_blanks, front_word, is_blank, split_columns};
+use crate::front_field::{FrontField, front_field};
 use crate::places::Places;
 use hl_base::{Nesting, OutOfMemory, Text};
 use std::alloc::Global;
@@ -53,16 +54,6 @@ struct Scan {
     is_ended: bool,
     nesting: Nesting,
     ends_in_comma: bool,
-}
-
-/// Whether a blank stands behind so many bytes, of which the last is no comma.
-fn ends_simply(bytes: &[u8], count: usize) -> bool
-    ensures { IsTrue result → EndsSimply bytes.now count }
-{
-    if count == 0 || count >= bytes.len() {
-        return false;
-    }
-    (bytes[count] == b' ' || bytes[count] == b'\t') && bytes[count - 1] != b','
 }
 
 /// Adds characters, which stand side by side in so many columns of a line, behind a field. What an `Err` leaves is of no use.
@@ -120,7 +111,7 @@ fn precedes(stage: Stage, is_blank: bool) -> bool
 
 impl Reader {
     ghost use Rattle.hlasm_statements.specs.Columns.{placed};
-    ghost use Rattle.hlasm_statements.specs.Reading.{IsRead, ReadsOn, Scans, IsSimpleScan, is_before_operands, is_past, stage_scanned};
+    ghost use Rattle.hlasm_statements.specs.Reading.{IsRead, ReadsOn, Scans, is_before_operands, is_past, stage_scanned};
 
     /// Nothing read so far.
     pub fn new(alloc: Global) -> Reader
@@ -248,11 +239,10 @@ impl Reader {
         if self.is_past(line) {
             return Ok(());
         }
-        let scan = self.scan(part)?;
+        let (scan, field) = self.scan(alternate, part)?;
         self.stage = self.stage_scanned(alternate, &scan, line);
         self.nesting = scan.nesting;
         self.ends_in_comma = scan.ends_in_comma;
-        let (field, _) = split_columns(part, scan.count);
         add(
             &mut self.operands,
             &mut self.operand_places,
@@ -275,39 +265,42 @@ impl Reader {
         }
     }
 
-    /// How far the operand field goes in a text, where it is not past.
-    fn scan(&self, text: &str) -> Result<Scan, OutOfMemory>
-        ensures { IfOk result (λ scan. Scans self.now (chars text.now) scan) }
+    /// How far the operand field goes in a text, where it is not past, and those characters.
+    #[inline(always)]
+    fn scan<'a>(&self, alternate: bool, text: &'a str) -> Result<(Scan, &'a str), OutOfMemory>
+        ensures scan { IfOk result (λ found. Scans alternate self.now (chars text.now) found.0) }
+        ensures field { IfOk result (λ found. chars found.1.now ≡ take found.0.count (chars text.now)) }
     {
-        match self.simple_scan(text) {
-            Some(count) => Ok(Scan {
-                count,
+        if let Some(front) = self.front_field(alternate, text) {
+            let scan = Scan {
+                count: front.count,
                 is_ended: true,
                 nesting: self.nesting,
-                ends_in_comma: false,
-            }),
-            None => self.scan_characters(text),
+                ends_in_comma: front.ends_in_comma,
+            };
+            let (field, _) = text.split_at(front.count);
+            return Ok((scan, field));
         }
+        let scan = self.scan_characters(text)?;
+        let (field, _) = split_columns(text, scan.count);
+        Ok((scan, field))
     }
 
-    /// How far it goes where that is easy to see: a blank ends its first part, in which nothing is quoted, and no comma
-    /// is last.
-    fn simple_scan(&self, text: &str) -> Option<usize>
-        ensures { IfSome result (λ count. IsSimpleScan self.now text.now count) }
+    /// The operand field, where it begins and ends in a text and that is easy to see.
+    #[inline(always)]
+    fn front_field(&self, alternate: bool, text: &str) -> Option<FrontField>
+        ensures begins { IfSome result (λ field. self.now.operands ≡ []) }
+        ensures front { IfSome result (λ field. IsFrontField alternate (fields.keeps_groups self.now.op) text.now field) }
     {
-        if !self.operands.is_empty() || keeps_groups(&self.op) {
+        if !self.operands.is_empty() {
             return None;
         }
-        let count = simple_length(text.as_bytes());
-        if !ends_simply(text.as_bytes(), count) {
-            return None;
-        }
-        Some(count)
+        front_field(text.as_bytes(), keeps_groups(&self.op), alternate)
     }
 
     /// How far it goes, character by character.
     fn scan_characters(&self, text: &str) -> Result<Scan, OutOfMemory>
-        ensures { IfOk result (λ scan. Scans self.now (chars text.now) scan) }
+        ensures { IfOk result (λ scan. (alternate : Bool) → Scans alternate self.now (chars text.now) scan) }
     {
         let mut nesting = self.nesting;
         let mut ends_in_comma = self.ends_in_comma;

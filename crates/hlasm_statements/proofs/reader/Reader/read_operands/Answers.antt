@@ -22,12 +22,12 @@ returns-then-is_past c = reads-past c.args.self.now c.args.alternate c.args.line
 pub returns : goal.returns
 returns c =
     let some : 0 < length (chars c.args.part.now) = above_zero _ (sym (none-chars c.args.part.now c.utf8.part) ∙ sym c.is_empty.ensures ∙ c.if-is_empty.false) in
-    read-scanned c.args.self.now _ c.args.alternate c.args.line c.args.column (chars c.args.part.now) c.in_ok-scan.scan c.requires (sym c.is_past.ensures ∙ c.if-is_past.false) some c.in_ok-scan.ensures
+    read-scanned c.args.self.now _ c.args.alternate c.args.line c.args.column (chars c.args.part.now) c.in_ok-scan.scan c.requires (sym c.is_past.ensures ∙ c.if-is_past.false) some c.in_ok-scan.ensures.scan
     (record {
       stage = c.stage_scanned-self.ensures;
       label = refl;
       op = refl;
-      operands = c.in_ok-add.ensures.text ∙ ap (λ front. c.args.self.now.operands ++ front) c.split_columns.ensures.front;
+      operands = c.in_ok-add.ensures.text ∙ ap (λ front. c.args.self.now.operands ++ front) c.in_ok-scan.ensures.field;
       label_places = refl;
       op_places = refl;
       operand_places = c.in_ok-add.ensures.places;

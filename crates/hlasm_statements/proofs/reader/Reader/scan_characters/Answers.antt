@@ -22,7 +22,7 @@ loop-c-preserved c =
     )
 
 pub returns-then-is_end : goal.returns-then-is_end
-returns-then-is_end c = λ behind comma.
+returns-then-is_end c = λ alternate behind comma.
     let is = c.loop-c.invariant.0 behind comma in
     let text = chars c.args.text.now in
     let road = YieldsList-from_chars c.args.text.now c.utf8.text cc in
@@ -32,14 +32,14 @@ returns-then-is_end c = λ behind comma.
     let below : length c.loop-c.yielded < length text = turn.0 in
     let item : c.in-Some.c ≡ get_or text (length c.loop-c.yielded) c.in-Some.c = turn.1 in
     let within : c.loop-c.count < length text = omega (arith, below, count) in
-    scanned-ended (keeps_groups c.args.self.now.op) (reverse c.args.self.now.operands) text c.loop-c.yielded c.in-Some.c _ is
+    scanned-ended alternate (keeps_groups c.args.self.now.op) (reverse c.args.self.now.operands) text c.loop-c.yielded c.in-Some.c _ is
     (sym (map-id c.loop-c.yielded) ∙ far ∙ ap (λ n. take n text) count) refl within
     (item ∙ ap (λ n. get_or text n c.in-Some.c) count) (sym (c.is_end.ensures _ is.nesting) ∙ c.if-is_end.true)
 
 pub returns : goal.returns
-returns c = λ behind comma.
+returns c = λ alternate behind comma.
     let text = chars c.args.text.now in
     let end = YieldsList-end (YieldsList-from_chars c.args.text.now c.utf8.text cc) c.loop-c.yielded _ c.loop-c.yielded_by _ _ c.in-None.is c.next.ensures.steps in
     let all : c.loop-c.yielded ≡ text = sym (map-id c.loop-c.yielded) ∙ end.0 in
     let P : List ℕ → Type 0 = λ cs. IsScanning (keeps_groups c.args.self.now.op) (reverse c.args.self.now.operands) cs c.loop-c.nesting c.loop-c.ends_in_comma in
-    scanned-whole (keeps_groups c.args.self.now.op) (reverse c.args.self.now.operands) text _ (subst P all (c.loop-c.invariant.0 behind comma)) (omega (arith, end.1, c.loop-c.invariant.1)) refl
+    scanned-whole alternate (keeps_groups c.args.self.now.op) (reverse c.args.self.now.operands) text _ (subst P all (c.loop-c.invariant.0 behind comma)) (omega (arith, end.1, c.loop-c.invariant.1)) refl
