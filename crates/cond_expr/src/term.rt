@@ -5,8 +5,8 @@ ghost use Rattle.expression_grammar.specs.Views.{tree_of};
 ghost use Rattle.cond_expr.specs.Terms as terms;
 ghost use Rattle.cond_expr.specs.Variables as variables;
 
-use hl_base::{OutOfMemory, Text};
 use expression_grammar::laws::one_tree;
+use hl_base::{OutOfMemory, Text};
 use operand_grammar::{Expr, SyntaxFault, parse_ordinary, split_sublist};
 use std::alloc::Global;
 

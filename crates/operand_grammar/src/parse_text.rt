@@ -9,11 +9,10 @@ ghost use Rattle.operand_grammar.specs.TextViews.{text_state};
 ghost use Rattle.operand_grammar.specs.Texts.{SpellsText};
 ghost use Rattle.expression_grammar.specs.Views.{tree_of};
 
-use expression_grammar::SyntaxFault;
-use expression_grammar::MOST_PARTS;
 use crate::text_point::TextPoint;
 use crate::text_reader::{text_finish, text_step};
 use expression_grammar::tree::Expr;
+use expression_grammar::{MOST_PARTS, SyntaxFault};
 use std::alloc::Global;
 
 /// What is read of a character expression.

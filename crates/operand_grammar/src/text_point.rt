@@ -5,8 +5,8 @@ ghost use Rattle.operand_grammar.specs.TextViews.{opened_of, left_of};
 ghost use Rattle.expression_grammar.specs.Views.{tree_of, trees_in};
 ghost use Rattle.expression_grammar.specs.Trees.{NoTrees};
 
-use expression_grammar::pending::{Pending, Point};
 use crate::quoted::Characters;
+use expression_grammar::pending::{Pending, Point};
 use expression_grammar::spelled::Spelled;
 use expression_grammar::tree::{
     Attribute, Expr, Item, Reference, Symbol, duplicated, joined as joined_to, variable,
