@@ -1,23 +1,23 @@
 #!/bin/sh
 # Compares what the built parser answers with the recognizer of grammar.py, on random texts: compare.sh [COUNT [SEED [GRAMMAR]]],
-# where a grammar is arith, ordinary or char, and all where none is named.
+# where a grammar is arith, ordinary, char or logic, and all where none is named.
 # The program stands in a copy of this repository, built by rt there; nothing here is proved.
 set -eu
 top=$(cd "$(dirname "$0")/../.." && pwd)
 count=${1:-100000}
 seed=${2:-1}
-grammars=${3:-arith ordinary char}
+grammars=${3:-arith ordinary char logic}
 work=$(mktemp -d)
 trap 'rm -rf "$work"' EXIT
 cp -r "$top/crates" "$top/crates.txt" "$top/HANDLES" "$work/"
 mkdir -p "$work/crates/expressions_compare/src"
 echo 'expressions_compare: hl_base operand_grammar' >> "$work/crates.txt"
 cat > "$work/crates/expressions_compare/src/main.rt" <<'PROGRAM'
-//! Answers for each line of a file, which begins with `a`, `o` or `c` for its grammar: `read`, or how far some expression
+//! Answers for each line of a file, which begins with `a`, `o`, `c` or `l` for its grammar: `read`, or how far some expression
 //! begins so.
 #![tactic(auto)]
 
-use operand_grammar::{Expr, SyntaxFault, parse_arith, parse_char, parse_ordinary};
+use operand_grammar::{Expr, SyntaxFault, parse_arith, parse_char, parse_logic, parse_ordinary};
 use std::alloc::Global;
 use std::{env, fs, io};
 
@@ -28,8 +28,11 @@ fn read(alloc: Global, line: &str) -> Result<Expr, SyntaxFault> {
     if let Some(text) = line.strip_prefix('o') {
         return parse_ordinary(alloc, text);
     }
-    match line.strip_prefix('c') {
-        Some(text) => parse_char(alloc, text),
+    if let Some(text) = line.strip_prefix('c') {
+        return parse_char(alloc, text);
+    }
+    match line.strip_prefix('l') {
+        Some(text) => parse_logic(alloc, text),
         None => Err(SyntaxFault::OutOfMemory),
     }
 }

@@ -123,6 +123,95 @@ def character():
     return g
 
 
+EDGES = [(first, last) for first in "yn" for last in "yn"]
+
+
+def edged(name, first, last):
+    """What begins (`first`) and ends (`last`) with a symbol character (y) or with none (n)."""
+    return f"{name}_{first}{last}"
+
+
+def joined(g, name, left, right, between, behind="gap"):
+    """name is left, a gap, something between, a gap and right; blanks stand where a symbol character would touch a word."""
+    for first, touching in EDGES:
+        for touched, last in EDGES:
+            gaps = [behind if edge == "y" else "gap" for edge in (touching, touched)]
+            g.add(edged(name, first, last), [edged(left, first, touching), gaps[0]] + between + [gaps[1], edged(right, touched, last)])
+
+
+def numbers_by_edges(g):
+    """The arithmetic expressions again, by their edges."""
+    quoted = [body for body in g.rules["number"] if len(body) > 1 and isinstance(body[1], Chars) and body[1].has("'")]
+    g.add("primary_yy", *[body for body in g.rules["number"] if body not in quoted])
+    g.add("primary_yn", *quoted)
+    g.add("primary_nn", (Chars("("), "gap", "sum", "gap", Chars(")")))
+    named, subscripted = [Chars("&"), "name"], [Chars("&"), "name", Chars("("), "list", Chars(")")]
+    g.add("primary_ny", named)
+    g.add("primary_nn", subscripted)
+    for letter in "KNLD":
+        g.add("primary_yy", only(letter + "'") + named)
+        g.add("primary_yn", only(letter + "'") + subscripted)
+    for letter in "LD":
+        g.add("primary_yy", only(letter + "'") + ["name"])
+    for first, last in EDGES:
+        for name, one in (("factor", "primary"), ("product", "factor"), ("number", "product")):
+            g.add(edged(name, first, last), (edged(one, first, last),))
+        g.add(edged("factor", "n", last), (Chars("+-"), "gap", edged("factor", first, last)))
+    joined(g, "product", "product", "factor", [Chars("*/")], "gap")
+    joined(g, "number", "number", "product", [Chars("+-")], "gap")
+
+
+def texts_by_edges(g):
+    """The character expressions again, by their edges."""
+    g.add("part_nn", ("text",), (Chars("("), "arithmetic", Chars(")"), "text"))
+    g.add("part_yy", only("T'") + [Chars("&"), "name"], only("T'") + ["name"])
+    g.add("part_yn", only("T'") + [Chars("&"), "name", Chars("("), "list", Chars(")")])
+    for first, last in EDGES:
+        g.add(edged("characters", first, last), (edged("part", first, last),))
+        for middle, next_one in EDGES:
+            g.add(edged("characters", first, last), (edged("characters", first, middle), Chars("."), edged("part", next_one, last)))
+
+
+def with_texts_alone(g):
+    """Drops what has no text: no expression begins with it."""
+    live, grew = set(), True
+    while grew:
+        more = {name for name, bodies in g.rules.items() if any(all(not isinstance(s, str) or s in live for s in body) for body in bodies)}
+        grew, live = more != live, more
+    g.rules = {name: [body for body in bodies if all(not isinstance(s, str) or s in live for s in body)] for name, bodies in g.rules.items() if name in live}
+    return g
+
+
+def logical():
+    g = character()
+    g.start = "logical"
+    blank = Chars(BLANKS)
+    g.add("blanks", (blank,), (blank, "blanks"))
+    numbers_by_edges(g)
+    texts_by_edges(g)
+    for word in ("EQ", "NE", "LT", "LE", "GT", "GE"):
+        for side in ("number", "characters"):
+            joined(g, "comparison", side, side, only(word), "blanks")
+    # an arithmetic expression in parentheses is a number, and no logical expression in parentheses
+    g.add("single_nn", (Chars("("), "gap", "composed", "gap", Chars(")")))
+    for first, last in EDGES:
+        g.add(edged("single", first, last), (edged("comparison", first, last),))
+        g.add("composed", (edged("single", first, last),))
+    ranks = ["relation", "negation", "conjunction", "disjunction", "exclusion"]
+    for first, last in EDGES:
+        g.add(edged("relation", first, last), (edged("number", first, last),), (edged("single", first, last),))
+        for low, high in zip(ranks[1:], ranks):
+            g.add(edged(low, first, last), (edged(high, first, last),))
+        g.add(edged("negation", "y", last), only("NOT") + ["blanks" if first == "y" else "gap", edged("negation", first, last)])
+        g.add("composed", (edged("denied", first, last),), (edged("both", first, last),))
+        g.add(edged("denied", "y", last), only("NOT") + ["blanks" if first == "y" else "gap", edged("negation", first, last)])
+        g.add("logical", ("gap", edged("exclusion", first, last), "gap"))
+    for name, high, word in (("conjunction", "negation", "AND"), ("disjunction", "conjunction", "OR"), ("exclusion", "disjunction", "XOR")):
+        joined(g, name, name, high, only(word), "blanks")
+        joined(g, "both", name, high, only(word), "blanks")
+    return with_texts_alone(g)
+
+
 class Recognizer:
     def __init__(self, grammar):
         self.rules = [(name, body) for name, bodies in grammar.rules.items() for body in bodies]
@@ -178,4 +267,4 @@ class Recognizer:
         return None if whole else len(text)
 
 
-GRAMMARS = {"arith": Recognizer(arithmetic()), "ordinary": Recognizer(ordinary()), "char": Recognizer(character())}
+GRAMMARS = {"arith": Recognizer(arithmetic()), "ordinary": Recognizer(ordinary()), "char": Recognizer(character()), "logic": Recognizer(logical())}

@@ -75,10 +75,39 @@ def character(r, depth):
     return ".".join(part(r, depth) for _ in range(r.choice([1, 1, 2, 3])))
 
 
+def space(r):
+    return r.choice([" ", " ", " ", "", "  "])
+
+
+def relation(r, depth):
+    if r.randrange(3) == 0:
+        sides = [character(r, 0) if r.randrange(8) else expression(r, "arith", 0) for _ in range(2)]
+    else:
+        sides = [expression(r, "arith", max(depth - 1, 0)) if r.randrange(8) else quoted(r, 0) for _ in range(2)]
+    return sides[0] + space(r) + r.choice(["EQ", "NE", "lt", "LE", "Gt", "GE"]) + space(r) + sides[1]
+
+
+def truth(r, depth):
+    text = r.choice(["", "", " "])
+    for k in range(r.choice([1, 1, 2, 3])):
+        if k:
+            text += space(r) + r.choice(["AND", "OR", "XOR", "and", "Or"]) + space(r)
+        while r.randrange(5) == 0:
+            text += r.choice(["NOT", "not"]) + space(r)
+        kind = r.randrange(6)
+        if kind < 2:
+            text += relation(r, depth)
+        elif kind < 4 and depth > 0:
+            text += "(" + truth(r, depth - 1) + ")"
+        else:
+            text += term(r, "arith", 0)
+    return text + r.choice(["", "", " "])
+
+
 def changed(r, text):
     for _ in range(r.choice([0, 1, 1, 2])):
         at = r.randrange(len(text) + 1)
-        c = r.choice("()+-*/,'& 019AXBCKLNDTzé.;$")
+        c = r.choice("()+-*/,'& 019AXBCKLNDTEOQzé.;$")
         kind = r.randrange(3)
         if kind == 0:
             text = text[:at] + c + text[at:]
@@ -89,10 +118,11 @@ def changed(r, text):
     return text
 
 
-def texts(count, seed, grammars=("arith", "ordinary", "char")):
+def texts(count, seed, grammars=("arith", "ordinary", "char", "logic")):
     r = random.Random(seed)
     for _ in range(count):
         grammar = r.choice(grammars)
         depth = r.choice([0, 1, 1, 2])
-        text = character(r, depth) if grammar == "char" else expression(r, grammar, depth)
+        makers = {"char": character, "logic": truth}
+        text = makers[grammar](r, depth) if grammar in makers else expression(r, grammar, depth)
         yield grammar, changed(r, text)[:48]
