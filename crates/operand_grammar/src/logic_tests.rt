@@ -186,7 +186,7 @@ fn most_parts_of_truths(rt: HostRuntime) -> Result<(), Fail> {
         ("1 XOR ", 499, "NOT 1"),
         ("NOT ", 999, "1"),
         ("1 OR ", 498, "''EQ''"),
-        ("(1)AND", 332, "1 EQ 2"),
+        ("(1)AND", 332, "(1)EQ 2"),
     ] {
         let text = many(alloc, part, count, behind)?;
         assert!(rt; parse_logic(alloc, text.as_str()).is_ok());
