@@ -4,8 +4,6 @@ use Rattle.std.specs.Prelude.{◌==◌, slice_index, chars, IsUtf8, position, So
 use Rattle.std.specs.List.{AllByRecursion, onto_first, concat, position_or_len}
 use Rattle.std.proofs.lemmas.Bool.{eqb-true, true≢false, both_ways, or_parts, or_cases, and_parts, and_cases, cases_Bool, false_from_ne_true, lt-ltb, le-ltb}
 use Rattle.std.proofs.lemmas.Str.{IsUtf8-take, IsUtf8-drop, chars-append}
-use Rattle.std.proofs.lemmas.List.Sums.{position_or_len_is}
-use Rattle.memchr.specs.Find.{IsFirstByte}
 use Rattle.hl_base.specs.Texts.{lines, begins_crlf}
 use Rattle.hl_base.specs.Remaining as remaining
 use Rattle.hl_base.proofs.LineLaws.{IsWithin, chars-ascii, utf8_tail, first_char, within_text, within_before, within_all, cut_before_end, found_end, lines-nil, lines-cons, lines-lf, lines-cr, lines-crlf, lines-one, lines-first, lines-behind_crlf, lines-behind_end}
@@ -111,15 +109,6 @@ lines-whole (c ∷ d ∷ rest) = elim (cases_Bool (remaining.ends_line c)) [
   ]
   | inr within ↦ lines-cons c (d ∷ rest) within ∙ ap (onto_first c) (lines-whole (d ∷ rest)) ∙ sym (ap (map without_end) (whole_lines-cons c (d ∷ rest) within) ∙ map-onto_first c (whole_lines (d ∷ rest)) within)
 ]
-
--- the first place whose byte passes is the list's
-pub IsFirstByte-position : (test : ℕ → Bool) (hay : List ℕ) (r : Option ℕ) → IsFirstByte test hay r → r ≡ position test hay
-IsFirstByte-position test hay None h =
-    let whole : position_or_len test hay ≡ length hay = position_or_len_is test hay (length hay) 0 (omega arith) (λ k below. false_from_ne_true _ (h k (omega arith) below)) (λ past. absurd (omega arith)) in
-    rw (whole, le-ltb (length hay) (length hay) (omega arith)) refl
-IsFirstByte-position test hay (Some k) h =
-    let first : position_or_len test hay ≡ k = position_or_len_is test hay k 0 (omega arith) (λ j below. false_from_ne_true _ (h.0.before j (omega arith) below)) (λ _. h.1) in
-    rw (first, lt-ltb k (length hay) h.0.high) refl
 
 -- a text has a first line
 pub record IsCons (lines : List (List ℕ)) : Type 0 where

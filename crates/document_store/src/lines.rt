@@ -6,7 +6,7 @@ ghost use Rattle.hl_base.specs.Remaining.{ends_line};
 ghost use Rattle.document_store.specs.Positions.{whole_lines, line_of, last_line};
 ghost use Rattle.document_store.specs.Places.{lines_behind, line_ends};
 
-use memchr::memchr2;
+use hl_base::{end_of_line, is_crlf};
 
 /// A line of a text, without its end, and its number, counted from 0.
 #[derive(Clone, Copy)]
@@ -93,20 +93,6 @@ fn near_line(text: &str, line: u32) -> Ahead<'_>
         }
     }
     ahead
-}
-
-/// Where the first line end of a text begins, in bytes.
-fn end_of_line(text: &str) -> Option<usize>
-    ensures { result ≡ position ends_line text.now }
-{
-    memchr2(b'\n', b'\r', text.as_bytes())
-}
-
-/// Whether bytes begin with CR LF.
-fn is_crlf(bytes: &[u8]) -> bool
-    ensures { result ≡ texts.begins_crlf (slice_index bytes.now 0) (drop 1 bytes.now) }
-{
-    bytes.len() > 1 && bytes[0] == b'\r' && bytes[1] == b'\n'
 }
 
 /// A text that begins with a line end, without that end.

@@ -27,11 +27,23 @@ fn edits(alloc: Global, changes: &[Change<'_>]) -> Result<Edits, Fail> {
     Ok(edits)
 }
 
-#[test]
-fn changes_give_the_text_of_the_editor(rt: HostRuntime) -> Result<(), Fail> {
+/// A text, its changes, and the text after them.
+type Row<'a> = (&'a str, &'a [Change<'a>], &'a str);
+
+fn check_changes(rt: HostRuntime, rows: &[Row<'_>]) -> Result<(), Fail> {
     let alloc = rt.alloc();
-    // A text, its changes, and the text after them.
-    let rows: [(&str, &[Change<'_>], &str); 22] = [
+    for (text, changes, want) in rows {
+        let edits = edits(alloc, changes)?;
+        assert!(rt; text.len() <= LONGEST_TEXT);
+        let changed = after_edits(alloc, text, edits.as_slice())?;
+        assert_eq!(rt; changed.as_str(), *want, "of {text:?}");
+    }
+    Ok(())
+}
+
+#[test]
+fn changes_count_utf_16_units(rt: HostRuntime) -> Result<(), Fail> {
+    let rows: [Row<'_>; 8] = [
         ("abc", &[(Some((0, 1)), Some((0, 2)), "X")], "aXc"),
         ("abc", &[(Some((0, 1)), Some((0, 1)), "X")], "aXbc"),
         ("aéc", &[(Some((0, 1)), Some((0, 2)), "")], "ac"),
@@ -40,6 +52,13 @@ fn changes_give_the_text_of_the_editor(rt: HostRuntime) -> Result<(), Fail> {
         ("a𝄞c", &[(Some((0, 3)), Some((0, 4)), "X")], "a𝄞X"),
         ("a𝄞c", &[(Some((0, 2)), Some((0, 3)), "")], "ac"),
         ("a𝄞c", &[(Some((0, 1)), Some((0, 2)), "X")], "aX𝄞c"),
+    ];
+    check_changes(rt, &rows)
+}
+
+#[test]
+fn changes_of_lines_give_the_text_of_the_editor(rt: HostRuntime) -> Result<(), Fail> {
+    let rows: [Row<'_>; 9] = [
         ("ab\ncd", &[(Some((0, 9)), Some((1, 0)), "-")], "ab-cd"),
         ("ab\ncd", &[(Some((0, 1)), Some((0, 99)), "")], "a\ncd"),
         (
@@ -57,6 +76,13 @@ fn changes_give_the_text_of_the_editor(rt: HostRuntime) -> Result<(), Fail> {
         ("a\rb\nc", &[(Some((1, 0)), Some((2, 0)), "")], "a\rc"),
         ("a\nb", &[(Some((0, 1)), Some((1, 0)), "")], "ab"),
         ("a\n", &[(Some((1, 0)), Some((1, 0)), "b")], "a\nb"),
+    ];
+    check_changes(rt, &rows)
+}
+
+#[test]
+fn changes_follow_one_another(rt: HostRuntime) -> Result<(), Fail> {
+    let rows: [Row<'_>; 5] = [
         ("abc", &[(None, None, "x\ny")], "x\ny"),
         (
             "abc",
@@ -78,13 +104,7 @@ fn changes_give_the_text_of_the_editor(rt: HostRuntime) -> Result<(), Fail> {
         ("abc", &[(Some((0, 2)), None, "X")], "abX"),
         ("abc", &[(None, Some((0, 2)), "X")], "Xc"),
     ];
-    for (text, changes, want) in rows {
-        let edits = edits(alloc, changes)?;
-        assert!(rt; text.len() <= LONGEST_TEXT);
-        let changed = after_edits(alloc, text, edits.as_slice())?;
-        assert_eq!(rt; changed.as_str(), want, "of {text:?}");
-    }
-    Ok(())
+    check_changes(rt, &rows)
 }
 
 #[test]

@@ -4,3 +4,4 @@ pub mod UnitLaws
 pub mod OrderLaws
 pub mod QuotingLaws
 pub mod TextLaws
+pub mod FirstBytes

@@ -1,7 +1,6 @@
 -- The byte of a character by cases, and that texts are totally ordered.
-use Rattle.std.proofs.Common.{◌≡◌, ◌≤◌, ◌<◌, ℕ, ◌-◌, ◌==◌, ◌⊎◌, inl, inr, Bool, true, false, List, length, map, arith, refl, rules, slice_index_or, sym, ap, cond}
+use Rattle.std.proofs.Common.{◌≡◌, ◌≤◌, ◌<◌, ℕ, ◌-◌, ◌⊎◌, inl, inr, arith, slice_index_or}
 use Rattle.std.proofs.lemmas.Grind.{common_steps}
-use Rattle.std.specs.Cmp.{IsTotalOrder}
 use Rattle.hl_base.specs.Order.{code_page_037, ebcdic}
 
 -- a tab is a blank

@@ -17,19 +17,21 @@ mod place;
 mod quoting;
 mod set;
 mod steps;
+mod symbol;
 mod text;
 
 pub use edit::{Edit, Edits, Position};
-pub use line::{TextLines, lines, lines_are_between_ends, units};
+pub use line::{TextLines, end_of_line, is_crlf, lines, lines_are_between_ends, units};
 pub use memory::OutOfMemory;
 pub use name::Name;
 pub use note::{Note, Notes, Severity};
 pub use order::{compare, ebcdic, texts_are_ordered};
 pub use place::{Frame, FrameKind, Frames, Origin, PathId, TextId};
-pub use quoting::Nesting;
+pub use quoting::{Nesting, names_attribute};
 pub use set::{Answer, Attr, Declaration, Declarations, Key, Line, SetKind, SetValue};
 pub use std::sync::ledger::Ledger;
 pub use steps::Steps;
+pub use symbol::{is_letter, is_symbol_character};
 pub use text::Text;
 
 #[cfg(test)]

@@ -5,6 +5,7 @@ ghost use Rattle.std.specs.Str.{chars};
 ghost use Rattle.hl_base.specs.Texts as texts;
 ghost use Rattle.hl_base.specs.Remaining as remaining;
 
+use memchr::memchr2;
 use std::marker::Model;
 
 /// The lines of a text that are left, each without its end. Contracts see the list of them.
@@ -61,13 +62,11 @@ fn first_line(text: &str) -> (&str, Option<&str>)
     }
 }
 
-/// Where the first line end of a text begins, in bytes.
-fn end_of_line(text: &str) -> Option<usize>
+/// Where the first line end of a text begins, in bytes; nothing where it is one line.
+pub fn end_of_line(text: &str) -> Option<usize>
     ensures { result ≡ position remaining.ends_line text.now }
 {
-    text.as_bytes()
-        .iter()
-        .position(|byte| *byte == b'\n' || *byte == b'\r')
+    memchr2(b'\n', b'\r', text.as_bytes())
 }
 
 /// A text that begins with a line end, without that end.
@@ -83,7 +82,7 @@ fn behind_end(text: &str) -> &str
 }
 
 /// Whether bytes begin with CR LF.
-fn is_crlf(bytes: &[u8]) -> bool
+pub fn is_crlf(bytes: &[u8]) -> bool
     ensures { result ≡ texts.begins_crlf (slice_index bytes.now 0) (drop 1 bytes.now) }
 {
     bytes.len() > 1 && bytes[0] == b'\r' && bytes[1] == b'\n'

@@ -2,8 +2,9 @@
 ghost use Rattle.std.specs.Prelude.{◌≡◌, ◌<◌, ◌≤◌, [], ◌∷◌, ◌++◌, length, map, IsTrue};
 ghost use Rattle.std.specs.List.{list_all, AllPass};
 ghost use Rattle.std.specs.Char.{to_ascii_uppercase};
-ghost use Rattle.hl_base.specs.Symbols.{is_symbol, symbol_of, is_letter, is_symbol_character};
+ghost use Rattle.hl_base.specs.Symbols.{is_symbol, symbol_of, is_symbol_character};
 
+use crate::symbol::{is_letter, is_symbol_character};
 use arrayvec::ArrayString;
 use std::marker::Model;
 
@@ -24,32 +25,20 @@ impl Model for Name {
     ghost view = { λ n. n.upper.bytes };
 }
 
-/// Whether a byte is one of the letters `A` to `Z` in either case, `$`, `_`, `#` and `@`.
-fn is_letter(byte: u8) -> bool
-    ensures { result ≡ is_letter byte }
-{
-    byte.is_ascii_alphabetic() || matches!(byte, b'$' | b'_' | b'#' | b'@')
-}
-
-/// Whether a byte may stand in a symbol behind its first letter.
-fn is_symbol_character(byte: u8) -> bool
-    ensures { result ≡ is_symbol_character byte }
-{
-    is_letter(byte) || byte.is_ascii_digit()
-}
-
 /// Whether each of the bytes may stand in a symbol behind its first letter.
 fn are_symbol_characters(bytes: &[u8]) -> bool
     ensures { result ≡ list_all is_symbol_character bytes.now }
 {
-    bytes.iter().all(|byte| is_symbol_character(*byte))
+    bytes
+        .iter()
+        .all(|byte| is_symbol_character(char::from(*byte)))
 }
 
 /// Whether a text is an ordinary symbol.
 fn is_symbol(text: &[u8]) -> bool
     ensures { result ≡ is_symbol text.now }
 {
-    if text.is_empty() || text.len() > LONGEST_NAME || !is_letter(text[0]) {
+    if text.is_empty() || text.len() > LONGEST_NAME || !is_letter(char::from(text[0])) {
         return false;
     }
     are_symbol_characters(&text[1..])

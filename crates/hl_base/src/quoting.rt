@@ -2,9 +2,9 @@
 //! fields of statements and their operands share.
 ghost use Rattle.std.specs.Prelude.{◌≡◌, ℕ, List, [], ◌∷◌, IfOk, OnOk, if◌then◌else◌};
 ghost use Rattle.hl_base.specs.Quoting as quoting;
-ghost use Rattle.hl_base.specs.Symbols as symbols;
 
 use crate::OutOfMemory;
+use crate::symbol::{is_letter, is_symbol_character};
 
 /// What the characters so far mean for the next one.
 #[derive(Clone, Copy, Debug, PartialEq, Eq)]
@@ -21,20 +21,15 @@ enum Mark {
     Quoted,
 }
 
-/// Whether a character is one of the letters `A` to `Z` in either case, `$`, `_`, `#` and `@`.
-fn is_letter(c: char) -> bool
-    ensures { result ≡ symbols.is_letter c }
-{
-    c.is_ascii_alphabetic() || matches!(c, '$' | '_' | '#' | '@')
-}
-
 fn is_attribute_letter(c: char) -> bool
     ensures { result ≡ quoting.is_attribute_letter c }
 {
     is_letter(c) && names_attribute(c.to_ascii_uppercase())
 }
 
-fn names_attribute(c: char) -> bool
+/// Whether an upper-cased letter, alone before an apostrophe, asks for an attribute (HLASM Language Reference SC26-4940,
+/// "Attribute references").
+pub fn names_attribute(c: char) -> bool
     ensures { result ≡ quoting.names_attribute c }
 {
     matches!(c, 'D' | 'I' | 'K' | 'L' | 'N' | 'O' | 'S' | 'T')
@@ -43,7 +38,7 @@ fn names_attribute(c: char) -> bool
 fn is_joining(c: char) -> bool
     ensures { result ≡ quoting.is_joining c }
 {
-    is_letter(c) || c.is_ascii_digit() || c == '&'
+    is_symbol_character(c) || c == '&'
 }
 
 fn is_attributed(c: char) -> bool

@@ -7,6 +7,8 @@ ghost use Rattle.hlasm_statements.specs.Fields as fields;
 ghost use Rattle.hlasm_statements.specs.Reading as reading;
 ghost use Rattle.hlasm_statements.specs.Reading.{IsSeen, IsFrontField};
 
+use hl_base::names_attribute;
+
 /// An operand field at the front of a text: how many characters it has, of which each is a byte.
 #[derive(Clone, Copy)]
 pub struct FrontField {
@@ -28,15 +30,6 @@ fn is_plain(byte: u8) -> bool
     ensures { result ≡ reading.is_plain byte }
 {
     byte > b')' && byte < 128
-}
-
-fn names_attribute(c: char) -> bool
-    ensures { result ≡ quoting.names_attribute (to_ascii_uppercase c) }
-{
-    matches!(
-        c.to_ascii_uppercase(),
-        'D' | 'I' | 'K' | 'L' | 'N' | 'O' | 'S' | 'T'
-    )
 }
 
 impl Sight {
@@ -87,7 +80,9 @@ impl Sight {
     fn is_unclear(self, byte: u8) -> bool
         ensures { result ≡ (not self.is_quoted && ((byte == 39) && quoting.names_attribute (to_ascii_uppercase self.last))) }
     {
-        !self.is_quoted && byte == b'\'' && names_attribute(char::from(self.last))
+        !self.is_quoted
+            && byte == b'\''
+            && names_attribute(char::from(self.last).to_ascii_uppercase())
     }
 
     #[inline(always)]

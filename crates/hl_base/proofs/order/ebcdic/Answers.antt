@@ -1,4 +1,3 @@
-use Rattle.std.proofs.Common.{rules, ◌≡◌, arith, refl}
 use Rattle.hl_base.specs.Order as codes
 use Rattle.hl_base.proofs.OrderLaws.{ebcdic-tab, ebcdic-outside, ebcdic-printable}
 use Rattle.hl_base.proofs.order.ebcdic.Goals as goal

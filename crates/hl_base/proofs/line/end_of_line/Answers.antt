@@ -1,8 +1,8 @@
 use Rattle.std.proofs.Common.{subst}
 use Rattle.std.specs.Prelude.{ℕ, List, ◌≡◌, position}
 use Rattle.hl_base.specs.Remaining.{ends_line}
-use Rattle.document_store.proofs.LineLemmas.{IsFirstByte-position}
-use Rattle.document_store.proofs.lines.end_of_line.Goals as goal
+use Rattle.hl_base.proofs.FirstBytes.{IsFirstByte-position}
+use Rattle.hl_base.proofs.line.end_of_line.Goals as goal
 
 pub returns : goal.returns
 returns c =
