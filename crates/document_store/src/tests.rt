@@ -1,6 +1,7 @@
 use crate::{DocumentStore, MOST_DOCUMENTS, MemberText, StoreFault, after_edits, column, position};
 use hl_base::{Edit, Edits, Position, Text};
 use std::alloc::Global;
+use std::process::Abort;
 use std::test::Fail;
 use text_pool::LONGEST_TEXT;
 
@@ -30,8 +31,7 @@ fn edits(alloc: Global, changes: &[Change<'_>]) -> Result<Edits, Fail> {
 /// A text, its changes, and the text after them.
 type Row<'a> = (&'a str, &'a [Change<'a>], &'a str);
 
-fn check_changes(rt: HostRuntime, rows: &[Row<'_>]) -> Result<(), Fail> {
-    let alloc = rt.alloc();
+fn check_changes(rt: &impl Abort, alloc: Global, rows: &[Row<'_>]) -> Result<(), Fail> {
     for (text, changes, want) in rows {
         let edits = edits(alloc, changes)?;
         assert!(rt; text.len() <= LONGEST_TEXT);
@@ -53,7 +53,7 @@ fn changes_count_utf_16_units(rt: HostRuntime) -> Result<(), Fail> {
         ("a𝄞c", &[(Some((0, 2)), Some((0, 3)), "")], "ac"),
         ("a𝄞c", &[(Some((0, 1)), Some((0, 2)), "X")], "aX𝄞c"),
     ];
-    check_changes(rt, &rows)
+    check_changes(&rt, rt.alloc(), &rows)
 }
 
 #[test]
@@ -77,7 +77,7 @@ fn changes_of_lines_give_the_text_of_the_editor(rt: HostRuntime) -> Result<(), F
         ("a\nb", &[(Some((0, 1)), Some((1, 0)), "")], "ab"),
         ("a\n", &[(Some((1, 0)), Some((1, 0)), "b")], "a\nb"),
     ];
-    check_changes(rt, &rows)
+    check_changes(&rt, rt.alloc(), &rows)
 }
 
 #[test]
@@ -104,7 +104,7 @@ fn changes_follow_one_another(rt: HostRuntime) -> Result<(), Fail> {
         ("abc", &[(Some((0, 2)), None, "X")], "abX"),
         ("abc", &[(None, Some((0, 2)), "X")], "Xc"),
     ];
-    check_changes(rt, &rows)
+    check_changes(&rt, rt.alloc(), &rows)
 }
 
 #[test]

@@ -1,14 +1,14 @@
 -- The operand field at the front of a text, byte by byte.
-use Rattle.std.proofs.Common.{◌≡◌, ◌∙◌, ℕ, ◌+◌, ◌-◌, ◌<◌, ◌≤◌, Bool, true, false, cond, not, List, [], ◌∷◌, ◌++◌, length, take, get_or, zero, suc, refl, sym, ap, subst, inl, inr, arith}
+use Rattle.std.proofs.Common.{◌≡◌, ◌∙◌, ℕ, ◌+◌, ◌<◌, Bool, true, false, cond, not, List, [], ◌∷◌, ◌++◌, length, take, get_or, zero, suc, refl, sym, ap, subst, arith}
 use Rattle.std.specs.Prelude.{◌==◌, ◌&&◌, ◌||◌, chars, IsUtf8, nat_lt, slice_index, reverse}
 use Rattle.std.specs.Char.{to_ascii_uppercase}
 use Rattle.std.specs.Str.{IsAscii}
 use Rattle.std.specs.List.{list_all}
-use Rattle.std.proofs.lemmas.Bool.{cases_Bool, and_parts, and_from, eqb-true, true≢false, ltb-true, false_from_ne_true}
+use Rattle.std.proofs.lemmas.Bool.{and_parts, and_from, eqb-true, true≢false, ltb-true, false_from_ne_true}
 use Rattle.std.proofs.lemmas.Bool.Decides.{nat_tests}
 use Rattle.std.proofs.lemmas.List.{take_more, reverse-append}
 use Rattle.hl_base.specs.Symbols.{is_letter}
-use Rattle.hl_base.specs.Quoting.{is_quoted, depth, depth_outside, is_attributed, is_attribute_letter, is_joining, is_of_attribute, names_attribute}
+use Rattle.hl_base.specs.Quoting.{is_quoted, depth, depth_outside, is_attributed, is_joining, is_of_attribute, names_attribute}
 use Rattle.hl_base.proofs.LineLaws.{chars-ascii, utf8_tail}
 use Rattle.hlasm_statements.specs.declared.front_field.Sight.{Sight}
 use Rattle.hlasm_statements.specs.declared.front_field.FrontField.{FrontField}
@@ -19,7 +19,7 @@ use Rattle.hlasm_statements.specs.Fields.{keeps_groups, ends_field}
 use Rattle.hlasm_statements.specs.Reading.{is_plain, IsSeen, IsFrontField, Passes, EndsAt, IsScan, Scans}
 use Rattle.hlasm_statements.proofs.ByteLaws.{blank_small}
 use Rattle.hlasm_statements.proofs.FrontLaws.{ascii-cons, ascii-nil}
-use Rattle.hlasm_statements.proofs.ScanLaws.{passes-push, behind-push}
+use Rattle.hlasm_statements.proofs.ScanLaws.{passes-push}
 
 -- ---- one byte more
 

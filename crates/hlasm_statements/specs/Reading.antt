@@ -1,5 +1,5 @@
 -- What the reader of a source keeps of the characters so far. This project.
-use Rattle.std.specs.Prelude.{◌≡◌, ℕ, ◌+◌, ◌-◌, not, ◌<◌, ◌≤◌, ⊤, Bool, true, false, ◌&&◌, ◌==◌, List, [], ◌∷◌, ◌++◌, Some, None, take, drop, take_while, nat_lt, length, slice_index, slice_index_or, reverse, map, chars, if◌then◌else◌}
+use Rattle.std.specs.Prelude.{◌≡◌, ℕ, ◌+◌, not, ◌<◌, ◌≤◌, ⊤, Bool, true, false, ◌&&◌, ◌==◌, List, [], ◌∷◌, ◌++◌, Some, None, take, drop, take_while, nat_lt, length, slice_index, slice_index_or, reverse, map, chars, if◌then◌else◌}
 use Rattle.std.specs.List.{list_all}
 use Rattle.std.specs.Borrow.{Bor}
 use Rattle.hl_base.specs.Quoting.{IsBehind, is_quoted, depth}

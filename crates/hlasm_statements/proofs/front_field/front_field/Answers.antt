@@ -1,4 +1,4 @@
-use Rattle.std.proofs.Common.{◌≡◌, ◌∙◌, ◌+◌, ◌≤◌, Bool, false, length, sym, arith}
+use Rattle.std.proofs.Common.{◌≡◌, ◌∙◌, false, sym, arith}
 use Rattle.std.specs.Prelude.{◌&&◌, ◌||◌, not, nat_lt, slice_index}
 use Rattle.hlasm_statements.specs.Columns.{is_blank}
 use Rattle.hlasm_statements.proofs.FrontFieldLaws.{plain-stays, seeing-more}
