@@ -10,7 +10,7 @@ use Rattle.hl_base.specs.Symbols.{symbol_of}
 use Rattle.expression_grammar.specs.declared.tree.Attribute.TheVariants as attribute
 use Rattle.expression_grammar.specs.declared.tree.Reference.{Reference}
 use Rattle.expression_grammar.specs.declared.tree.Reference.TheVariants.{Value, Of}
-use Rattle.operand_grammar.specs.SplitSublist.{elements_of}
+use Rattle.operand_list.specs.SplitSublist.{elements_of}
 use Rattle.cond_expr.specs.declared.lookups.Found.{Found}
 use Rattle.cond_expr.specs.declared.lookups.Found.TheVariants as found
 use Rattle.cond_expr.specs.Told.{Told}

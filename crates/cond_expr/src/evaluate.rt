@@ -12,8 +12,8 @@ use crate::numbers::Numbers;
 use crate::stop::Stop;
 use crate::variable::{self, bit};
 use crate::{arithmetic, characters, symbol};
+use expression_grammar::{Attribute, Comparison, Expr, Item, Operator, Reference, Sign, Symbol};
 use hl_base::{Notes, OutOfMemory, Text, compare};
-use operand_grammar::{Attribute, Comparison, Expr, Item, Operator, Reference, Sign, Symbol};
 use std::alloc::Global;
 use std::cmp::Ordering;
 

@@ -6,8 +6,8 @@ ghost use Rattle.cond_expr.specs.Evaluated as evaluated;
 use crate::evaluate;
 use crate::lookups::Lookups;
 use crate::stop::Stop;
+use expression_grammar::Expr;
 use hl_base::{Key, Notes, OutOfMemory, SetValue, Text};
-use operand_grammar::Expr;
 use std::alloc::Global;
 
 /// The value of an expression with its notes, in the order in which they came; or, where `asked` is set, the key whose

@@ -2,8 +2,8 @@
 ghost use Rattle.std.specs.Prelude.{◌≡◌, IfOk};
 
 use crate::{Evaluated, Found, Lookups, eval_a, eval_b, eval_c, variable};
+use expression_grammar::{Attribute, Expr, Item, Reference, Symbol, parse_arith};
 use hl_base::{Answer, Attr, Key, Name, OutOfMemory, SetValue, Text};
-use operand_grammar::{Attribute, Expr, Item, Reference, Symbol, parse_arith};
 use std::alloc::Global;
 
 /// Every variable symbol without a subscript stands for one thing, every one with a subscript for another, and every key

@@ -1,6 +1,6 @@
 use crate::Found;
 use crate::fake::{Fake, logical, number, quoted};
-use operand_grammar::{Comparison, Expr, Operator};
+use expression_grammar::{Comparison, Expr, Operator};
 use std::alloc::Global;
 use std::test::Fail;
 

@@ -6,8 +6,9 @@ ghost use Rattle.cond_expr.specs.Terms as terms;
 ghost use Rattle.cond_expr.specs.Variables as variables;
 
 use expression_grammar::laws::one_tree;
+use expression_grammar::{Expr, SyntaxFault, parse_ordinary};
 use hl_base::{OutOfMemory, Text};
-use operand_grammar::{Expr, SyntaxFault, parse_ordinary, split_sublist};
+use operand_list::split_sublist;
 use std::alloc::Global;
 
 /// The number of an expression that is a self-defining term.

@@ -1,7 +1,7 @@
 use crate::fake::{Fake, character, number, quoted, reference, with_variable};
 use crate::{Evaluated, Found, eval_c};
+use expression_grammar::{Attribute, Expr};
 use hl_base::{Key, SetValue};
-use operand_grammar::{Attribute, Expr};
 use std::alloc::Global;
 use std::test::Fail;
 

@@ -13,8 +13,8 @@ use crate::lookups::{Found, Lookups};
 use crate::stop::Stop;
 use crate::term::{element_count, term};
 use crate::{symbol, trouble};
+use expression_grammar::{Attribute, Reference};
 use hl_base::{Name, Notes, OutOfMemory, SetValue, Text};
-use operand_grammar::{Attribute, Reference};
 use std::alloc::Global;
 
 /// A number in decimal, with a minus sign below 0.

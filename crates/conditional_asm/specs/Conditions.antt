@@ -5,7 +5,7 @@ use Rattle.std.specs.List.{AllZip}
 use Rattle.hl_base.specs.declared.note.Note.{Note}
 use Rattle.expression_grammar.specs.declared.fault.SyntaxFault.{SyntaxFault}
 use Rattle.expression_grammar.specs.declared.fault.SyntaxFault.TheVariants as fault
-use Rattle.operand_grammar.specs.Split.{operands_of}
+use Rattle.operand_list.specs.Split.{operands_of}
 use Rattle.expression_grammar.specs.Trees.{Tree}
 use Rattle.expression_grammar.specs.Views.{tree_of}
 use Rattle.cond_expr.specs.declared.stop.Stop.{Stop}

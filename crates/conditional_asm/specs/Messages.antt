@@ -9,8 +9,8 @@ use Rattle.expression_grammar.specs.declared.fault.SyntaxFault.TheVariants as fa
 use Rattle.expression_grammar.specs.declared.tree.Expr.{Expr}
 use Rattle.expression_grammar.specs.Answers.{IsFault}
 use Rattle.expression_grammar.specs.Spelling.{IsExpression, most_parts}
-use Rattle.operand_grammar.specs.Split.{operands_of}
-use Rattle.operand_grammar.specs.Texts.{SpellsText}
+use Rattle.operand_list.specs.Split.{operands_of}
+use Rattle.character_grammar.specs.Texts.{SpellsText}
 use Rattle.expression_grammar.specs.Trees.{Tree}
 use Rattle.expression_grammar.specs.Views.{tree_of}
 use Rattle.cond_expr.specs.declared.stop.Stop.{Stop}

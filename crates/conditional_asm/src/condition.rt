@@ -3,7 +3,7 @@
 //! Each call tells an outcome, as those of `cond_expr::evaluate`.
 ghost use Rattle.std.specs.Prelude.{◌≡◌, [], ◌∷◌, ◌++◌, OnOk};
 ghost use Rattle.std.specs.Str.{chars};
-ghost use Rattle.operand_grammar.specs.Split.{operands_of};
+ghost use Rattle.operand_list.specs.Split.{operands_of};
 ghost use Rattle.expression_grammar.specs.Views.{tree_of};
 ghost use Rattle.cond_expr.specs.Outcome.{Tells};
 ghost use Rattle.conditional_asm.specs.Conditions as conditions;

@@ -4,7 +4,7 @@
 ghost use Rattle.std.specs.Prelude.{◌≡◌};
 ghost use Rattle.std.specs.Str.{chars};
 ghost use Rattle.expression_grammar.specs.Views.{tree_of};
-ghost use Rattle.operand_grammar.specs.Split.{operands_of};
+ghost use Rattle.operand_list.specs.Split.{operands_of};
 ghost use Rattle.cond_expr.specs.Outcome.{Tells};
 ghost use Rattle.conditional_asm.specs.Answers.{Answers};
 ghost use Rattle.conditional_asm.specs.Messages as messages;

@@ -1,7 +1,7 @@
 //! The tree of an expression.
 ghost use Rattle.std.specs.Prelude.{◌≡◌, IfOk};
 ghost use Rattle.expression_grammar.specs.Views.{tree_of, trees_in, items_in};
-ghost use Rattle.expression_grammar.specs.Trees.{Variable, Signed, Pair, Paren, Quoted, Duplicated, Substring, SubstringToEnd, Joined, NoTrees, NoItems};
+ghost use Rattle.expression_grammar.specs.Trees.{Variable, Signed, Pair, Paren, Quoted, Duplicated, Substring, SubstringToEnd, Joined, Not, Compared, NoTrees, NoItems};
 
 use hl_base::{Name, OutOfMemory, Text};
 use std::alloc::Global;
@@ -164,4 +164,24 @@ pub fn joined(alloc: Global, left: Expr, right: Expr) -> Result<Expr, OutOfMemor
 {
     let left = Box::new(alloc, left)?;
     Ok(Expr::Joined(left, Box::new(alloc, right)?))
+}
+
+/// The contrary of a truth.
+pub fn negated(alloc: Global, operand: Expr) -> Result<Expr, OutOfMemory>
+    ensures { IfOk result (λ e. tree_of e ≡ Not (tree_of operand)) }
+{
+    Ok(Expr::Not(Box::new(alloc, operand)?))
+}
+
+/// A comparison of two operands.
+pub fn compared(
+    alloc: Global,
+    comparison: Comparison,
+    left: Expr,
+    right: Expr,
+) -> Result<Expr, OutOfMemory>
+    ensures { IfOk result (λ e. tree_of e ≡ Compared comparison (tree_of left) (tree_of right)) }
+{
+    let left = Box::new(alloc, left)?;
+    Ok(Expr::Compared(comparison, left, Box::new(alloc, right)?))
 }

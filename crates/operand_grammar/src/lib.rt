@@ -1,39 +1,22 @@
-//! Operands: how the operand field of a statement falls into operands, and which texts are expressions.
+//! Operands and expressions, in one place for those who read them.
 //!
-//! It knows nothing of operations, symbols or values. Its contracts: the operands of a field are the texts between its
-//! commas outside quotes and parentheses, and those of a sublist the texts between its own (`split_operands`,
-//! `split_sublist`). `parse_char` and `parse_logic`, as `parse_arith` and `parse_ordinary` of `expression_grammar`, which
-//! are passed on here, give the tree of an expression, or `At(n)`, the length of the longest prefix of the text that some
-//! expression of at most `MOST_PARTS` terms, operators and pairs of parentheses begins with; a text has one tree (module
-//! `laws`). It follows the HLASM Language Reference SC26-4940, "Operand entry", "Sublists in operands", "Logical (SETB)
-//! expressions" and "Character (SETC) expressions"; the grammar of expressions stands in docs/EXPRESSIONS.md.
+//! What it passes on: how an operand field falls into operands and a sublist into elements (`operand_list`), and the
+//! readers of the four sorts of expressions with their trees (`expression_grammar` for arithmetic and ordinary ones,
+//! `character_grammar`, `logical_grammar`), each with the exact place of a fault. It knows nothing of operations, symbols
+//! or values, and has no code of its own; what is proved is proved below. It follows the HLASM Language Reference
+//! SC26-4940, as these do; the grammar of expressions stands in docs/EXPRESSIONS.md.
 #![tactic(auto)]
 
-pub mod laws;
-mod logic_behind;
-mod logic_point;
-mod logic_reader;
-mod parse_text;
-mod parse_truth;
-mod quoted;
-mod split;
-mod split_elements;
-mod text_point;
-mod text_reader;
-
+pub use character_grammar::parse_char;
 pub use expression_grammar::{
     Attribute, Comparison, Expr, Form, Grammar, Item, MOST_PARTS, Operator, Reference, Sign,
     Symbol, SyntaxFault, parse_arith, parse_ordinary,
 };
-pub use parse_text::parse_char;
-pub use parse_truth::parse_logic;
-pub use split::{Operands, split_operands};
-pub use split_elements::split_sublist;
+pub use logical_grammar::parse_logic;
+pub use operand_list::{Operands, split_operands, split_sublist};
 
 #[cfg(test)]
 mod logic_tests;
-#[cfg(test)]
-mod split_tests;
 #[cfg(test)]
 mod tests;
 #[cfg(test)]

@@ -1,0 +1,12 @@
+pub mod TextPlain
+pub mod TextLeads
+pub mod TextItems
+pub mod TextTrees
+pub mod TextCompletions
+pub mod TextFinds
+pub mod TextSteps
+pub mod TextMoveLaws
+pub mod TextAppends
+pub mod TextWeights
+pub mod TextStackLaws
+pub mod Automata

@@ -1,0 +1,5 @@
+pub mod TextAnswers
+pub mod TextReading
+pub mod TextStanding
+pub mod TextViews
+pub mod Texts

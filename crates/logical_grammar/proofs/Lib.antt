@@ -1,0 +1,16 @@
+pub mod LogicUnder
+pub mod LogicFolds
+pub mod LogicOperands
+pub mod LogicPoints
+pub mod LogicSteps
+pub mod LogicCompletions
+pub mod LogicFinds
+pub mod LogicWeights
+pub mod LogicLaws
+pub mod LogicTouches
+pub mod LogicStands
+pub mod LogicNumbers
+pub mod LogicTexts
+pub mod LogicLeads
+pub mod LogicStackLaws
+pub mod LogicMoveLaws

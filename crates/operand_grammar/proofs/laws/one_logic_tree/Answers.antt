@@ -1,5 +1,0 @@
-use Rattle.operand_grammar.proofs.LogicFinds.{one_logic-tree}
-use Rattle.operand_grammar.proofs.laws.one_logic_tree.Goals as goal
-
-pub returns : goal.returns
-returns c = one_logic-tree

@@ -1,5 +1,0 @@
-use Rattle.operand_grammar.proofs.TextFinds.{one_text-tree}
-use Rattle.operand_grammar.proofs.laws.one_text_tree.Goals as goal
-
-pub returns : goal.returns
-returns c = one_text-tree
