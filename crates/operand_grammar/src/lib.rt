@@ -18,6 +18,8 @@ pub use operand_list::{Operands, split_operands, split_sublist};
 #[cfg(test)]
 mod logic_tests;
 #[cfg(test)]
+mod shown;
+#[cfg(test)]
 mod tests;
 #[cfg(test)]
 mod text_tests;

@@ -1,148 +1,9 @@
-use crate::{
-    Attribute, Comparison, Expr, Item, Operator, Reference, Sign, Symbol, SyntaxFault, parse_arith,
-    parse_ordinary,
-};
-use std::alloc::{AllocError, Global};
+use crate::shown::{answer, repeated};
+use crate::{SyntaxFault, parse_arith, parse_ordinary};
 use std::test::Fail;
 
-/// A symbol: what is asked of it, its sigil and name, and where it begins.
-fn symbol(
-    alloc: Global,
-    asked: Reference,
-    sigil: &str,
-    symbol: &Symbol,
-) -> Result<String, AllocError> {
-    let asked = match asked {
-        Reference::Value => "",
-        Reference::Of(Attribute::Count) => "K'",
-        Reference::Of(Attribute::Number) => "N'",
-        Reference::Of(Attribute::Length) => "L'",
-        Reference::Of(Attribute::Defined) => "D'",
-        Reference::Of(Attribute::Type) => "T'",
-    };
-    format!(in alloc; "{asked}{sigil}{}@{}", symbol.name.text(), symbol.at)
-}
-
-fn mark(operator: Operator) -> &'static str {
-    match operator {
-        Operator::Add => "+",
-        Operator::Subtract => "-",
-        Operator::Multiply => "*",
-        Operator::Divide => "/",
-        Operator::And => "and",
-        Operator::Or => "or",
-        Operator::Xor => "xor",
-    }
-}
-
-fn compares(comparison: Comparison) -> &'static str {
-    match comparison {
-        Comparison::Eq => "eq",
-        Comparison::Ne => "ne",
-        Comparison::Lt => "lt",
-        Comparison::Le => "le",
-        Comparison::Gt => "gt",
-        Comparison::Ge => "ge",
-    }
-}
-
-/// A tree, its operators before their operands.
-fn shown(alloc: Global, e: &Expr) -> Result<String, AllocError> {
-    match e {
-        Expr::Number(_, bits) => format!(in alloc; "{bits}"),
-        Expr::Here => format!(in alloc; "here"),
-        Expr::Symbol(asked, name) => symbol(alloc, *asked, "", name),
-        Expr::Variable(asked, name, subscripts) => {
-            let mut text = symbol(alloc, *asked, "&", name)?;
-            for subscript in subscripts {
-                text.push_str("[")?;
-                text.push_str(shown(alloc, subscript)?.as_str())?;
-                text.push_str("]")?;
-            }
-            Ok(text)
-        }
-        Expr::Signed(Sign::Plus, operand) => format!(in alloc; "(+ {})", shown(alloc, operand)?),
-        Expr::Signed(Sign::Minus, operand) => format!(in alloc; "(- {})", shown(alloc, operand)?),
-        Expr::Pair(operator, left, right) => {
-            format!(in alloc;
-                "({} {} {})",
-                mark(*operator),
-                shown(alloc, left)?,
-                shown(alloc, right)?
-            )
-        }
-        Expr::Paren(inner) => format!(in alloc; "<{}>", shown(alloc, inner)?),
-        Expr::Quoted(items) => quoted(alloc, items),
-        Expr::Duplicated(factor, text) => {
-            format!(in alloc; "({} times {})", shown(alloc, factor)?, shown(alloc, text)?)
-        }
-        Expr::Substring(text, start, count) => {
-            format!(in alloc;
-                "(cut {} {} {})",
-                shown(alloc, text)?,
-                shown(alloc, start)?,
-                shown(alloc, count)?
-            )
-        }
-        Expr::SubstringToEnd(text, start) => {
-            format!(in alloc; "(cut {} {} *)", shown(alloc, text)?, shown(alloc, start)?)
-        }
-        Expr::Joined(left, right) => {
-            format!(in alloc; "({} . {})", shown(alloc, left)?, shown(alloc, right)?)
-        }
-        Expr::Not(operand) => format!(in alloc; "(not {})", shown(alloc, operand)?),
-        Expr::Compared(comparison, left, right) => {
-            format!(in alloc;
-                "({} {} {})",
-                compares(*comparison),
-                shown(alloc, left)?,
-                shown(alloc, right)?
-            )
-        }
-    }
-}
-
-/// The items of a quoted text.
-fn quoted(alloc: Global, items: &[Item]) -> Result<String, AllocError> {
-    let mut text = String::from_str(alloc, "'")?;
-    for item in items {
-        text.push_str(shown_item(alloc, item)?.as_str())?;
-    }
-    text.push_str("'")?;
-    Ok(text)
-}
-
-/// Plain characters in brackets, or a symbol and how many subscripts it has.
-fn shown_item(alloc: Global, item: &Item) -> Result<String, AllocError> {
-    match item {
-        Item::Plain(text) => format!(in alloc; "[{}]", text.as_str()),
-        Item::Inserted(name, subscripts) => {
-            let text = symbol(alloc, Reference::Value, "&", name)?;
-            format!(in alloc; "{}/{}", text.as_str(), subscripts.len())
-        }
-    }
-}
-
-/// The tree, or the place of the fault.
-pub(crate) fn answer(alloc: Global, read: Result<Expr, SyntaxFault>) -> Result<String, AllocError> {
-    match read {
-        Ok(e) => shown(alloc, &e),
-        Err(SyntaxFault::At(count)) => format!(in alloc; "at {count}"),
-        Err(SyntaxFault::OutOfMemory) => format!(in alloc; "out of memory"),
-    }
-}
-
-/// A text so many times.
-pub(crate) fn repeated(alloc: Global, text: &str, count: u32) -> Result<String, AllocError> {
-    let mut all = String::new(alloc);
-    for _ in 0..count {
-        all.push_str(text)?;
-    }
-    Ok(all)
-}
-
 #[test]
-fn arithmetic_expressions(rt: HostRuntime) -> Result<(), Fail> {
+fn arithmetic_operators(rt: HostRuntime) -> Result<(), Fail> {
     let alloc = rt.alloc();
     for (text, wanted) in [
         ("1", "1"),
@@ -168,6 +29,17 @@ fn arithmetic_expressions(rt: HostRuntime) -> Result<(), Fail> {
         ("1 2", "at 2"),
         ("1++", "at 3"),
         ("*", "at 0"),
+    ] {
+        let got = answer(alloc, parse_arith(alloc, text))?;
+        assert_eq!(rt; got.as_str(), wanted, "at {text:?}");
+    }
+    Ok(())
+}
+
+#[test]
+fn self_defining_terms(rt: HostRuntime) -> Result<(), Fail> {
+    let alloc = rt.alloc();
+    for (text, wanted) in [
         ("2147483647", "2147483647"),
         ("2147483648", "at 9"),
         ("0000000001", "1"),
@@ -191,6 +63,17 @@ fn arithmetic_expressions(rt: HostRuntime) -> Result<(), Fail> {
         ("C'ABCD'", "3250766788"),
         ("C'ABCDE'", "at 6"),
         ("C'A''B'", "12680642"),
+    ] {
+        let got = answer(alloc, parse_arith(alloc, text))?;
+        assert_eq!(rt; got.as_str(), wanted, "at {text:?}");
+    }
+    Ok(())
+}
+
+#[test]
+fn variable_symbols_and_attributes(rt: HostRuntime) -> Result<(), Fail> {
+    let alloc = rt.alloc();
+    for (text, wanted) in [
         ("&", "at 1"),
         ("&1", "at 1"),
         ("&abc", "&ABC@0"),
@@ -225,7 +108,7 @@ fn arithmetic_expressions(rt: HostRuntime) -> Result<(), Fail> {
 }
 
 #[test]
-fn ordinary_expressions(rt: HostRuntime) -> Result<(), Fail> {
+fn ordinary_operators(rt: HostRuntime) -> Result<(), Fail> {
     let alloc = rt.alloc();
     for (text, wanted) in [
         ("A", "A@0"),
@@ -250,6 +133,17 @@ fn ordinary_expressions(rt: HostRuntime) -> Result<(), Fail> {
         ("(A", "at 2"),
         ("A)", "at 1"),
         ("A(1)", "at 1"),
+    ] {
+        let got = answer(alloc, parse_ordinary(alloc, text))?;
+        assert_eq!(rt; got.as_str(), wanted, "at {text:?}");
+    }
+    Ok(())
+}
+
+#[test]
+fn ordinary_terms(rt: HostRuntime) -> Result<(), Fail> {
+    let alloc = rt.alloc();
+    for (text, wanted) in [
         ("X", "X@0"),
         ("X1", "X1@0"),
         ("X'1F'", "31"),

@@ -1,5 +1,5 @@
 use crate::parse_char;
-use crate::tests::{answer, repeated};
+use crate::shown::{answer, repeated};
 use std::alloc::Global;
 use std::test::Fail;
 

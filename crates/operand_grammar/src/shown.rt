@@ -1,0 +1,148 @@
+//! Trees and faults in letters, for the tables of the tests.
+use crate::{Attribute, Comparison, Expr, Item, Operator, Reference, Sign, Symbol, SyntaxFault};
+use std::alloc::{AllocError, Global};
+
+/// A symbol: what is asked of it, its sigil and name, and where it begins.
+fn symbol(
+    alloc: Global,
+    asked: Reference,
+    sigil: &str,
+    symbol: &Symbol,
+) -> Result<String, AllocError> {
+    let asked = match asked {
+        Reference::Value => "",
+        Reference::Of(Attribute::Count) => "K'",
+        Reference::Of(Attribute::Number) => "N'",
+        Reference::Of(Attribute::Length) => "L'",
+        Reference::Of(Attribute::Defined) => "D'",
+        Reference::Of(Attribute::Type) => "T'",
+    };
+    format!(in alloc; "{asked}{sigil}{}@{}", symbol.name.text(), symbol.at)
+}
+
+fn mark(operator: Operator) -> &'static str {
+    match operator {
+        Operator::Add => "+",
+        Operator::Subtract => "-",
+        Operator::Multiply => "*",
+        Operator::Divide => "/",
+        Operator::And => "and",
+        Operator::Or => "or",
+        Operator::Xor => "xor",
+    }
+}
+
+fn compares(comparison: Comparison) -> &'static str {
+    match comparison {
+        Comparison::Eq => "eq",
+        Comparison::Ne => "ne",
+        Comparison::Lt => "lt",
+        Comparison::Le => "le",
+        Comparison::Gt => "gt",
+        Comparison::Ge => "ge",
+    }
+}
+
+fn sign_mark(sign: Sign) -> &'static str {
+    match sign {
+        Sign::Plus => "+",
+        Sign::Minus => "-",
+    }
+}
+
+/// A variable symbol with its subscripts, each in brackets.
+fn variable(
+    alloc: Global,
+    asked: Reference,
+    name: &Symbol,
+    subscripts: &[Expr],
+) -> Result<String, AllocError> {
+    let mut text = symbol(alloc, asked, "&", name)?;
+    for subscript in subscripts {
+        text.push_str("[")?;
+        text.push_str(shown(alloc, subscript)?.as_str())?;
+        text.push_str("]")?;
+    }
+    Ok(text)
+}
+
+/// A word before two trees.
+fn prefix(alloc: Global, word: &str, left: &Expr, right: &Expr) -> Result<String, AllocError> {
+    format!(in alloc; "({word} {} {})", shown(alloc, left)?, shown(alloc, right)?)
+}
+
+/// A word between two trees.
+fn infix(alloc: Global, left: &Expr, word: &str, right: &Expr) -> Result<String, AllocError> {
+    format!(in alloc; "({} {word} {})", shown(alloc, left)?, shown(alloc, right)?)
+}
+
+/// A tree, its operators before their operands.
+fn shown(alloc: Global, e: &Expr) -> Result<String, AllocError> {
+    match e {
+        Expr::Number(_, bits) => format!(in alloc; "{bits}"),
+        Expr::Here => format!(in alloc; "here"),
+        Expr::Symbol(asked, name) => symbol(alloc, *asked, "", name),
+        Expr::Variable(asked, name, subscripts) => variable(alloc, *asked, name, subscripts),
+        Expr::Signed(sign, operand) => {
+            format!(in alloc; "({} {})", sign_mark(*sign), shown(alloc, operand)?)
+        }
+        Expr::Pair(operator, left, right) => prefix(alloc, mark(*operator), left, right),
+        Expr::Paren(inner) => format!(in alloc; "<{}>", shown(alloc, inner)?),
+        Expr::Quoted(items) => quoted(alloc, items),
+        Expr::Duplicated(factor, text) => infix(alloc, factor, "times", text),
+        Expr::Substring(text, start, count) => {
+            let (text, start) = (shown(alloc, text)?, shown(alloc, start)?);
+            format!(in alloc; "(cut {} {} {})", text, start, shown(alloc, count)?)
+        }
+        Expr::SubstringToEnd(text, start) => {
+            format!(in alloc; "(cut {} {} *)", shown(alloc, text)?, shown(alloc, start)?)
+        }
+        Expr::Joined(left, right) => infix(alloc, left, ".", right),
+        Expr::Not(operand) => format!(in alloc; "(not {})", shown(alloc, operand)?),
+        Expr::Compared(comparison, left, right) => prefix(
+            alloc,
+            compares(*comparison),
+            left,
+            right,
+        ),
+    }
+}
+
+/// The items of a quoted text.
+fn quoted(alloc: Global, items: &[Item]) -> Result<String, AllocError> {
+    let mut text = String::from_str(alloc, "'")?;
+    for item in items {
+        text.push_str(shown_item(alloc, item)?.as_str())?;
+    }
+    text.push_str("'")?;
+    Ok(text)
+}
+
+/// Plain characters in brackets, or a symbol and how many subscripts it has.
+fn shown_item(alloc: Global, item: &Item) -> Result<String, AllocError> {
+    match item {
+        Item::Plain(text) => format!(in alloc; "[{}]", text.as_str()),
+        Item::Inserted(name, subscripts) => {
+            let text = symbol(alloc, Reference::Value, "&", name)?;
+            format!(in alloc; "{}/{}", text.as_str(), subscripts.len())
+        }
+    }
+}
+
+/// The tree, or the place of the fault.
+pub(crate) fn answer(alloc: Global, read: Result<Expr, SyntaxFault>) -> Result<String, AllocError> {
+    match read {
+        Ok(e) => shown(alloc, &e),
+        Err(SyntaxFault::At(count)) => format!(in alloc; "at {count}"),
+        Err(SyntaxFault::OutOfMemory) => format!(in alloc; "out of memory"),
+    }
+}
+
+/// A text so many times.
+pub(crate) fn repeated(alloc: Global, text: &str, count: u32) -> Result<String, AllocError> {
+    let mut all = String::new(alloc);
+    for _ in 0..count {
+        all.push_str(text)?;
+    }
+    Ok(all)
+}
