@@ -6,7 +6,7 @@ ghost use Rattle.expression_grammar.specs.Spelling as spelling;
 
 use crate::tree::{Attribute, Operator, Reference};
 
-/// Which of the four grammars of expressions is read.
+/// Which grammar is read: that of the expressions of SETA, or that of machine and assembler instructions.
 #[derive(Clone, Copy, Debug, PartialEq, Eq)]
 pub enum Grammar {
     Arithmetic,
