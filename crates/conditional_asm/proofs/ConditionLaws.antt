@@ -10,9 +10,9 @@ use Rattle.expression_grammar.specs.declared.fault.SyntaxFault.TheVariants.{At, 
 use Rattle.expression_grammar.specs.Views.{tree_of}
 use Rattle.cond_expr.specs.Outcome.{Outcome, gives, and_then}
 use Rattle.cond_expr.specs.Told.{Told}
+use Rattle.conditional_fields.specs.declared.branch.Selector.{Selector}
 use Rattle.conditional_asm.specs.declared.act.Act.{Act}
 use Rattle.conditional_asm.specs.declared.act.Act.TheVariants.{Next, Branch}
-use Rattle.conditional_asm.specs.declared.branch.Selector.{Selector}
 use Rattle.conditional_asm.specs.declared.condition.Choices.{Choices}
 use Rattle.conditional_asm.specs.Conditions.{IsPair, ArePairs, IsPairFault, AreChoices, holding, choosing}
 

@@ -7,8 +7,8 @@ use Rattle.expression_grammar.specs.declared.fault.SyntaxFault.{SyntaxFault}
 use Rattle.expression_grammar.specs.declared.fault.SyntaxFault.TheVariants.{At}
 use Rattle.cond_expr.specs.declared.stop.Stop.{Stop}
 use Rattle.cond_expr.specs.Outcome.{Tells}
+use Rattle.conditional_fields.specs.Answers.{Answers}
 use Rattle.conditional_asm.specs.declared.act.Act.{Act}
-use Rattle.conditional_asm.specs.Answers.{Answers}
 use Rattle.conditional_asm.specs.Acts.{declares, refused}
 
 refused_at : (o : Result (List Declaration) ℕ) (at : ℕ) (before after : List Note) (r : Result Act Stop) → Answers o (Err (At at)) → Tells (refused at) before after r → Tells (declares o) before after r

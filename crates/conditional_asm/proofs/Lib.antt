@@ -1,11 +1,4 @@
-pub mod TextLaws
-pub mod FrontLaws
-pub mod TemplateLaws
-pub mod AnswerLaws
-pub mod DeclarationLaws
-pub mod BranchLaws
 pub mod SubstitutionLaws
-pub mod EndingLaws
 pub mod DeclaringLaws
 pub mod BranchingLaws
 pub mod SettingLaws

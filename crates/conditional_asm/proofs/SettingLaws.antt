@@ -4,8 +4,8 @@ use Rattle.std.specs.Prelude.{◌==◌, slice_index, Err}
 use Rattle.expression_grammar.specs.declared.fault.SyntaxFault.{SyntaxFault}
 use Rattle.expression_grammar.specs.declared.fault.SyntaxFault.TheVariants.{At, OutOfMemory}
 use Rattle.expression_grammar.specs.Trees.{Tree}
-use Rattle.conditional_asm.specs.Answers.{IsPlaced}
-use Rattle.conditional_asm.specs.Templates.{IsSymbol}
+use Rattle.conditional_fields.specs.Answers.{IsPlaced}
+use Rattle.conditional_fields.specs.Templates.{IsSymbol}
 use Rattle.conditional_asm.specs.Setting.{IsTarget, IsTargetWith}
 
 behind : (label : List ℕ) (count : ℕ) (tree : Tree) (fault : SyntaxFault) → IsSymbol label count tree → (count ≡ length label → ⊥) → IsPlaced (count + 0) fault → IsTargetWith true label (Err fault)

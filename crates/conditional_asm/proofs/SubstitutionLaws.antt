@@ -7,7 +7,7 @@ use Rattle.cond_expr.specs.declared.stop.Stop.TheVariants.{Asked, OutOfMemory}
 use Rattle.cond_expr.specs.Outcome.{Outcome, Gives, Asks, gives, and_then, Tells}
 use Rattle.cond_expr.proofs.OutcomeLemmas.{Tells-stop}
 use Rattle.cond_expr.specs.Told.{Told}
-use Rattle.conditional_asm.specs.declared.template.Piece.{Piece}
+use Rattle.conditional_fields.specs.declared.template.Piece.{Piece}
 use Rattle.conditional_asm.specs.Substitution.{substituted, behind_text, piece_text}
 
 -- behind no text

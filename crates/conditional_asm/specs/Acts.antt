@@ -4,10 +4,10 @@ use Rattle.hl_base.specs.Symbols.{symbol_of}
 use Rattle.hl_base.specs.declared.set.Declaration.{Declaration}
 use Rattle.hl_base.specs.declared.set.SetKind.{SetKind}
 use Rattle.cond_expr.specs.Outcome.{Outcome, Gives, gives}
+use Rattle.conditional_fields.specs.Declarations.{declarations}
+use Rattle.conditional_fields.specs.Sequences.{named_or, symbol_reach}
 use Rattle.conditional_asm.specs.declared.act.Act.{Act}
 use Rattle.conditional_asm.specs.declared.act.Act.TheVariants.{Next, Copy, Declare}
-use Rattle.conditional_asm.specs.Declarations.{declarations}
-use Rattle.conditional_asm.specs.Sequences.{named_or, symbol_reach}
 use Rattle.conditional_asm.specs.Troubles.{unreadable}
 
 -- a statement whose operand cannot be read does nothing

@@ -17,12 +17,12 @@ use Rattle.cond_expr.specs.Told.{Told}
 use Rattle.cond_expr.specs.Outcome.{Outcome, gives, and_then, Tells}
 use Rattle.cond_expr.specs.Values.{number}
 use Rattle.cond_expr.specs.Characters.{not_below_0}
+use Rattle.conditional_fields.specs.declared.branch.Goto.{Goto}
+use Rattle.conditional_fields.specs.declared.branch.Goto.TheVariants.{To, Among}
+use Rattle.conditional_fields.specs.Branches.{IsGoto}
 use Rattle.conditional_asm.specs.declared.act.Act.{Act}
 use Rattle.conditional_asm.specs.declared.act.Act.TheVariants.{Next, Branch, Actr}
-use Rattle.conditional_asm.specs.declared.branch.Goto.{Goto}
-use Rattle.conditional_asm.specs.declared.branch.Goto.TheVariants.{To, Among}
 use Rattle.conditional_asm.specs.Acts.{refused}
-use Rattle.conditional_asm.specs.Branches.{IsGoto}
 
 -- the label of this number, counted from 1
 abbrev pub label_of : ℤ → List (List ℕ) → Option (List ℕ)

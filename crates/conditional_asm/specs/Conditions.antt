@@ -12,13 +12,13 @@ use Rattle.cond_expr.specs.declared.stop.Stop.{Stop}
 use Rattle.cond_expr.specs.Told.{Told}
 use Rattle.cond_expr.specs.Outcome.{Outcome, gives, and_then}
 use Rattle.cond_expr.specs.Values.{number, is_true}
+use Rattle.conditional_fields.specs.declared.branch.Selector.{Selector}
+use Rattle.conditional_fields.specs.declared.front.Sought.TheVariants.{Condition}
+use Rattle.conditional_fields.specs.Answers.{IsPlaced}
+use Rattle.conditional_fields.specs.Branches.{IsChoiceRead}
 use Rattle.conditional_asm.specs.declared.act.Act.{Act}
 use Rattle.conditional_asm.specs.declared.act.Act.TheVariants.{Next, Branch}
-use Rattle.conditional_asm.specs.declared.branch.Selector.{Selector}
 use Rattle.conditional_asm.specs.declared.condition.Choices.{Choices}
-use Rattle.conditional_asm.specs.declared.front.Sought.TheVariants.{Condition}
-use Rattle.conditional_asm.specs.Answers.{IsPlaced}
-use Rattle.conditional_asm.specs.Branches.{IsChoiceRead}
 use Rattle.conditional_asm.specs.Branching.{IsTold}
 
 -- how an operand is read: it begins with a parenthesis

@@ -14,12 +14,13 @@ use Rattle.cond_expr.specs.declared.stop.Stop.{Stop}
 use Rattle.cond_expr.specs.declared.stop.Stop.TheVariants as stop
 use Rattle.cond_expr.specs.Told.{Told}
 use Rattle.cond_expr.specs.Outcome.{Outcome, Gives, Asks, gives, Tells}
+use Rattle.conditional_fields.specs.declared.template.Template.{Template}
+use Rattle.conditional_fields.specs.Templates.{IsTemplate, IsUnreadable}
 use Rattle.conditional_asm.specs.declared.act.Act.{Act}
 use Rattle.conditional_asm.specs.declared.act.Act.TheVariants as act
 use Rattle.conditional_asm.specs.declared.act.Effect.{Effect}
 use Rattle.conditional_asm.specs.declared.task.Task.{Task}
 use Rattle.conditional_asm.specs.declared.task.Task.TheVariants as task
-use Rattle.conditional_asm.specs.declared.template.Template.{Template}
 use Rattle.conditional_asm.specs.Acts.{refused, declaring, copying}
 use Rattle.conditional_asm.specs.Branching.{Goes, Counts}
 use Rattle.conditional_asm.specs.Conditions.{GoesIf}
@@ -28,7 +29,6 @@ use Rattle.conditional_asm.specs.Messages.{Says}
 use Rattle.conditional_asm.specs.Setting.{Assigns}
 use Rattle.conditional_asm.specs.Substitution.{substituted}
 use Rattle.conditional_asm.specs.Tasks as tasks
-use Rattle.conditional_asm.specs.Templates.{IsTemplate, IsUnreadable}
 use Rattle.conditional_asm.specs.Troubles.{no_operation, open_apostrophe, undefined, left_out}
 
 -- Something that is told first, and then the rest, which knows its value. Only want of memory is free.

@@ -13,14 +13,14 @@ use Rattle.cond_expr.specs.declared.stop.Stop.{Stop}
 use Rattle.cond_expr.specs.declared.stop.Stop.TheVariants as stop
 use Rattle.cond_expr.specs.Told.{Told}
 use Rattle.cond_expr.specs.Outcome.{Outcome, Gives, Asks, gives, and_then, Tells}
+use Rattle.conditional_fields.specs.declared.template.Piece.{Piece}
+use Rattle.conditional_fields.specs.Endings.{field_of}
+use Rattle.conditional_fields.specs.Templates.{IsTemplate, IsUnreadable}
 use Rattle.conditional_asm.specs.declared.act.Act.{Act}
 use Rattle.conditional_asm.specs.declared.act.Act.TheVariants.{End, Generate}
-use Rattle.conditional_asm.specs.declared.template.Piece.{Piece}
 use Rattle.conditional_asm.specs.declared.generating.Fields.{Fields}
 use Rattle.conditional_asm.specs.Branching.{IsTold}
-use Rattle.conditional_asm.specs.Endings.{field_of}
 use Rattle.conditional_asm.specs.Substitution.{substituted}
-use Rattle.conditional_asm.specs.Templates.{IsTemplate, IsUnreadable}
 use Rattle.conditional_asm.specs.Troubles.{open_apostrophe, unreadable}
 
 -- How name entry and operands are read: both, before anything of them is evaluated; or where the first of them cannot be.

@@ -1,13 +1,4 @@
-pub mod Fronts
-pub mod Tries
-pub mod Templates
-pub mod Readings
-pub mod Answers
-pub mod Sequences
-pub mod Declarations
-pub mod Branches
 pub mod Substitution
-pub mod Endings
 pub mod Troubles
 pub mod Acts
 pub mod Branching

@@ -18,10 +18,10 @@ use Rattle.cond_expr.specs.Told.{Told}
 use Rattle.cond_expr.specs.Outcome.{Outcome, Gives, gives, and_then}
 use Rattle.cond_expr.specs.Troubles.{note}
 use Rattle.cond_expr.specs.Values.{number, text}
+use Rattle.conditional_fields.specs.Answers.{Answers, IsPlaced}
 use Rattle.conditional_asm.specs.declared.act.Act.{Act}
 use Rattle.conditional_asm.specs.declared.act.Act.TheVariants.{Next}
 use Rattle.conditional_asm.specs.declared.message.Message.{Message}
-use Rattle.conditional_asm.specs.Answers.{Answers, IsPlaced}
 use Rattle.conditional_asm.specs.Branching.{IsArithmetic, IsTold}
 
 -- how a character expression is read

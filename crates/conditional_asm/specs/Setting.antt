@@ -22,12 +22,12 @@ use Rattle.cond_expr.specs.Told.{Told}
 use Rattle.cond_expr.specs.Outcome.{Outcome, gives, and_then}
 use Rattle.cond_expr.specs.Characters.{not_below_0}
 use Rattle.cond_expr.specs.Values.{number, numbers, text, is_true}
+use Rattle.conditional_fields.specs.Answers.{IsPlaced}
+use Rattle.conditional_fields.specs.Templates.{IsBroken, IsSymbol}
 use Rattle.conditional_asm.specs.declared.act.Act.{Act}
 use Rattle.conditional_asm.specs.declared.act.Act.TheVariants.{Next, Set}
 use Rattle.conditional_asm.specs.declared.setting.Setting.{Setting}
-use Rattle.conditional_asm.specs.Answers.{IsPlaced}
 use Rattle.conditional_asm.specs.Branching.{IsTold}
-use Rattle.conditional_asm.specs.Templates.{IsBroken, IsSymbol}
 
 -- how a name entry is read as a variable symbol: all of it is one, or it goes wrong within it, or behind it
 abbrev pub IsTargetWith : (ampersand : Bool) → List ℕ → Result Expr SyntaxFault → Type 0

@@ -6,8 +6,8 @@ use Rattle.expression_grammar.specs.Views.{tree_of}
 use Rattle.cond_expr.specs.Told.{Told}
 use Rattle.cond_expr.specs.Outcome.{Outcome, gives, and_then}
 use Rattle.cond_expr.specs.Values.{inserted}
-use Rattle.conditional_asm.specs.declared.template.Piece.{Piece}
-use Rattle.conditional_asm.specs.declared.template.Piece.TheVariants as piece
+use Rattle.conditional_fields.specs.declared.template.Piece.{Piece}
+use Rattle.conditional_fields.specs.declared.template.Piece.TheVariants as piece
 
 -- the text of a variable symbol
 abbrev pub symbol_text : Tree → Told → Outcome (List ℕ)

@@ -1,6 +1,6 @@
 ghost use Rattle.std.specs.Prelude.{◌≡◌, IfOk};
 
-use crate::{Act, end, ended, generate, go, limit_branches};
+use crate::{Act, end, generate, go, limit_branches};
 use cond_expr::{Found, Lookups, Stop};
 use hl_base::{Answer, Key, Name, Notes, OutOfMemory, SetValue, Text};
 use std::alloc::Global;
@@ -162,23 +162,6 @@ fn end_ends_all_the_same(rt: HostRuntime) -> Result<(), Fail> {
         let op = Text::of(alloc, "END")?;
         let done = end(alloc, "", op, operands, &mut fake, &mut notes);
         assert_eq!(rt; shown(alloc, done, &notes)?.as_str(), want, "{operands}");
-    }
-    Ok(())
-}
-
-#[test]
-fn a_field_ends_at_a_blank(rt: HostRuntime) -> Result<(), Fail> {
-    let alloc = rt.alloc();
-    for (text, want) in [
-        ("A,B C", "A,B"),
-        ("'A B' C", "'A B'"),
-        ("L'A B", "L'A"),
-        ("(A B)", "(A"),
-        (" A", ""),
-        ("A\tB", "A"),
-        ("", ""),
-    ] {
-        assert_eq!(rt; ended(alloc, text)?.as_str(), want, "{text}");
     }
     Ok(())
 }

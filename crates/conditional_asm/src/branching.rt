@@ -9,10 +9,10 @@ ghost use Rattle.cond_expr.specs.Characters.{not_below_0};
 ghost use Rattle.conditional_asm.specs.Branching as branching;
 
 use crate::act::Act;
-use crate::branch::{Goto, ago};
 use crate::declaring::refused;
 use cond_expr::evaluate::number;
 use cond_expr::{Lookups, Stop};
+use conditional_fields::{Goto, ago};
 use hl_base::{Name, Notes};
 use operand_grammar::{Expr, SyntaxFault, parse_arith};
 use std::alloc::Global;

@@ -9,12 +9,13 @@ ghost use Rattle.cond_expr.specs.Outcome.{Tells};
 ghost use Rattle.conditional_asm.specs.Conditions as conditions;
 
 use crate::act::Act;
-use crate::branch::{Selector, choice};
-use crate::character::begins_with;
 use crate::declaring::refused;
-use crate::front::Sought;
 use cond_expr::evaluate::number;
 use cond_expr::{Lookups, Stop};
+use conditional_fields::Selector;
+use conditional_fields::branch::choice;
+use conditional_fields::character::begins_with;
+use conditional_fields::front::Sought;
 use hl_base::{Notes, OutOfMemory, Text};
 use operand_grammar::{Expr, SyntaxFault, split_operands};
 use std::alloc::Global;

@@ -4,10 +4,10 @@ ghost use Rattle.cond_expr.specs.Outcome.{Tells};
 ghost use Rattle.conditional_asm.specs.Acts as acts;
 
 use crate::act::Act;
-use crate::character::name_of;
 use crate::declaring::refused;
-use crate::sequence::symbol_reach;
 use cond_expr::Stop;
+use conditional_fields::character::name_of;
+use conditional_fields::sequence::symbol_reach;
 use hl_base::Notes;
 use std::alloc::Global;
 

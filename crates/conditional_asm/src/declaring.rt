@@ -5,9 +5,9 @@ ghost use Rattle.cond_expr.specs.Outcome.{Tells};
 ghost use Rattle.conditional_asm.specs.Acts as acts;
 
 use crate::act::Act;
-use crate::declaration::declarations;
 use crate::trouble;
 use cond_expr::Stop;
+use conditional_fields::declarations;
 use hl_base::{Notes, SetKind};
 use operand_grammar::SyntaxFault;
 use std::alloc::Global;

@@ -9,11 +9,10 @@ ghost use Rattle.conditional_asm.specs.Generating as generating;
 
 use crate::act::Act;
 use crate::declaring::refused;
-use crate::ending::ended;
 use crate::substitution::substitute;
-use crate::template::Template;
 use crate::trouble;
 use cond_expr::{Lookups, Stop};
+use conditional_fields::{Template, ended};
 use hl_base::{Answer, Key, Line, Name, Notes, Text};
 use hlasm_statements::ends_quoted;
 use operand_grammar::SyntaxFault;

@@ -6,14 +6,14 @@ ghost use Rattle.std.specs.Str.{chars};
 ghost use Rattle.expression_grammar.specs.Views.{tree_of};
 ghost use Rattle.operand_list.specs.Split.{operands_of};
 ghost use Rattle.cond_expr.specs.Outcome.{Tells};
-ghost use Rattle.conditional_asm.specs.Answers.{Answers};
+ghost use Rattle.conditional_fields.specs.Answers.{Answers};
 ghost use Rattle.conditional_asm.specs.Messages as messages;
 
 use crate::act::Act;
-use crate::character::head;
 use crate::declaring::refused;
 use cond_expr::evaluate::{number, text};
 use cond_expr::{Lookups, Stop};
+use conditional_fields::character::head;
 use hl_base::{Frames, Note, Notes, Severity, Text};
 use operand_grammar::{Expr, SyntaxFault, parse_arith, parse_char, split_operands};
 use std::alloc::Global;

@@ -9,13 +9,13 @@ ghost use Rattle.cond_expr.specs.Characters.{not_below_0};
 ghost use Rattle.conditional_asm.specs.Setting as settings;
 
 use crate::act::Act;
-use crate::character::{begins_with, character_count};
 use crate::declaring::refused;
-use crate::front::{Sought, reach};
-use crate::place::fault_at;
-use crate::template::symbol;
 use cond_expr::evaluate::{number, numbers, text};
 use cond_expr::{Lookups, Numbers, Stop};
+use conditional_fields::character::{begins_with, character_count};
+use conditional_fields::front::{Sought, reach};
+use conditional_fields::place::fault_at;
+use conditional_fields::template::symbol;
 use hl_base::{Notes, SetKind, SetValue};
 use operand_grammar::{Expr, SyntaxFault, parse_arith, parse_char, parse_logic};
 use std::alloc::Global;

@@ -6,9 +6,9 @@ ghost use Rattle.expression_grammar.specs.Views.{tree_of};
 ghost use Rattle.cond_expr.specs.Outcome.{Tells};
 ghost use Rattle.conditional_asm.specs.Substitution as substitution;
 
-use crate::template::{Piece, Template};
 use cond_expr::evaluate::inserted;
 use cond_expr::{Lookups, Stop};
+use conditional_fields::{Piece, Template};
 use hl_base::{Notes, Text};
 use operand_grammar::Expr;
 use std::alloc::Global;

@@ -1,5 +1,5 @@
 use Rattle.std.proofs.Common.{◌∙◌, ◌+◌, List, ℕ, Ok, Err, sym, subst, take}
-use Rattle.conditional_asm.specs.declared.branch.Selector.{Selector}
+use Rattle.conditional_fields.specs.declared.branch.Selector.{Selector}
 use Rattle.conditional_asm.specs.Conditions.{IsPair, ArePairs}
 use Rattle.conditional_asm.proofs.ConditionLaws.{pairs-more, pairs-stop, pairs-end}
 use Rattle.conditional_asm.proofs.condition.read_operands.Goals as goal

@@ -1,5 +1,5 @@
 use Rattle.std.specs.Str.{chars}
-use Rattle.conditional_asm.specs.Declarations.{declarations}
+use Rattle.conditional_fields.specs.Declarations.{declarations}
 use Rattle.conditional_asm.proofs.DeclaringLaws.{declares_refused}
 use Rattle.conditional_asm.proofs.declaring.declare.Goals as goal
 

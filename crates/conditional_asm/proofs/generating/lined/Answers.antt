@@ -2,7 +2,7 @@ use Rattle.std.proofs.Common.{◌≡◌, ◌∙◌, List, ℕ, Ok, ap, subst}
 use Rattle.cond_expr.specs.Told.{Told}
 use Rattle.cond_expr.specs.Outcome.{Tells, and_then}
 use Rattle.cond_expr.proofs.OutcomeLemmas.{Tells-next, Tells-and_then}
-use Rattle.conditional_asm.specs.Endings.{field_of}
+use Rattle.conditional_fields.specs.Endings.{field_of}
 use Rattle.conditional_asm.specs.Generating.{checked_line}
 use Rattle.conditional_asm.specs.Substitution.{substituted}
 use Rattle.conditional_asm.proofs.generating.lined.Goals as goal

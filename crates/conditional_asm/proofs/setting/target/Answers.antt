@@ -2,9 +2,9 @@ use Rattle.std.proofs.Common.{◌≡◌, ◌∙◌, true, sym, subst, rules}
 use Rattle.std.specs.Prelude.{Option}
 use Rattle.std.specs.Str.{chars}
 use Rattle.expression_grammar.specs.Views.{tree_of}
-use Rattle.conditional_asm.specs.declared.template.Found.{Found}
-use Rattle.conditional_asm.specs.Readings.{IsSymbolFound}
-use Rattle.conditional_asm.specs.Templates.{has_subscripts}
+use Rattle.conditional_fields.specs.declared.template.Found.{Found}
+use Rattle.conditional_fields.specs.Readings.{IsSymbolFound}
+use Rattle.conditional_fields.specs.Templates.{has_subscripts}
 use Rattle.conditional_asm.proofs.SettingLaws.{target_behind}
 use Rattle.conditional_asm.proofs.setting.target.Goals as goal
 

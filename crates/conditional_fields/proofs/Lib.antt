@@ -1,0 +1,7 @@
+pub mod TextLaws
+pub mod FrontLaws
+pub mod TemplateLaws
+pub mod AnswerLaws
+pub mod DeclarationLaws
+pub mod BranchLaws
+pub mod EndingLaws
