@@ -42,11 +42,10 @@ use Rattle.logical_grammar.specs.LogicReading.{Open, LogicState, Against, Operan
 use Rattle.logical_grammar.specs.LogicViews.{LogicMoves, ends_number, closes_number, takes_letter, part_takes_letter, may_end_text, text_takes_letter, operand_weight, point_of, opening_of, open_of}
 use Rattle.expression_grammar.proofs.CharacterLaws.{digit-kind}
 use Rattle.expression_grammar.proofs.Completions.{if-true}
-use Rattle.expression_grammar.proofs.Folds.{fold-size}
 use Rattle.expression_grammar.proofs.Leads.{IsAtTree, as_tree, as_part, step-behind}
 use Rattle.expression_grammar.proofs.MoveLaws.{open_whole}
 use Rattle.logical_grammar.proofs.LogicWeights.{logic_fold-size}
-use Rattle.character_grammar.proofs.TextMoveLaws.{accept-none, accept-some, at-weight, fold-again, folded-size}
+use Rattle.character_grammar.proofs.TextMoveLaws.{accept-none, accept-some, fold-again}
 
 pub LogicMoves-same : (found other : Option LogicState) (before same : ℕ) (moved : Option LogicMoved) (layers : List Open) → found ≡ other → before ≡ same →
     LogicMoves other same moved layers → LogicMoves found before moved layers

@@ -1,5 +1,5 @@
 -- Where the reading of a logical expression stops (this project). No public contract speaks of it.
-use Rattle.std.specs.Prelude.{◌≡◌, ℕ, None}
+use Rattle.std.specs.Prelude.{◌≡◌, None}
 use Rattle.expression_grammar.specs.declared.fault.SyntaxFault.{SyntaxFault}
 use Rattle.expression_grammar.specs.declared.fault.SyntaxFault.TheVariants.{At, OutOfMemory}
 use Rattle.expression_grammar.specs.Spelling.{Placed, most_parts}

@@ -3,13 +3,11 @@ use Rattle.std.specs.Prelude.{◌≡◌, ℕ, ◌<◌, ◌≤◌, ◌&&◌, Bool
 use Rattle.std.specs.Char.{to_ascii_uppercase}
 use Rattle.expression_grammar.specs.declared.character.Grammar.TheVariants.{Arithmetic}
 use Rattle.expression_grammar.specs.declared.character.Kind.TheVariants as kind
-use Rattle.expression_grammar.specs.declared.tree.Comparison.{Comparison}
-use Rattle.expression_grammar.specs.declared.tree.Operator.{Operator}
 use Rattle.expression_grammar.specs.Characters.{kind_of, strength}
 use Rattle.expression_grammar.specs.Spelling.{Placed, Gap, One, IsGap, IsOf, Reads, rank, spell}
 use Rattle.expression_grammar.specs.Reading as reading
-use Rattle.expression_grammar.specs.Trees.{Tree, Paren}
-use Rattle.logical_grammar.specs.Logics.{IsNumber, IsCharacters, IsTruth, IsLogical, Joined, Negated, operator_word, comparison_word, is_logical, not_word, capitals, touches_behind, touches_ahead}
+use Rattle.expression_grammar.specs.Trees.{Tree}
+use Rattle.logical_grammar.specs.Logics.{IsNumber, IsCharacters, IsTruth, IsLogical, Joined, Negated, operator_word, comparison_word, is_logical, not_word, capitals, touches_behind}
 use Rattle.logical_grammar.specs.LogicReading.{Open, Negation, Both, Group, Against, Point, Want, MaybeNot, Letters, Number, Text, Ended, Comparing, Right, Closed, Had, LogicState, compares}
 use Rattle.character_grammar.specs.TextStanding.{TextHolds}
 use Rattle.character_grammar.specs.TextReading.{TextState}

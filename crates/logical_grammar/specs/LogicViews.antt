@@ -22,7 +22,7 @@ use Rattle.logical_grammar.specs.declared.logic_point.Operand.TheVariants as ope
 use Rattle.logical_grammar.specs.declared.logic_point.LogicMoved.{LogicMoved}
 use Rattle.logical_grammar.specs.declared.logic_behind.LogicClosing.{LogicClosing}
 use Rattle.logical_grammar.specs.declared.logic_behind.LogicClosing.TheVariants as closing
-use Rattle.expression_grammar.specs.Trees.{Tree, size}
+use Rattle.expression_grammar.specs.Trees.{size}
 use Rattle.expression_grammar.specs.Views.{tree_of}
 use Rattle.expression_grammar.specs.Stacks.{stack_of, stand}
 use Rattle.character_grammar.specs.TextViews.{text_state}

@@ -170,7 +170,7 @@ fn text_takes_letter(inner: &TextPoint) -> bool
 }
 
 /// Whether a text may end here.
-#[tactic(auto, unfolding(crate::specs::TextReading::text_accept))]
+#[tactic(auto, unfolding(character_grammar::specs::TextReading::text_accept))]
 fn is_whole(inner: &TextPoint) -> bool
     ensures { result ≡ is_some (texts.text_accept (text_state inner.now)) }
 {
@@ -257,7 +257,7 @@ fn begin_number(
 }
 
 /// A text where a truth is wanted: a comparison and a text have to come.
-#[tactic(auto, unfolding(crate::specs::TextReading::text_step))]
+#[tactic(auto, unfolding(character_grammar::specs::TextReading::text_step))]
 fn begin_text(alloc: Global, kind: Kind, c: char) -> Option<LogicMoved>
     requires { kind ≡ characters.kind_of c }
     ensures { (at : ℕ) (layers : List logic.Open) → LogicMoves (logic.text_begun None (record { at = at; code = c }) layers) (logic.open_size layers + 1) result layers }

@@ -1,4 +1,4 @@
-use Rattle.std.proofs.Common.{◌≡◌, ◌+◌, List, [], refl}
+use Rattle.std.proofs.Common.{◌+◌, List, [], refl}
 use Rattle.std.specs.Prelude.{None, false}
 use Rattle.expression_grammar.specs.Reading.{Have}
 use Rattle.expression_grammar.specs.Spelling.{Placed}

@@ -1,15 +1,5 @@
-use Rattle.std.proofs.Common.{◌≡◌, ◌+◌, [], ap, subst, sym, ◌∙◌, List}
-use Rattle.std.specs.Prelude.{Option, Some, None, option_map}
-use Rattle.expression_grammar.specs.declared.character.Grammar.TheVariants.{Arithmetic}
-use Rattle.expression_grammar.specs.declared.pending.Pending.{Pending}
-use Rattle.expression_grammar.specs.declared.reader.Moved.{Moved}
-use Rattle.expression_grammar.specs.Moves.{Moves}
-use Rattle.expression_grammar.specs.Reading.{State, Want, step, weight, layers_size}
-use Rattle.expression_grammar.specs.Spelling.{Placed}
-use Rattle.expression_grammar.specs.Stacks.{stack_of, stand}
-use Rattle.logical_grammar.specs.declared.logic_point.LogicMoved.{LogicMoved}
-use Rattle.logical_grammar.specs.LogicReading.{Open, on_number, open_size, against_size}
-use Rattle.logical_grammar.specs.LogicViews.{LogicMoves}
+use Rattle.std.proofs.Common.{[]}
+use Rattle.expression_grammar.specs.Stacks.{stack_of}
 use Rattle.logical_grammar.proofs.LogicMoveLaws.{attribute_stops, attribute_goes_on}
 use Rattle.logical_grammar.proofs.logic_reader.begin_attribute.Goals as goal
 

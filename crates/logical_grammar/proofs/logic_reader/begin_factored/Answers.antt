@@ -1,4 +1,3 @@
-use Rattle.std.proofs.Common.{◌≡◌, ℕ, List}
 use Rattle.expression_grammar.specs.Spelling.{Placed}
 use Rattle.expression_grammar.specs.Views.{tree_of}
 use Rattle.logical_grammar.proofs.LogicMoveLaws.{factor_moves}

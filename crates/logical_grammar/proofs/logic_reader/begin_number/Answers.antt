@@ -1,4 +1,4 @@
-use Rattle.std.proofs.Common.{◌≡◌, ◌+◌, List, [], subst}
+use Rattle.std.proofs.Common.{◌+◌, List, [], subst}
 use Rattle.std.specs.Prelude.{IfOk, None, false, option_map}
 use Rattle.expression_grammar.specs.declared.character.Grammar.TheVariants.{Arithmetic}
 use Rattle.expression_grammar.specs.declared.pending.Pending.{Pending}

@@ -1,9 +1,8 @@
-use Rattle.std.proofs.Common.{◌≡◌, ◌+◌, List, refl, arith}
-use Rattle.std.specs.Prelude.{Some, None, false}
+use Rattle.std.proofs.Common.{◌+◌, refl, arith}
+use Rattle.std.specs.Prelude.{Some}
 use Rattle.expression_grammar.specs.Spelling.{Placed}
 use Rattle.expression_grammar.specs.Trees.{size}
-use Rattle.expression_grammar.specs.Views.{tree_of}
-use Rattle.logical_grammar.specs.LogicReading.{Open, text_begun, number_begun, open_size}
+use Rattle.logical_grammar.specs.LogicReading.{text_begun, number_begun, open_size}
 use Rattle.logical_grammar.specs.LogicViews.{against_of}
 use Rattle.logical_grammar.proofs.LogicMoveLaws.{LogicMoves-same}
 use Rattle.logical_grammar.proofs.logic_reader.begin_side.Goals as goal

@@ -1,4 +1,4 @@
-use Rattle.std.proofs.Common.{◌≡◌, ◌∙◌, ◌+◌, List, [], true, false, ap, sym, refl, rules}
+use Rattle.std.proofs.Common.{◌≡◌, ◌+◌, List, [], true, false, ap, sym, refl, rules}
 use Rattle.std.specs.Prelude.{None, option_map}
 use Rattle.expression_grammar.specs.declared.character.Grammar.TheVariants.{Arithmetic}
 use Rattle.expression_grammar.specs.Characters.{kind_of}

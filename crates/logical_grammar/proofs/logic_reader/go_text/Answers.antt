@@ -1,4 +1,4 @@
-use Rattle.std.proofs.Common.{◌≡◌, ◌∙◌, ◌+◌, List, [], true, false, ap, sym, refl, subst, rules}
+use Rattle.std.proofs.Common.{◌≡◌, ◌+◌, List, [], true, false, ap, sym, refl, subst, rules}
 use Rattle.std.specs.Prelude.{Option, Some, None, ◌&&◌, is_some, option_map}
 use Rattle.expression_grammar.specs.declared.tree.Expr.{Expr}
 use Rattle.expression_grammar.specs.Characters.{kind_of}

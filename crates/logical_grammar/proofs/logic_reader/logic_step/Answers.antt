@@ -1,4 +1,4 @@
-use Rattle.std.proofs.Common.{◌≡◌, ℕ, ◌+◌, List, [], subst}
+use Rattle.std.proofs.Common.{ℕ, ◌+◌, List, [], subst}
 use Rattle.expression_grammar.specs.Trees.{size}
 use Rattle.expression_grammar.specs.Views.{tree_of}
 use Rattle.logical_grammar.specs.LogicReading.{Open, logic_step, after_letters, after_comparing, comparison_of, open_size}

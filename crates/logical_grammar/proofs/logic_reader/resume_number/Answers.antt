@@ -1,7 +1,7 @@
-use Rattle.std.proofs.Common.{◌≡◌, ◌+◌, List, [], refl, subst, arith}
+use Rattle.std.proofs.Common.{◌+◌, List, [], refl, subst, arith}
 use Rattle.std.specs.Prelude.{None, false}
 use Rattle.expression_grammar.specs.declared.pending.Pending.{Pending}
-use Rattle.expression_grammar.specs.Reading.{State, Have, layers_size}
+use Rattle.expression_grammar.specs.Reading.{Have, layers_size}
 use Rattle.expression_grammar.specs.Spelling.{Placed}
 use Rattle.expression_grammar.specs.Stacks.{stack_of}
 use Rattle.expression_grammar.specs.Trees.{Tree, Paren, size}
