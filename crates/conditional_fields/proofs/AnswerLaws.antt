@@ -4,7 +4,7 @@ use Rattle.std.proofs.Math.ListN.{drop_of_length-le}
 use Rattle.std.specs.Prelude.{Result, Ok, Err}
 use Rattle.expression_grammar.specs.declared.fault.SyntaxFault.{SyntaxFault}
 use Rattle.expression_grammar.specs.declared.fault.SyntaxFault.TheVariants.{At, OutOfMemory}
-use Rattle.conditional_fields.specs.Answers.{Answers, IsWant, IsPlaced, behind_these, and_others, each}
+use Rattle.conditional_fields.specs.Answers.{Answers, IsWant, behind_these, and_others, each}
 
 -- want of memory answers everything
 pub want_answers : {V : Type 0} (o : Result V ℕ) (fault : SyntaxFault) → IsWant fault → Answers o (Err fault)

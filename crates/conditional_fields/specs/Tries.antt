@@ -1,5 +1,5 @@
 -- What is said of a text that may be what is sought (this project). No public contract speaks of it.
-use Rattle.std.specs.Prelude.{◌≡◌, ℕ, ◌++◌, List, Option, Some, None}
+use Rattle.std.specs.Prelude.{ℕ, ◌++◌, List, Option, Some, None}
 use Rattle.expression_grammar.specs.Trees.{Tree}
 use Rattle.expression_grammar.specs.Views.{tree_of}
 use Rattle.conditional_fields.specs.declared.front.Sought.{Sought}

@@ -1,4 +1,4 @@
-use Rattle.std.proofs.Common.{◌≡◌, ◌∙◌, ◌+◌, List, ℕ, sym, ap, subst, drop}
+use Rattle.std.proofs.Common.{◌∙◌, ◌+◌, List, ℕ, sym, ap, subst, drop}
 use Rattle.std.specs.Prelude.{Err, Ok}
 use Rattle.conditional_fields.specs.Answers.{Answers, each, behind_these}
 use Rattle.conditional_fields.specs.Sequences.{sequence}

@@ -1,6 +1,5 @@
 use Rattle.std.proofs.Common.{◌∙◌, ◌++◌, sym, ap}
 use Rattle.std.specs.Prelude.{encode_utf8}
-use Rattle.std.specs.Str.{chars}
 use Rattle.std.proofs.lemmas.Str.{chars_past_char}
 use Rattle.conditional_fields.proofs.TextLaws.{chars-none}
 use Rattle.conditional_fields.proofs.character.head.Goals as goal

@@ -1,8 +1,6 @@
-use Rattle.std.proofs.Common.{◌≡◌, ◌∙◌, ◌+◌, ◌++◌, ◌∷◌, [], List, ℕ, sym, ap, subst, drop}
+use Rattle.std.proofs.Common.{◌∙◌, ◌+◌, List, ℕ, sym, ap, subst, drop}
 use Rattle.std.specs.Prelude.{Err, Ok}
-use Rattle.std.specs.Str.{chars}
-use Rattle.hl_base.specs.declared.set.Declaration.{Declaration}
-use Rattle.conditional_fields.specs.Answers.{Answers, each, behind_these, and_others}
+use Rattle.conditional_fields.specs.Answers.{Answers, each, behind_these}
 use Rattle.conditional_fields.specs.Declarations.{declaration}
 use Rattle.conditional_fields.proofs.AnswerLaws.{behind-nothing, each-goes, each-stops, each-ends, each-at, each-past}
 use Rattle.conditional_fields.proofs.declaration.each_declaration.Goals as goal

@@ -1,4 +1,4 @@
-use Rattle.std.proofs.Common.{◌≡◌, ◌∙◌, ◌+◌, ℕ, List, sym, ap, subst, take, drop}
+use Rattle.std.proofs.Common.{◌∙◌, ◌+◌, ℕ, List, sym, ap, subst, take, drop}
 use Rattle.std.specs.Prelude.{Err, encode_utf8_all}
 use Rattle.std.specs.Str.{chars}
 use Rattle.hl_base.specs.Symbols.{symbol_of}

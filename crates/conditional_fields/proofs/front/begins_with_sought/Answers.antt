@@ -1,12 +1,10 @@
-use Rattle.std.proofs.Common.{◌≡◌, ◌<◌, ◌≤◌, ◌+◌, ◌∙◌, ℕ, ◌∷◌, [], ◌++◌, sym, ap, subst, length, take, get_or, arith, rules}
+use Rattle.std.proofs.Common.{◌≡◌, ◌<◌, ◌+◌, ◌∙◌, ℕ, ◌∷◌, [], ◌++◌, sym, ap, subst, length, take, get_or, arith, rules}
 use Rattle.std.specs.Str.{chars}
 use Rattle.std.proofs.lemmas.Iterator.{YieldsList-from_chars}
 use Rattle.std.proofs.lemmas.Iterator.Consumers.{YieldsList-turn, YieldsList-end}
 use Rattle.std.proofs.lemmas.List.{length_push}
-use Rattle.expression_grammar.specs.Trees.{Tree}
 use Rattle.expression_grammar.specs.Views.{tree_of}
 use Rattle.conditional_fields.specs.declared.front.Tried.{Tried}
-use Rattle.conditional_fields.specs.Fronts.{IsSought, IsClosed, extent}
 use Rattle.conditional_fields.specs.Tries.{IsTried}
 use Rattle.conditional_fields.proofs.FrontLaws.{not_closing, not_sought, is_closed, never_further, past_end, none_more, none_at_all}
 use Rattle.conditional_fields.proofs.front.begins_with_sought.Goals as goal

@@ -1,4 +1,4 @@
-use Rattle.std.proofs.Common.{◌≡◌, ◌∙◌, subst, ap, take, ℕ, List}
+use Rattle.std.proofs.Common.{◌∙◌, subst, ap, take, ℕ, List}
 use Rattle.std.specs.Str.{chars}
 use Rattle.expression_grammar.specs.Trees.{Tree}
 use Rattle.conditional_fields.specs.declared.front.Sought.TheVariants.{Variable}

@@ -1,4 +1,4 @@
-use Rattle.std.proofs.Common.{◌≡◌, ◌∙◌, ◌++◌, ◌∷◌, [], ℕ, List, drop, Option, Some, subst, sym, length, arith}
+use Rattle.std.proofs.Common.{ℕ, List, Option, subst, sym}
 use Rattle.std.specs.Str.{chars}
 use Rattle.conditional_fields.specs.declared.template.Step.{Step}
 use Rattle.conditional_fields.specs.declared.template.Piece.{Piece}
