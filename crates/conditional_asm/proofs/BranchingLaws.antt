@@ -1,7 +1,6 @@
 -- Labels by their numbers, and what is told of a field that was read.
-use Rattle.std.proofs.Common.{◌≡◌, ◌∙◌, ◌-ℤ◌, ◌<ℤ◌, ℕ, ℤ, pos, negsuc, List, [], ◌∷◌, refl, sym, ap, subst, Result, Ok, Err}
+use Rattle.std.proofs.Common.{◌≡◌, ℤ, List, Ok}
 use Rattle.hl_base.specs.declared.note.Note.{Note}
-use Rattle.cond_expr.specs.declared.stop.Stop.{Stop}
 use Rattle.cond_expr.specs.Outcome.{Outcome, Tells, gives, and_then}
 use Rattle.cond_expr.proofs.OutcomeLemmas.{Tells-and_then, Tells-gives}
 use Rattle.conditional_asm.specs.declared.act.Act.{Act}

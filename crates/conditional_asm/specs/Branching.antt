@@ -1,6 +1,6 @@
 -- What AGO and ACTR do (HLASM Language Reference SC26-4940, "AGO instruction", "Computed AGO instruction", "ACTR
 -- instruction").
-use Rattle.std.specs.Prelude.{◌≡◌, ℕ, zero, suc, List, [], ◌∷◌, Option, Some, None, Result, Ok, Err, ℤ, pos, negsuc, slice_get}
+use Rattle.std.specs.Prelude.{◌≡◌, ℕ, zero, suc, List, ◌∷◌, Option, None, Result, Ok, Err, ℤ, pos, negsuc, slice_get}
 use Rattle.std.specs.Option.{option_map_or}
 use Rattle.hl_base.specs.declared.note.Note.{Note}
 use Rattle.expression_grammar.specs.declared.character.Grammar.TheVariants.{Arithmetic}

@@ -1,10 +1,8 @@
-use Rattle.std.proofs.Common.{◌≡◌, ◌∙◌, ◌+◌, ◌++◌, ℕ, List, drop, Result, Ok, Err, sym, ap, subst, refl}
-use Rattle.hl_base.specs.declared.note.Note.{Note}
-use Rattle.cond_expr.specs.declared.stop.Stop.{Stop}
+use Rattle.std.proofs.Common.{◌≡◌, ◌∙◌, ◌+◌, ◌++◌, ℕ, List, drop, Ok, Err, sym, ap, subst, refl}
 use Rattle.cond_expr.specs.Outcome.{Outcome, Tells}
 use Rattle.cond_expr.specs.Told.{Told}
 use Rattle.conditional_asm.specs.Substitution.{substituted, behind_text, piece_text}
-use Rattle.conditional_asm.proofs.SubstitutionLaws.{tells-all, tells-more, tells-stop, tells-end, then_others, substituted-at, substituted-past}
+use Rattle.conditional_asm.proofs.SubstitutionLaws.{tells-all, tells-more, tells-stop, tells-end, substituted-at, substituted-past}
 use Rattle.conditional_asm.proofs.substitution.pieces_text.Goals as goal
 
 pub loop-piece-init : goal.loop-piece-init
