@@ -50,30 +50,14 @@ fn sign_mark(sign: Sign) -> &'static str {
     }
 }
 
-/// A variable symbol with its subscripts, each in brackets.
-fn variable(
-    alloc: Global,
-    asked: Reference,
-    name: &Symbol,
-    subscripts: &[Expr],
-) -> Result<String, AllocError> {
-    let mut text = symbol(alloc, asked, "&", name)?;
-    for subscript in subscripts {
-        text.push_str("[")?;
-        text.push_str(shown(alloc, subscript)?.as_str())?;
-        text.push_str("]")?;
-    }
-    Ok(text)
-}
-
 /// A word before two trees.
-fn prefix(alloc: Global, word: &str, left: &Expr, right: &Expr) -> Result<String, AllocError> {
-    format!(in alloc; "({word} {} {})", shown(alloc, left)?, shown(alloc, right)?)
+fn prefix(alloc: Global, word: &str, left: String, right: String) -> Result<String, AllocError> {
+    format!(in alloc; "({word} {left} {right})")
 }
 
 /// A word between two trees.
-fn infix(alloc: Global, left: &Expr, word: &str, right: &Expr) -> Result<String, AllocError> {
-    format!(in alloc; "({} {word} {})", shown(alloc, left)?, shown(alloc, right)?)
+fn infix(alloc: Global, left: String, word: &str, right: String) -> Result<String, AllocError> {
+    format!(in alloc; "({left} {word} {right})")
 }
 
 /// A tree, its operators before their operands.
@@ -82,14 +66,31 @@ fn shown(alloc: Global, e: &Expr) -> Result<String, AllocError> {
         Expr::Number(_, bits) => format!(in alloc; "{bits}"),
         Expr::Here => format!(in alloc; "here"),
         Expr::Symbol(asked, name) => symbol(alloc, *asked, "", name),
-        Expr::Variable(asked, name, subscripts) => variable(alloc, *asked, name, subscripts),
+        Expr::Variable(asked, name, subscripts) => {
+            let mut text = symbol(alloc, *asked, "&", name)?;
+            for subscript in subscripts {
+                text.push_str("[")?;
+                text.push_str(shown(alloc, subscript)?.as_str())?;
+                text.push_str("]")?;
+            }
+            Ok(text)
+        }
         Expr::Signed(sign, operand) => {
             format!(in alloc; "({} {})", sign_mark(*sign), shown(alloc, operand)?)
         }
-        Expr::Pair(operator, left, right) => prefix(alloc, mark(*operator), left, right),
+        Expr::Pair(operator, left, right) => {
+            prefix(
+                alloc,
+                mark(*operator),
+                shown(alloc, left)?,
+                shown(alloc, right)?,
+            )
+        }
         Expr::Paren(inner) => format!(in alloc; "<{}>", shown(alloc, inner)?),
         Expr::Quoted(items) => quoted(alloc, items),
-        Expr::Duplicated(factor, text) => infix(alloc, factor, "times", text),
+        Expr::Duplicated(factor, text) => {
+            infix(alloc, shown(alloc, factor)?, "times", shown(alloc, text)?)
+        }
         Expr::Substring(text, start, count) => {
             let (text, start) = (shown(alloc, text)?, shown(alloc, start)?);
             format!(in alloc; "(cut {} {} {})", text, start, shown(alloc, count)?)
@@ -97,14 +98,16 @@ fn shown(alloc: Global, e: &Expr) -> Result<String, AllocError> {
         Expr::SubstringToEnd(text, start) => {
             format!(in alloc; "(cut {} {} *)", shown(alloc, text)?, shown(alloc, start)?)
         }
-        Expr::Joined(left, right) => infix(alloc, left, ".", right),
+        Expr::Joined(left, right) => infix(alloc, shown(alloc, left)?, ".", shown(alloc, right)?),
         Expr::Not(operand) => format!(in alloc; "(not {})", shown(alloc, operand)?),
-        Expr::Compared(comparison, left, right) => prefix(
-            alloc,
-            compares(*comparison),
-            left,
-            right,
-        ),
+        Expr::Compared(comparison, left, right) => {
+            prefix(
+                alloc,
+                compares(*comparison),
+                shown(alloc, left)?,
+                shown(alloc, right)?,
+            )
+        }
     }
 }
 
