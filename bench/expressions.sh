@@ -95,7 +95,7 @@ for name, lines, count in (("arithmetic", arithmetic, 5500), ("texts", texts, 55
             out.write("".join(lines[n % 5] + "\n" for n in range(count * times)))
 TEXTS
 cd "$work/crates/expressions_bench"
-rt try -- "$work/arithmetic1.txt" "$work/arithmetic2.txt" "$work/texts1.txt" "$work/texts2.txt" "$work/truths1.txt" "$work/truths2.txt" > "$work/times" 2> "$work/log" || { tail -n 20 "$work/times" "$work/log" >&2; exit 1; }
+rt run -- "$work/arithmetic1.txt" "$work/arithmetic2.txt" "$work/texts1.txt" "$work/texts2.txt" "$work/truths1.txt" "$work/truths2.txt" > "$work/times" 2> "$work/log" || { tail -n 20 "$work/times" "$work/log" >&2; exit 1; }
 python3 - "$work/times" <<'RESULT'
 import sys
 best = {}
