@@ -1,9 +1,10 @@
 # make run: proves and builds the program, and lists what it reports of a first example.
 # make demo: proves and builds the program, and shows the stored session: what an editor sends and what it is answered.
 # make install: puts the program and hlasm-lint into PREFIX/bin, which is your own ~/.local/bin if you name no PREFIX.
-# make test: the gate: proves every crate and its tests from nothing, tries the edits that must fail, runs everything.
+# make test: the gate: proves every crate and its tests from nothing, tries at most six edits that must fail of each crate, runs everything.
+# make edits: tries every edit that must fail, outside the gate.
 # All want the command rt of the kit on the PATH, and Python 3.
-.PHONY: run demo install test build
+.PHONY: run demo install test edits build
 
 PREFIX = $(HOME)/.local
 
@@ -28,6 +29,9 @@ install: build
 
 test:
 	.ci/run
+
+edits:
+	tools/edits.sh
 
 # The kit proves and builds a program where it runs it; with no change since, it only runs it.
 build:
