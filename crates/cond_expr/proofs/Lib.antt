@@ -4,3 +4,6 @@ pub mod TextLemmas
 pub mod CharacterLemmas
 pub mod TermLemmas
 pub mod SequenceLemmas
+pub mod AskingLaws
+pub mod AskingParts
+pub mod AskingValues

@@ -1,5 +1,5 @@
 -- How the telling of the parts of a list makes that of the list.
-use Rattle.std.proofs.Common.{◌≡◌, ℕ, suc, ◌+◌, ◌<◌, List, [], ◌∷◌, ◌++◌, length, take, drop, get_or, take-append-drop, ℤ, Result, Ok, Err, refl, sym, ap, ◌∙◌, subst, arith, append_assoc}
+use Rattle.std.proofs.Common.{◌≡◌, ℕ, ◌+◌, ◌<◌, List, [], ◌∷◌, ◌++◌, length, take, drop, get_or, take-append-drop, ℤ, Result, Ok, Err, refl, sym, ap, ◌∙◌, subst}
 use Rattle.hl_base.specs.declared.note.Note.{Note}
 use Rattle.std.specs.Result.{IsErrAnd}
 use Rattle.std.proofs.lemmas.List.{take_more}
@@ -12,7 +12,7 @@ use Rattle.cond_expr.specs.declared.stop.Stop.{Stop}
 use Rattle.cond_expr.specs.Told.{Told}
 use Rattle.cond_expr.specs.Outcome.{Outcome, gives, and_then, Tells}
 use Rattle.cond_expr.specs.Values.{number, numbers, pieces, piece}
-use Rattle.cond_expr.proofs.OutcomeLemmas.{Tells-and_then, Tells-stop, Tells-gives, out_of_memory}
+use Rattle.cond_expr.proofs.OutcomeLemmas.{Tells-and_then, Tells-stop, Tells-gives}
 
 -- one number more
 pub numbers-more : (told : Told) (others : Trees) (last : Tree) (before middle after : List Note) (ns : List ℤ) (n : ℤ) →

@@ -1,6 +1,5 @@
 -- A text is a self-defining term exactly where it is an ordinary expression that is a number.
-use Rattle.std.proofs.Common.{◌≡◌, ℕ, zero, suc, ◌+◌, ◌-◌, ◌==◌, ◌&&◌, ◌||◌, ◌<◌, ◌≤◌, Bool, true, false, List, [], ◌∷◌, ◌++◌, length, take, drop, Option, Some, None, IsTrue, length-append, append-nil, refl, sym, ap, ◌∙◌, subst, cond, arith, nat_lt, nat_le, nat_eq}
-use Rattle.std.proofs.lemmas.Grind.{common_steps}
+use Rattle.std.proofs.Common.{◌≡◌, ℕ, suc, ◌+◌, ◌-◌, ◌==◌, ◌&&◌, ◌||◌, Bool, true, false, List, [], ◌∷◌, ◌++◌, length, take, drop, Option, Some, None, length-append, append-nil, refl, sym, ap, ◌∙◌, subst, cond, arith, nat_lt, nat_le, nat_eq}
 use Rattle.std.proofs.lemmas.Bool.{and_left, eqb-true}
 use Rattle.std.proofs.lemmas.Bool.Decides.{nat_tests}
 use Rattle.std.proofs.Math.Seq.{take-append_seam}
@@ -8,7 +7,7 @@ use Rattle.std.specs.List.{list_all}
 use Rattle.std.specs.Cmp.Lexicographic.{pointwise}
 use Rattle.std.specs.Int.{cast_signed, w32}
 use Rattle.std.specs.Option.{option_map}
-use Rattle.std.specs.Char.{to_ascii_uppercase, is_digit, digit_value}
+use Rattle.std.specs.Char.{to_ascii_uppercase}
 use Rattle.expression_grammar.specs.declared.character.Grammar.TheVariants.{Ordinary as OrdinaryOne}
 use Rattle.expression_grammar.specs.declared.character.Kind.{Kind}
 use Rattle.expression_grammar.specs.declared.character.Kind.TheVariants.{Quote, Ampersand}
@@ -16,7 +15,7 @@ use Rattle.expression_grammar.specs.declared.tree.Form.{Form}
 use Rattle.expression_grammar.specs.declared.tree.Form.TheVariants.{Decimal, Hexadecimal, Binary, Character}
 use Rattle.expression_grammar.specs.Characters.{kind_of}
 use Rattle.expression_grammar.specs.Trees.{Tree, Number}
-use Rattle.expression_grammar.specs.Spelling.{Placed, placed, codes, Piece, Gap, One, Capital, Digits, Characters, Reads, IsPiece, IsGap, IsOne, IsCapital, IsDigits, IsRun, IsCharacters, IsBody, Spells, number_spelled, is_figure, figures, most_of, greatest_of, bytes_of, doubled, twice}
+use Rattle.expression_grammar.specs.Spelling.{Placed, placed, codes, Piece, Gap, One, Capital, Digits, Characters, Reads, IsPiece, IsGap, IsDigits, IsCharacters, Spells, number_spelled, is_figure, figures, most_of, greatest_of, bytes_of, doubled, twice}
 use Rattle.cond_expr.specs.Terms.{are_figures, number_of_figures, halved, are_characters, number_of_characters, inside, number_behind, number_quoted, bits_of, term, number_in}
 
 and-left : (a b : Bool) → (a && b) ≡ true → a ≡ true

@@ -1,6 +1,6 @@
 -- What a call that evaluates an expression answers: its value with its notes; or the key whose answer is needed first and
 -- was not given, with the value of a symbol that is not set, and no note. This project.
-use Rattle.std.specs.Prelude.{List, [], Option, Some, None, ℤ, pos}
+use Rattle.std.specs.Prelude.{[], Some, None, pos}
 use Rattle.hl_base.specs.declared.set.SetValue.{SetValue}
 use Rattle.hl_base.specs.declared.set.SetValue.TheVariants.{A, B, C}
 use Rattle.expression_grammar.specs.Trees.{Tree}

@@ -1,6 +1,8 @@
 pub mod Arithmetic
 pub mod Told
 pub mod Outcome
+pub mod Asking
+pub mod Frames
 pub mod Troubles
 pub mod Characters
 pub mod Symbols

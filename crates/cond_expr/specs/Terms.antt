@@ -1,5 +1,5 @@
 -- Which texts are self-defining terms, and their numbers (HLASM Language Reference SC26-4940, "Self-defining terms").
-use Rattle.std.specs.Prelude.{ℕ, zero, suc, ◌-◌, ◌==◌, ◌&&◌, ◌||◌, Bool, List, [], ◌∷◌, ◌++◌, length, take, drop, ℤ, Option, Some, None, nat_lt, nat_le, nat_eq, option_map, if◌then◌else◌}
+use Rattle.std.specs.Prelude.{ℕ, ◌-◌, ◌==◌, ◌&&◌, ◌||◌, Bool, List, [], ◌∷◌, ◌++◌, length, take, drop, ℤ, Option, Some, None, nat_lt, nat_le, nat_eq, option_map, if◌then◌else◌}
 use Rattle.std.specs.List.{list_all}
 use Rattle.std.specs.Cmp.Lexicographic.{pointwise}
 use Rattle.std.specs.Char.{to_ascii_uppercase}

@@ -7,8 +7,6 @@ use Rattle.std.specs.Int.{cast_signed, w32}
 use Rattle.std.specs.Ordering.{int_cmp, int_eq, is_eq, is_lt, is_gt}
 use Rattle.std.specs.declared.cmp.Ordering.{Ordering}
 use Rattle.hl_base.specs.Order.{compare}
-use Rattle.hl_base.specs.declared.set.SetValue.{SetValue}
-use Rattle.hl_base.specs.declared.set.SetValue.TheVariants as value
 use Rattle.expression_grammar.specs.declared.tree.Sign.{Sign}
 use Rattle.expression_grammar.specs.declared.tree.Sign.TheVariants.{Plus, Minus}
 use Rattle.expression_grammar.specs.declared.tree.Symbol.{Symbol}
@@ -24,7 +22,7 @@ use Rattle.expression_grammar.specs.Views.{trees_of}
 use Rattle.expression_grammar.specs.Trees.{Tree, Trees, Items, Number, Here, Ordinary, Variable, Signed, Pair, Paren, Not, Compared, Quoted, Duplicated, Substring, SubstringToEnd, Joined, NoTrees, More, NoItems, Plain, Inserted}
 use Rattle.cond_expr.specs.Arithmetic.{fitting, quotient}
 use Rattle.cond_expr.specs.Told.{Told}
-use Rattle.cond_expr.specs.Outcome.{Outcome, Gives, Asks, gives, and_then, asked_by}
+use Rattle.cond_expr.specs.Outcome.{Outcome, gives, and_then}
 use Rattle.cond_expr.specs.Characters.{limited, duplicated, substring, substring_to_end}
 use Rattle.cond_expr.specs.Symbols.{checked}
 use Rattle.cond_expr.specs.Variables.{bit, number_of_variable, number_of_symbol, text_of_variable, asked_text_of_variable, asked_text_of_symbol}

@@ -91,6 +91,7 @@ elements_found name found = made_of (λ text. counted (element_count text)) (pos
 -- N' of `&SYSLIST` without a subscript: the positional operands, where its element 0 is the name entry of a call
 abbrev pub operands_found : Told → List ℕ → Found → Outcome ℤ
 operands_found told name (found.Parameter text) = counted told.positionals
+operands_found told name (found.Ask key) = Asks key
 operands_found told name other = elements_found name (told.variable name [])
 
 -- whether a name with these subscripts is all of the operands

@@ -13,6 +13,7 @@ pub mod arithmetic;
 pub mod characters;
 pub mod evaluate;
 mod evaluated;
+mod laws;
 mod lookups;
 mod numbers;
 mod stop;
@@ -22,6 +23,7 @@ mod trouble;
 pub mod variable;
 
 pub use evaluated::{Evaluated, eval_a, eval_b, eval_c};
+pub use laws::{more_answers_change_nothing, restarts_end, values_are_asked};
 pub use lookups::{Found, Lookups};
 pub use numbers::Numbers;
 pub use stop::Stop;

@@ -213,7 +213,8 @@ fn operand_count<Q: Lookups>(
 {
     match q.variable(alloc, name, &[0])? {
         Found::Parameter(_) => symbol::counted(alloc, q.positionals() as usize, notes),
-        Found::Value(_) | Found::Fault(_) | Found::Ask(_) => {
+        Found::Ask(key) => Err(Stop::Asked(key)),
+        Found::Value(_) | Found::Fault(_) => {
             let found = q.variable(alloc, name, &[])?;
             elements_found(alloc, name, found, notes)
         }

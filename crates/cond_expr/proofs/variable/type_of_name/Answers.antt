@@ -1,4 +1,4 @@
-use Rattle.std.proofs.Common.{◌≡◌, ◌∙◌, ◌∷◌, [], ap, sym, Some, Option, List, ℕ, subst, encode_utf8_all}
+use Rattle.std.proofs.Common.{◌≡◌, ◌∷◌, [], sym, Some, Option, List, ℕ, subst, encode_utf8_all}
 use Rattle.std.specs.Option.{option_map_or}
 use Rattle.hl_base.specs.Symbols.{symbol_of}
 use Rattle.cond_expr.specs.Outcome.{Tells, gives}

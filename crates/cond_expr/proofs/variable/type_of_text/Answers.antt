@@ -1,7 +1,7 @@
-use Rattle.std.proofs.Common.{◌≡◌, ◌∙◌, None, List, ℕ, ℤ, Option, sym, ap, subst, [], true, false}
+use Rattle.std.proofs.Common.{◌≡◌, ◌∙◌, None, List, ℕ, sym, ap, subst, [], true, false}
 use Rattle.cond_expr.specs.Outcome.{Outcome, Tells}
 use Rattle.cond_expr.specs.Terms.{term}
-use Rattle.cond_expr.specs.Variables.{type_of_text, type_unless_term}
+use Rattle.cond_expr.specs.Variables.{type_unless_term}
 use Rattle.cond_expr.proofs.TextLemmas.{type_of_text-some}
 use Rattle.cond_expr.proofs.variable.type_of_text.Goals as goal
 
