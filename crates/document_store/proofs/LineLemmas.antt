@@ -1,8 +1,8 @@
 -- The lines of a text with their ends, from its front.
-use Rattle.std.proofs.Common.{◌≡◌, ◌∙◌, ℕ, ◌<◌, Bool, true, false, cond, List, [], ◌∷◌, ◌++◌, length, take, drop, get_or, refl, sym, inl, inr, ap, arith, append-nil, take-append-drop, map, get_or-drop, add-zero}
-use Rattle.std.specs.Prelude.{◌==◌, slice_index, chars, IsUtf8, position, Some, None, Option}
-use Rattle.std.specs.List.{AllByRecursion, onto_first, concat, position_or_len}
-use Rattle.std.proofs.lemmas.Bool.{eqb-true, true≢false, both_ways, or_parts, or_cases, and_parts, and_cases, cases_Bool, false_from_ne_true, lt-ltb, le-ltb}
+use Rattle.std.proofs.Common.{◌≡◌, ◌∙◌, ℕ, ◌<◌, true, false, cond, List, [], ◌∷◌, ◌++◌, take, drop, get_or, refl, sym, inl, inr, ap, arith, append-nil, take-append-drop, map, get_or-drop, add-zero}
+use Rattle.std.specs.Prelude.{◌==◌, slice_index, chars, IsUtf8, position, Some, None}
+use Rattle.std.specs.List.{AllByRecursion, onto_first, concat}
+use Rattle.std.proofs.lemmas.Bool.{eqb-true, true≢false, both_ways, or_parts, or_cases, and_parts, and_cases, cases_Bool}
 use Rattle.std.proofs.lemmas.Str.{IsUtf8-take, IsUtf8-drop, chars-append}
 use Rattle.hl_base.specs.Texts.{lines, begins_crlf}
 use Rattle.hl_base.specs.Remaining as remaining

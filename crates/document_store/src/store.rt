@@ -2,6 +2,7 @@
 ghost use Rattle.std.specs.Prelude.{◌≡◌, ◌+◌, ◌<◌, ◌≤◌, ℕ, length, IfOk, IfErr, IfSome, OnOk, OnErr, IsSome, ◌==◌, ◌^◌, Some, None, position, slice_get, slice_index_or, unwrap_or, []};
 ghost use Rattle.std.specs.Option.{option_map, option_and_then};
 ghost use Rattle.std.specs.Str.{chars};
+ghost use Rattle.std.specs.String.{string_bytes, string_len};
 ghost use Rattle.document_store.specs.Store as store;
 ghost use Rattle.document_store.specs.Changes.{opened, changed, closed, with_document, with_text, Answers, MayOpen};
 ghost use Rattle.document_store.specs.Holdings as holdings;
@@ -215,20 +216,19 @@ impl DocumentStore {
     /// Gives the document of a path, which is at a place, another version and text. The path is for the contract alone.
     fn replace(
         &mut self,
-        alloc: Global,
         _path: &str,
         at: usize,
         version: i32,
-        text: &str,
+        text: String,
     ) -> Result<(), StoreFault>
         requires found { position (store.is_at (chars _path.now)) self.old.store.documents ≡ Some at }
-        requires short { length text.now ≤ LONGEST_TEXT }
-        ensures replaced { OnOk result (self.new.store ≡ with_text self.old.store (chars _path.now) version (chars text.now)) }
+        requires short { string_len text ≤ LONGEST_TEXT }
+        ensures replaced { OnOk result (self.new.store ≡ with_text self.old.store (chars _path.now) version (chars (string_bytes text))) }
         ensures memory { IfErr result (λ fault. fault ≡ StoreFault.OutOfMemory) }
         ensures kept { OnErr result (self.new ≡ self.old) }
     {
         let old = self.documents[at].text;
-        let new = self.pool.intern(alloc, text)?;
+        let new = self.pool.intern_owned(text)?;
         self.pool.release(old);
         self.documents[at].rewrite(version, new);
         Ok(())
@@ -251,7 +251,7 @@ impl DocumentStore {
             return Err(StoreFault::NotOpen);
         };
         match after_edits(alloc, self.text_at(at), edits) {
-            Ok(text) => self.replace(alloc, path.as_str(), at, version, text.as_str()),
+            Ok(text) => self.replace(path.as_str(), at, version, text),
             Err(fault) => Err(fault),
         }
     }

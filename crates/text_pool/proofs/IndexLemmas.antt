@@ -7,21 +7,30 @@ use Rattle.std.specs.Cmp.Lexicographic.{slice_cmp}
 use Rattle.std.specs.Prelude.{encode_utf8_all, slice_index_or}
 use Rattle.std.specs.Map.{lookup}
 use Rattle.std.specs.BTreeMap.{BTreeMap, is_at}
-use Rattle.std.specs.declared.rc.RcStr.{RcStr}
-use Rattle.std.specs.declared.alloc.Global.{Global}
 use Rattle.std.proofs.lemmas.Bool.{cases_eq}
 use Rattle.std.proofs.lemmas.Option.{same_Some}
 use Rattle.std.proofs.lemmas.Str.{encodes-chars}
 use Rattle.std.proofs.lemmas.Slice.Eq.{bytes_eq-Decides}
 use Rattle.std.proofs.lemmas.Map.Text.{is_eq-slice_cmp}
 use Rattle.slab.specs.Slab.{Slab, get, Updates}
-use Rattle.text_pool.specs.Entries.{number_of, IsIndexed}
+use Rattle.text_pool.specs.Entries.{stamp, number_of, IsIndexed}
 use Rattle.text_pool.specs.declared.entry.Entry.{Entry}
+use Rattle.text_pool.specs.declared.entry.Key.{Key}
 use Rattle.text_pool.specs.declared.pool.TheConstants.{LONGEST_TEXT}
 
 -- two texts in UTF-8 of the same characters are the same bytes
 pub same_bytes : (a b : List ℕ) → IsUtf8 a → IsUtf8 b → chars a ≡ chars b → a ≡ b
 same_bytes a b one two same = sym (encodes-chars a one) ∙ ap encode_utf8_all same ∙ encodes-chars b two
+
+-- two keys that compare as one have the same bytes
+pub same_text : (a b : Key) → stamp a ≡ stamp b → rc_str_bytes a.text ≡ rc_str_bytes b.text
+same_text a b same = cc
+
+-- two keys of the same bytes, each with its length, compare as one
+pub same_stamp : (a b : Key) → a.length ≡ length (rc_str_bytes a.text) → b.length ≡ length (rc_str_bytes b.text) →
+    rc_str_bytes a.text ≡ rc_str_bytes b.text → stamp a ≡ stamp b
+same_stamp a b one two same =
+    let lengths : a.length ≡ b.length = one ∙ ap length same ∙ sym two in λ i. lengths i ∷ same i
 
 -- whether two texts tie in the order of the keys
 abbrev pub ties : List ℕ → List ℕ → Bool
@@ -40,26 +49,26 @@ true_is_false : (b : Bool) → b ≡ true → b ≡ false → ⊥
 true_is_false b first second = cc
 
 -- the number under the bytes of a text
-abbrev pub number_at : BTreeMap (RcStr Global) ℕ → List ℕ → Option ℕ
-number_at numbers bytes = lookup (is_at (λ key. slice_cmp nat_cmp bytes (rc_str_bytes key))) numbers.entries
+abbrev pub number_at : BTreeMap Key ℕ → List ℕ → Option ℕ
+number_at numbers bytes = lookup (is_at (λ key. slice_cmp nat_cmp bytes (stamp key))) numbers.entries
 
-key_by_test : (bytes : List ℕ) (entry : RcStr Global × ℕ) (rest : Option ℕ) (id : ℕ) (test : Bool) →
-    ties bytes (rc_str_bytes entry.0) ≡ test → cond test (Some entry.1) rest ≡ Some id →
-    (rest ≡ Some id → (key : RcStr Global) × (rc_str_bytes key ≡ bytes)) → (key : RcStr Global) × (rc_str_bytes key ≡ bytes)
+key_by_test : (bytes : List ℕ) (entry : Key × ℕ) (rest : Option ℕ) (id : ℕ) (test : Bool) →
+    ties bytes (stamp entry.0) ≡ test → cond test (Some entry.1) rest ≡ Some id →
+    (rest ≡ Some id → (key : Key) × (stamp key ≡ bytes)) → (key : Key) × (stamp key ≡ bytes)
 key_by_test bytes entry rest id true is found later = (entry.0, sym (same_from_ties _ _ is))
 key_by_test bytes entry rest id false is found later = later found
 
 -- where a text is found, some key has its bytes
-key_found : (bytes : List ℕ) (entries : List (RcStr Global × ℕ)) (id : ℕ) →
-    lookup (is_at (λ key. slice_cmp nat_cmp bytes (rc_str_bytes key))) entries ≡ Some id →
-    (key : RcStr Global) × (rc_str_bytes key ≡ bytes)
+key_found : (bytes : List ℕ) (entries : List (Key × ℕ)) (id : ℕ) →
+    lookup (is_at (λ key. slice_cmp nat_cmp bytes (stamp key))) entries ≡ Some id →
+    (key : Key) × (stamp key ≡ bytes)
 key_found bytes [] id found = absurd (cc)
 key_found bytes (entry ∷ rest) id found = key_by_test bytes entry _ id _ refl found (key_found bytes rest id)
 
-module _ (slab : Slab Entry) (numbers : BTreeMap (RcStr Global) ℕ) (indexed : IsIndexed slab numbers) where
+module _ (slab : Slab Entry) (numbers : BTreeMap Key ℕ) (indexed : IsIndexed slab numbers) where
   -- what is found under bytes is the number of an entry with these bytes
   pub found_entry : (bytes : List ℕ) (id : ℕ) → number_at numbers bytes ≡ Some id →
-      (entry : Entry) × (get slab id ≡ Some entry) × (rc_str_bytes entry.text ≡ bytes)
+      (entry : Entry) × (get slab id ≡ Some entry) × (stamp entry.key ≡ bytes)
   found_entry bytes id found =
       let key = key_found bytes numbers.entries id found in
       let entry = indexed.found key.0 id (ap (number_at numbers) key.1 ∙ found) in
@@ -67,13 +76,13 @@ module _ (slab : Slab Entry) (numbers : BTreeMap (RcStr Global) ℕ) (indexed : 
 
   -- where bytes are not found, no entry has them
   pub absent_entry : (bytes : List ℕ) (id : ℕ) (entry : Entry) → number_at numbers bytes ≡ None → get slab id ≡ Some entry →
-      rc_str_bytes entry.text ≢ bytes
+      stamp entry.key ≢ bytes
   absent_entry bytes id entry absent found same =
       none_is_some (number_at numbers bytes) id absent (sym (ap (number_at numbers) same) ∙ indexed.listed id entry found)
 
   -- entries of the same bytes have the same number
   pub same_number : (one two : ℕ) (first second : Entry) → get slab one ≡ Some first → get slab two ≡ Some second →
-      rc_str_bytes first.text ≡ rc_str_bytes second.text → one ≡ two
+      stamp first.key ≡ stamp second.key → one ≡ two
   same_number one two first second one_has two_has same =
       same_Some one two (sym (indexed.listed one first one_has) ∙ ap (number_at numbers) same ∙ indexed.listed two second two_has)
 
@@ -88,14 +97,14 @@ after_update old new id slot updates other entry found =
     ]
 
 -- another count of owners moves no text
-pub IsIndexed-recounted : (old new : Slab Entry) (numbers : BTreeMap (RcStr Global) ℕ) (id : ℕ) (entry written : Entry) →
-    IsIndexed old numbers → get old id ≡ Some entry → Updates old new id (Some written) → written.text ≡ entry.text →
+pub IsIndexed-recounted : (old new : Slab Entry) (numbers : BTreeMap Key ℕ) (id : ℕ) (entry written : Entry) →
+    IsIndexed old numbers → get old id ≡ Some entry → Updates old new id (Some written) → written.key ≡ entry.key →
     0 < written.owners → IsIndexed new numbers
 IsIndexed-recounted old new numbers id entry written indexed was updates same owned = record {
   listed = λ other now found. elim (after_update old new id _ updates other now found) [
     | inl here ↦
         let is : written ≡ now = same_Some _ _ here.1 in
-        ap (number_of numbers) (ap (λ e. e.text) (sym is) ∙ same) ∙ indexed.listed id entry was ∙ ap Some (sym here.0)
+        ap (number_of numbers) (ap (λ e. e.key) (sym is) ∙ same) ∙ indexed.listed id entry was ∙ ap Some (sym here.0)
     | inr there ↦ indexed.listed other now there.1
   ];
   found = λ text other at.
@@ -103,19 +112,25 @@ IsIndexed-recounted old new numbers id entry written indexed was updates same ow
       elim (cases_eq other id) [
         | inl here ↦
             let is : entry ≡ before.0 = same_Some _ _ (sym was ∙ ap (get old) (sym here) ∙ before.1) in
-            (written, ap (get new) here ∙ updates.changed, ap rc_str_bytes (same ∙ ap (λ e. e.text) is) ∙ before.2)
+            (written, ap (get new) here ∙ updates.changed, ap stamp (same ∙ ap (λ e. e.key) is) ∙ before.2)
         | inr there ↦ (before.0, updates.others other there ∙ before.1, before.2)
       ];
+  counted = λ other now found. elim (after_update old new id _ updates other now found) [
+    | inl here ↦
+        let is : written ≡ now = same_Some _ _ here.1 in
+        subst (λ (k : Key). k.length ≡ length (rc_str_bytes k.text)) (sym same ∙ ap (λ e. e.key) is) (indexed.counted id entry was)
+    | inr there ↦ indexed.counted other now there.1
+  ];
   utf8 = λ other now found. elim (after_update old new id _ updates other now found) [
     | inl here ↦
         let is : written ≡ now = same_Some _ _ here.1 in
-        subst (λ (t : RcStr Global). IsUtf8 (rc_str_bytes t)) (sym same ∙ ap (λ e. e.text) is) (indexed.utf8 id entry was)
+        subst (λ (k : Key). IsUtf8 (rc_str_bytes k.text)) (sym same ∙ ap (λ e. e.key) is) (indexed.utf8 id entry was)
     | inr there ↦ indexed.utf8 other now there.1
   ];
   short = λ other now found. elim (after_update old new id _ updates other now found) [
     | inl here ↦
         let is : written ≡ now = same_Some _ _ here.1 in
-        subst (λ (t : RcStr Global). length (rc_str_bytes t) ≤ LONGEST_TEXT) (sym same ∙ ap (λ e. e.text) is) (indexed.short id entry was)
+        subst (λ (k : Key). length (rc_str_bytes k.text) ≤ LONGEST_TEXT) (sym same ∙ ap (λ e. e.key) is) (indexed.short id entry was)
     | inr there ↦ indexed.short other now there.1
   ];
   owned = λ other now found. elim (after_update old new id _ updates other now found) [
@@ -125,17 +140,17 @@ IsIndexed-recounted old new numbers id entry written indexed was updates same ow
 }
 
 -- a look-up after one text was set or taken out
-abbrev pub ChangesAt : BTreeMap (RcStr Global) ℕ → BTreeMap (RcStr Global) ℕ → List ℕ → Option ℕ → Type 0
-ChangesAt old new bytes number = (text : RcStr Global) →
-    number_of new text ≡ cond (ties bytes (rc_str_bytes text)) number (number_of old text)
+abbrev pub ChangesAt : BTreeMap Key ℕ → BTreeMap Key ℕ → List ℕ → Option ℕ → Type 0
+ChangesAt old new bytes number = (text : Key) →
+    number_of new text ≡ cond (ties bytes (stamp text)) number (number_of old text)
 
-changed_here : (old new : BTreeMap (RcStr Global) ℕ) (bytes : List ℕ) (number : Option ℕ) → ChangesAt old new bytes number →
-    (text : RcStr Global) → ties bytes (rc_str_bytes text) ≡ true → number_of new text ≡ number
+changed_here : (old new : BTreeMap Key ℕ) (bytes : List ℕ) (number : Option ℕ) → ChangesAt old new bytes number →
+    (text : Key) → ties bytes (stamp text) ≡ true → number_of new text ≡ number
 changed_here old new bytes number changes text tied =
     changes text ∙ ap (λ b. cond b number (number_of old text)) tied
 
-changed_there : (old new : BTreeMap (RcStr Global) ℕ) (bytes : List ℕ) (number : Option ℕ) → ChangesAt old new bytes number →
-    (text : RcStr Global) → ties bytes (rc_str_bytes text) ≡ false → number_of new text ≡ number_of old text
+changed_there : (old new : BTreeMap Key ℕ) (bytes : List ℕ) (number : Option ℕ) → ChangesAt old new bytes number →
+    (text : Key) → ties bytes (stamp text) ≡ false → number_of new text ≡ number_of old text
 changed_there old new bytes number changes text apart =
     changes text ∙ ap (λ b. cond b number (number_of old text)) apart
 
@@ -144,35 +159,40 @@ either true = inl refl
 either false = inr refl
 
 -- a new text stands under a number that was free
-pub IsIndexed-admitted : (old new : Slab Entry) (numbers later : BTreeMap (RcStr Global) ℕ) (id : ℕ) (entry : Entry) (bytes : List ℕ) →
-    IsIndexed old numbers → Updates old new id (Some entry) → get old id ≡ None → rc_str_bytes entry.text ≡ bytes →
-    number_at numbers bytes ≡ None → ChangesAt numbers later bytes (Some id) → IsUtf8 (rc_str_bytes entry.text) →
-    length (rc_str_bytes entry.text) ≤ LONGEST_TEXT → 0 < entry.owners → IsIndexed new later
-IsIndexed-admitted old new numbers later id entry bytes indexed updates free is absent changes utf8 short owned = record {
+pub IsIndexed-admitted : (old new : Slab Entry) (numbers later : BTreeMap Key ℕ) (id : ℕ) (entry : Entry) (bytes : List ℕ) →
+    IsIndexed old numbers → Updates old new id (Some entry) → get old id ≡ None → stamp entry.key ≡ bytes →
+    number_at numbers bytes ≡ None → ChangesAt numbers later bytes (Some id) →
+    entry.key.length ≡ length (rc_str_bytes entry.key.text) → IsUtf8 (rc_str_bytes entry.key.text) →
+    length (rc_str_bytes entry.key.text) ≤ LONGEST_TEXT → 0 < entry.owners → IsIndexed new later
+IsIndexed-admitted old new numbers later id entry bytes indexed updates free is absent changes counted utf8 short owned = record {
   listed = λ other now found. elim (after_update old new id _ updates other now found) [
     | inl here ↦
-        let same : bytes ≡ rc_str_bytes now.text = sym is ∙ ap (λ e. rc_str_bytes e.text) (same_Some _ _ here.1) in
-        changed_here numbers later bytes _ changes now.text (ties-same _ _ same) ∙ ap Some (sym here.0)
-    | inr there ↦ elim (either (ties bytes (rc_str_bytes now.text))) [
+        let same : bytes ≡ stamp now.key = sym is ∙ ap (λ e. stamp e.key) (same_Some _ _ here.1) in
+        changed_here numbers later bytes (Some id) changes now.key (ties-same _ _ same) ∙ ap Some (sym here.0)
+    | inr there ↦ elim (either (ties bytes (stamp now.key))) [
       | inl tied ↦ absurd (absent_entry old numbers indexed bytes other now absent there.1 (sym (same_from_ties _ _ tied)))
-      | inr apart ↦ changed_there numbers later bytes _ changes now.text apart ∙ indexed.listed other now there.1
+      | inr apart ↦ changed_there numbers later bytes (Some id) changes now.key apart ∙ indexed.listed other now there.1
     ]
   ];
-  found = λ text other at. elim (either (ties bytes (rc_str_bytes text))) [
+  found = λ text other at. elim (either (ties bytes (stamp text))) [
     | inl tied ↦
-        let same : id ≡ other = same_Some _ _ (sym (changed_here numbers later bytes _ changes text tied) ∙ at) in
+        let same : id ≡ other = same_Some _ _ (sym (changed_here numbers later bytes (Some id) changes text tied) ∙ at) in
         (entry, ap (get new) (sym same) ∙ updates.changed, is ∙ same_from_ties _ _ tied)
     | inr apart ↦
-        let before = indexed.found text other (sym (changed_there numbers later bytes _ changes text apart) ∙ at) in
+        let before = indexed.found text other (sym (changed_there numbers later bytes (Some id) changes text apart) ∙ at) in
         let differ : other ≢ id = λ same. none_is_some (get old id) before.0 free (ap (get old) (sym same) ∙ before.1) in
         (before.0, updates.others other differ ∙ before.1, before.2)
   ];
+  counted = λ other now found. elim (after_update old new id _ updates other now found) [
+    | inl here ↦ subst (λ (e : Entry). e.key.length ≡ length (rc_str_bytes e.key.text)) (same_Some _ _ here.1) counted
+    | inr there ↦ indexed.counted other now there.1
+  ];
   utf8 = λ other now found. elim (after_update old new id _ updates other now found) [
-    | inl here ↦ subst (λ (e : Entry). IsUtf8 (rc_str_bytes e.text)) (same_Some _ _ here.1) utf8
+    | inl here ↦ subst (λ (e : Entry). IsUtf8 (rc_str_bytes e.key.text)) (same_Some _ _ here.1) utf8
     | inr there ↦ indexed.utf8 other now there.1
   ];
   short = λ other now found. elim (after_update old new id _ updates other now found) [
-    | inl here ↦ subst (λ (e : Entry). length (rc_str_bytes e.text) ≤ LONGEST_TEXT) (same_Some _ _ here.1) short
+    | inl here ↦ subst (λ (e : Entry). length (rc_str_bytes e.key.text) ≤ LONGEST_TEXT) (same_Some _ _ here.1) short
     | inr there ↦ indexed.short other now there.1
   ];
   owned = λ other now found. elim (after_update old new id _ updates other now found) [
@@ -182,25 +202,29 @@ IsIndexed-admitted old new numbers later id entry bytes indexed updates free is 
 }
 
 -- a text and its number are gone
-pub IsIndexed-removed : (old new : Slab Entry) (numbers later : BTreeMap (RcStr Global) ℕ) (id : ℕ) (entry : Entry) →
+pub IsIndexed-removed : (old new : Slab Entry) (numbers later : BTreeMap Key ℕ) (id : ℕ) (entry : Entry) →
     IsIndexed old numbers → get old id ≡ Some entry → Updates old new id None →
-    ChangesAt numbers later (rc_str_bytes entry.text) None → IsIndexed new later
+    ChangesAt numbers later (stamp entry.key) None → IsIndexed new later
 IsIndexed-removed old new numbers later id entry indexed was updates changes = record {
   listed = λ other now found. elim (after_update old new id _ updates other now found) [
     | inl here ↦ absurd (none_is_some None now refl here.1)
-    | inr there ↦ elim (either (ties (rc_str_bytes entry.text) (rc_str_bytes now.text))) [
+    | inr there ↦ elim (either (ties (stamp entry.key) (stamp now.key))) [
       | inl tied ↦ absurd (there.0 (sym (same_number old numbers indexed id other entry now was there.1 (same_from_ties _ _ tied))))
-      | inr apart ↦ changed_there numbers later _ _ changes now.text apart ∙ indexed.listed other now there.1
+      | inr apart ↦ changed_there numbers later (stamp entry.key) None changes now.key apart ∙ indexed.listed other now there.1
     ]
   ];
-  found = λ text other at. elim (either (ties (rc_str_bytes entry.text) (rc_str_bytes text))) [
-    | inl tied ↦ absurd (none_is_some (number_of later text) other (changed_here numbers later _ _ changes text tied) at)
+  found = λ text other at. elim (either (ties (stamp entry.key) (stamp text))) [
+    | inl tied ↦ absurd (none_is_some (number_of later text) other (changed_here numbers later (stamp entry.key) None changes text tied) at)
     | inr apart ↦
-        let before = indexed.found text other (sym (changed_there numbers later _ _ changes text apart) ∙ at) in
+        let before = indexed.found text other (sym (changed_there numbers later (stamp entry.key) None changes text apart) ∙ at) in
         let differ : other ≢ id = λ same.
         let is : entry ≡ before.0 = same_Some _ _ (sym was ∙ ap (get old) (sym same) ∙ before.1) in
-        true_is_false _ (ties-same _ _ (ap (λ e. rc_str_bytes e.text) is ∙ before.2)) apart in
+        true_is_false _ (ties-same _ _ (ap (λ e. stamp e.key) is ∙ before.2)) apart in
         (before.0, updates.others other differ ∙ before.1, before.2)
+  ];
+  counted = λ other now found. elim (after_update old new id _ updates other now found) [
+    | inl here ↦ absurd (none_is_some None now refl here.1)
+    | inr there ↦ indexed.counted other now there.1
   ];
   utf8 = λ other now found. elim (after_update old new id _ updates other now found) [
     | inl here ↦ absurd (none_is_some None now refl here.1)
@@ -217,17 +241,18 @@ IsIndexed-removed old new numbers later id entry indexed was updates changes = r
 }
 
 -- room for more, and a look-up that failed for want of memory, move nothing
-pub IsIndexed-kept : (old new : Slab Entry) (numbers later : BTreeMap (RcStr Global) ℕ) → new.slots ≡ old.slots →
+pub IsIndexed-kept : (old new : Slab Entry) (numbers later : BTreeMap Key ℕ) → new.slots ≡ old.slots →
     later.entries ≡ numbers.entries → IsIndexed old numbers → IsIndexed new later
 IsIndexed-kept old new numbers later slots listed indexed =
     let there : (id : ℕ) → get old id ≡ get new id = λ id. ap (λ s. slice_index_or s id None) (sym slots) in
-    let at : (text : RcStr Global) → number_of later text ≡ number_of numbers text =
-    λ text. ap (lookup (is_at (λ key. slice_cmp nat_cmp (rc_str_bytes text) (rc_str_bytes key)))) listed in
+    let at : (text : Key) → number_of later text ≡ number_of numbers text =
+    λ text. ap (lookup (is_at (λ key. slice_cmp nat_cmp (stamp text) (stamp key)))) listed in
     record {
-      listed = λ id entry found. at entry.text ∙ indexed.listed id entry (there id ∙ found);
+      listed = λ id entry found. at entry.key ∙ indexed.listed id entry (there id ∙ found);
       found = λ text id found.
           let entry = indexed.found text id (sym (at text) ∙ found) in
           (entry.0, sym (there id) ∙ entry.1, entry.2);
+      counted = λ id entry found. indexed.counted id entry (there id ∙ found);
       utf8 = λ id entry found. indexed.utf8 id entry (there id ∙ found);
       short = λ id entry found. indexed.short id entry (there id ∙ found);
       owned = λ id entry found. indexed.owned id entry (there id ∙ found);

@@ -3,8 +3,6 @@ use Rattle.std.proofs.Common.{◌≡◌, ◌≢◌, ◌+◌, ◌<◌, ℕ, zero,
 use Rattle.std.specs.Ordering.{nat_cmp, eq_by_cmp}
 use Rattle.std.specs.Str.{chars}
 use Rattle.std.specs.Rc.{rc_str_bytes}
-use Rattle.std.specs.declared.rc.RcStr.{RcStr}
-use Rattle.std.specs.declared.alloc.Global.{Global}
 use Rattle.std.specs.Option.{option_map, option_map_or}
 use Rattle.std.specs.Cmp.{nat_cmp_total, unsigned_tied}
 use Rattle.std.specs.FinMap as finite
@@ -14,6 +12,7 @@ use Rattle.slab.specs.Slab.{Slab, get, ContainsKey, Updates}
 use Rattle.text_pool.specs.Pool.{Held, Pool, IsLive, text_of, owners_of, with_owners}
 use Rattle.text_pool.specs.Entries.{held_of, pool_from, pool_of}
 use Rattle.text_pool.specs.declared.entry.Entry.{Entry}
+use Rattle.text_pool.specs.declared.entry.Key.{Key}
 
 eq_by_cmp-same : (id other : ℕ) → id ≡ other → eq_by_cmp nat_cmp id other ≡ true
 eq_by_cmp-same id other same = unsigned_tied id other ∙ grind arith
@@ -132,7 +131,7 @@ pub entry_live : (slab : Slab Entry) (pool : Pool) (id : ℕ) (entry : Entry) �
 entry_live slab pool id entry is found = subst IsSome (sym (held-pool_of slab pool id entry is found)) refl
 
 pub text_of-entry : (slab : Slab Entry) (pool : Pool) (id : ℕ) (entry : Entry) → pool_of slab ≡ pool → get slab id ≡ Some entry →
-    text_of pool id ≡ chars (rc_str_bytes entry.text)
+    text_of pool id ≡ chars (rc_str_bytes entry.key.text)
 text_of-entry slab pool id entry is found =
     ap (λ held. option_map_or (λ (h : Held). h.text) held []) (held-pool_of slab pool id entry is found)
 
@@ -148,13 +147,13 @@ same_held text same owners count t n = λ i. record { text = t i; owners = n i }
 
 -- the pool after another count of owners was written
 pub pool_of-recounted : (old new : Slab Entry) (pool : Pool) (id : ℕ) (entry written : Entry) (count : ℕ) →
-    pool_of old ≡ pool → get old id ≡ Some entry → Updates old new id (Some written) → written.text ≡ entry.text →
+    pool_of old ≡ pool → get old id ≡ Some entry → Updates old new id (Some written) → written.key ≡ entry.key →
     written.owners ≡ count → pool_of new ≡ with_owners pool id count
 pool_of-recounted old new pool id entry written count is was updates same counted =
     pool_of-updates old new id written updates
     ∙ ap (λ p. finite.insert p id (held_of written)) is
     ∙ ap (finite.insert pool id) (same_held _ _ _ _
-    (ap (λ (t : RcStr Global). chars (rc_str_bytes t)) same ∙ sym (text_of-entry old pool id entry is was)) counted)
+    (ap (λ (k : Key). chars (rc_str_bytes k.text)) same ∙ sym (text_of-entry old pool id entry is was)) counted)
 
 pub pool_of-kept : (old new : Slab Entry) (pool : Pool) → new.slots ≡ old.slots → pool_of old ≡ pool → pool_of new ≡ pool
 unfolding pool_of

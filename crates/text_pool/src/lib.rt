@@ -2,7 +2,8 @@
 //!
 //! Contracts see the pool as a finite map from the live numbers to what is held of each, the characters and the count
 //! of owners. Equal numbers of live texts are equal texts and equal texts have equal numbers, so callers compare
-//! numbers. A number is free again with its last owner, and may be given out again for another text.
+//! numbers. A number is free again with its last owner, and may be given out again for another text. Texts are told apart
+//! by their lengths before they are compared.
 //!
 //! It knows nothing of documents, files and paths: an owner is whoever asked for the text. A text has at most 4 MiB in
 //! UTF-8.

@@ -1,6 +1,7 @@
 //! The pool: a text is found by its number, and its number by the text.
 ghost use Rattle.std.specs.Prelude.{ℕ, ◌≡◌, ◌↔◌, ◌+◌, ◌-◌, ◌<◌, ◌≤◌, ◌^◌, length, IfOk, OnErr, IsErrOf, encode_utf8_all, slice_get};
-ghost use Rattle.std.specs.Str.{chars};
+ghost use Rattle.std.specs.Str.{chars, IsUtf8};
+ghost use Rattle.std.specs.String.{string_bytes, string_len};
 ghost use Rattle.std.specs.Rc.{rc_str_bytes};
 ghost use Rattle.std.specs.Option.{option_map};
 ghost use Rattle.std.specs.FinMap as map;
@@ -9,7 +10,7 @@ ghost use Rattle.text_pool.specs.Pool.{IsLive, text_of, owners_of, with_owners, 
 ghost use Rattle.text_pool.specs.declared.fault.PoolFault.TheVariants.{TooLong};
 
 use crate::PoolFault;
-use crate::entry::Entry;
+use crate::entry::{Entry, Key};
 use hl_base::{OutOfMemory, TextId, lines};
 use slab::Slab;
 use std::alloc::Global;
@@ -25,7 +26,7 @@ pub const LONGEST_TEXT: usize = 4 * 1024 * 1024;
 pub struct TextPool {
     entries: Slab<Entry>,
     // The numbers of the entries by their texts, which share their memory.
-    numbers: BTreeMap<RcStr, u32>,
+    numbers: BTreeMap<Key, u32>,
 }
 
 impl Model for TextPool {
@@ -63,13 +64,21 @@ impl TextPool {
         if text.len() > LONGEST_TEXT {
             return Err(PoolFault::TooLong);
         }
-        match self.numbers.get(text) {
-            Some(number) => {
-                let number = *number;
-                self.own(number)
-            }
-            None => self.admit(alloc, text),
+        let key = Key::of(RcStr::from_str(alloc, text)?);
+        self.take_in(key)
+    }
+
+    /// The same of a text that is given away: the pool holds it and makes no copy.
+    pub fn intern_owned(&mut self, text: String) -> Result<TextId, PoolFault>
+        ensures too_long { IsErrOf result TooLong ↔ LONGEST_TEXT < string_len text }
+        ensures interned { IfOk result (λ id. IsInterned self.old self.new (chars (string_bytes text)) id.0) }
+        ensures kept { OnErr result (self.new ≡ self.old) }
+    {
+        if text.as_str().len() > LONGEST_TEXT {
+            return Err(PoolFault::TooLong);
         }
+        let key = Key::of(RcStr::from_string(text)?);
+        self.take_in(key)
     }
 
     /// The text of a live number.
@@ -79,7 +88,7 @@ impl TextPool {
         ensures bytes { result.now ≡ encode_utf8_all (text_of self.now id.0) }
         ensures short { length result.now ≤ LONGEST_TEXT }
     {
-        self.entries[id.0 as usize].text.as_str()
+        self.entries[id.0 as usize].key.text.as_str()
     }
 
     /// A line of a live text, counted from 0, without its end (Language Server Protocol 3.17, "Text Documents").
@@ -96,7 +105,7 @@ impl TextPool {
         ensures characters { IfOk result (λ text. chars (rc_str_bytes text) ≡ text_of self.now id.0) }
         ensures bytes { IfOk result (λ text. rc_str_bytes text ≡ encode_utf8_all (text_of self.now id.0)) }
     {
-        Ok(self.entries[id.0 as usize].text.clone()?)
+        Ok(self.entries[id.0 as usize].key.text.clone()?)
     }
 
     /// One owner more of a live text. It takes no memory.
@@ -122,7 +131,7 @@ impl TextPool {
             return;
         }
         let entry = self.entries.remove(key);
-        let _ = self.numbers.remove(&entry.text);
+        let _ = self.numbers.remove(&entry.key);
     }
 
     /// How many own a live text.
@@ -149,22 +158,41 @@ impl TextPool {
         Ok(id)
     }
 
+    /// The number of a text that is not too long.
+    fn take_in(&mut self, key: Key) -> Result<TextId, PoolFault>
+        requires utf8 { IsUtf8 (rc_str_bytes key.text) }
+        requires short { length (rc_str_bytes key.text) ≤ LONGEST_TEXT }
+        requires counted { key.length ≡ length (rc_str_bytes key.text) }
+        ensures ok { IfOk result (λ id. IsInterned self.old self.new (chars (rc_str_bytes key.text)) id.0) }
+        ensures err { OnErr result (self.new ≡ self.old) }
+        ensures short { ¬ (IsErrOf result TooLong) }
+    {
+        match self.numbers.get(&key) {
+            Some(number) => {
+                let number = *number;
+                self.own(number)
+            }
+            None => self.admit(key),
+        }
+    }
+
     /// A free number for a text that is not live, with one owner.
-    fn admit(&mut self, alloc: Global, text: &str) -> Result<TextId, PoolFault>
-        requires short { length text.now ≤ LONGEST_TEXT }
-        requires absent { (id : ℕ) → IsLive self.old id → ¬ (text_of self.old id ≡ chars text.now) }
-        ensures ok { IfOk result (λ id. IsInterned self.old self.new (chars text.now) id.0) }
+    fn admit(&mut self, key: Key) -> Result<TextId, PoolFault>
+        requires utf8 { IsUtf8 (rc_str_bytes key.text) }
+        requires short { length (rc_str_bytes key.text) ≤ LONGEST_TEXT }
+        requires counted { key.length ≡ length (rc_str_bytes key.text) }
+        requires absent { (id : ℕ) → IsLive self.old id → ¬ (text_of self.old id ≡ chars (rc_str_bytes key.text)) }
+        ensures ok { IfOk result (λ id. IsInterned self.old self.new (chars (rc_str_bytes key.text)) id.0) }
         ensures err { OnErr result (self.new ≡ self.old) }
         ensures short { ¬ (IsErrOf result TooLong) }
     {
         let Ok(number) = u32::try_from(self.entries.vacant_key()) else {
             return Err(PoolFault::OutOfMemory);
         };
-        let text = RcStr::from_str(alloc, text)?;
-        let key = text.clone()?;
+        let sought = Key::of(key.text.clone()?);
         self.entries.reserve(1)?;
-        self.numbers.insert(key, number)?;
-        self.entries.insert_reserved(Entry { text, owners: 1 });
+        self.numbers.insert(sought, number)?;
+        self.entries.insert_reserved(Entry { key, owners: 1 });
         Ok(TextId(number))
     }
 }

@@ -1,6 +1,7 @@
 use Rattle.std.proofs.Common.{ap, sym, subst, ◌∙◌, ℤ, ◌≡◌, Some, Ok}
 use Rattle.std.specs.Prelude.{chars, position, OnOk}
 use Rattle.std.specs.Int.{w32}
+use Rattle.std.specs.String.{string_bytes}
 use Rattle.std.proofs.lemmas.Int.{to_z-of_z}
 use Rattle.document_store.specs.Store.{is_at}
 use Rattle.document_store.specs.Edits.{after_edits, and_then}
@@ -21,9 +22,8 @@ returns-in-Ok-clause-answer c =
     answers_taken _ _ _ _
     (changed-seen store (chars c.args.uri.now) c.in_ok-path.path c.args.version c.args.edits.now c.in_ok-path.ensures.path c.in-Some.at found (chars c.text_at.result.now) c.text_at.ensures.text
     ∙ ap (and_then (λ t. Ok (with_text store c.in_ok-path.path c.args.version t))) c.in-Ok.ensures.given
-    ∙ ap (λ t. Ok (with_text store c.in_ok-path.path c.args.version (chars t))) (sym c.as_str-in-Ok-2.ensures.value)
-    ∙ ap (λ p. Ok (with_text store p c.args.version (chars c.as_str-in-Ok-2.result.now))) (sym c.as_str-in-Ok.ensures.characters))
-    (subst (λ (v : ℤ). OnOk c.replace.result (c.replace.new.self.store ≡ with_text store (chars c.as_str-in-Ok.result.now) v (chars c.as_str-in-Ok-2.result.now)))
+    ∙ ap (λ p. Ok (with_text store p c.args.version (chars (string_bytes c.in-Ok.text)))) (sym c.as_str-in-Ok.ensures.characters))
+    (subst (λ (v : ℤ). OnOk c.replace.result (c.replace.new.self.store ≡ with_text store (chars c.as_str-in-Ok.result.now) v (chars (string_bytes c.in-Ok.text))))
     (to_z-of_z w32 c.args.version c.ranges.version) c.replace.ensures.replaced)
     c.replace.ensures.memory
 

@@ -1,9 +1,10 @@
-use Rattle.std.proofs.Common.{◌≡◌, ◌∙◌, ℕ, ap, sym, subst, refl, Some, None, Result, Ok, Err, OnErr, arith}
-use Rattle.std.specs.Str.{IsUtf8}
+use Rattle.std.specs.Rc.{rc_str_bytes}
+use Rattle.std.proofs.Common.{length, ◌∷◌, ◌≡◌, ◌∙◌, ℕ, ap, sym, subst, refl, Some, None, List, Result, Ok, Err, OnErr, arith}
 use Rattle.slab.specs.Slab.{get, Updates}
 use Rattle.text_pool.specs.declared.entry.Entry.{Entry}
+use Rattle.text_pool.specs.Entries.{stamp}
 use Rattle.text_pool.proofs.PoolLemmas.{pool_of-kept}
-use Rattle.text_pool.proofs.IndexLemmas.{IsIndexed-kept, IsIndexed-admitted, number_at}
+use Rattle.text_pool.proofs.IndexLemmas.{ChangesAt, IsIndexed-kept, IsIndexed-admitted}
 use Rattle.text_pool.proofs.InternLemmas.{number_from_absent, IsInterned-admitted}
 use Rattle.text_pool.proofs.pool.TextPool.admit.Goals as goal
 
@@ -38,29 +39,31 @@ stood : (c : goal.After-insert_reserved) → get c.reserve.new.self c.in-Ok.numb
 stood c = ap (get c.reserve.new.self) (sym (number_is c)) ∙ c.insert_reserved.ensures.was_vacant
 
 stands : (c : goal.After-insert_reserved) →
-    let entry : Entry = record { text = c.in_ok-text.text; owners = 1 } in
+    let entry : Entry = record { key = c.args.key; owners = 1 } in
     Updates c.reserve.new.self c.insert_reserved.new.self c.in-Ok.number (Some entry)
 stands c =
-    let entry : Entry = record { text = c.in_ok-text.text; owners = 1 } in
+    let entry : Entry = record { key = c.args.key; owners = 1 } in
     subst (λ (k : ℕ). Updates c.reserve.new.self c.insert_reserved.new.self k (Some entry)) (number_is c)
     c.insert_reserved.ensures.updates
 
 pub invariant_of-self-2 : goal.invariant_of-self-2
 invariant_of-self-2 c =
-    let entry : Entry = record { text = c.in_ok-text.text; owners = 1 } in
-    IsIndexed-admitted c.reserve.new.self _ c.self.inside.numbers c.insert.new.self c.in-Ok.number entry _
+    let entry : Entry = record { key = c.args.key; owners = 1 } in
+    let sought : stamp c.of-sought.result ≡ stamp c.args.key =
+    ap stamp c.of-sought.ensures
+    ∙ (λ i. length (c.in_ok-clone.ensures.cases i) ∷ c.in_ok-clone.ensures.cases i)
+    ∙ ap (λ n. n ∷ rc_str_bytes c.args.key.text) (sym c.requires.counted) in
+    IsIndexed-admitted c.reserve.new.self _ c.self.inside.numbers c.insert.new.self c.in-Ok.number entry (stamp c.args.key)
     (IsIndexed-kept _ _ _ _ (ap (λ s. s.slots) c.reserve.ensures.rest_kept) refl c.self.invariant)
-    (stands c) (stood c) (sym c.in_ok-key.ensures.cases)
-    (ap (number_at c.self.inside.numbers) (c.in_ok-key.ensures.cases ∙ c.in_ok-text.ensures.ok)
-    ∙ number_from_absent _ _ _ _ c.self.view_is c.self.invariant c.requires.absent)
-    (λ text. c.in_ok-insert.ensures.updates.0 text)
-    (subst IsUtf8 (sym c.in_ok-text.ensures.ok) c.utf8.text)
-    (omega (arith, c.in_ok-text.ensures.len, c.requires.short))
-    (omega arith)
+    (stands c) (stood c) refl
+    (number_from_absent _ _ _ c.args.key c.requires.counted c.self.view_is c.self.invariant c.requires.absent)
+    (subst (λ (bytes : List ℕ). ChangesAt c.self.inside.numbers c.insert.new.self bytes (Some c.in-Ok.number)) sought
+    (λ text. c.in_ok-insert.ensures.updates.0 text))
+    c.requires.counted c.requires.utf8 c.requires.short (omega arith)
 
 pub returns-clause-ok : goal.returns-clause-ok
 returns-clause-ok c =
-    let entry : Entry = record { text = c.in_ok-text.text; owners = 1 } in
+    let entry : Entry = record { key = c.args.key; owners = 1 } in
     IsInterned-admitted c.reserve.new.self _ _ c.in-Ok.number entry _
     (pool_of-kept _ _ _ (ap (λ s. s.slots) c.reserve.ensures.rest_kept) c.self.view_is)
-    (stood c) (stands c) c.in_ok-text.ensures.ok refl c.requires.absent
+    (stood c) (stands c) refl refl c.requires.absent
