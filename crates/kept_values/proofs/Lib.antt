@@ -1,0 +1,4 @@
+pub mod TreeLaws
+pub mod ListLaws
+pub mod KeyLaws
+pub mod NumberSteps

@@ -1,0 +1,5 @@
+pub mod Trees
+pub mod Lists
+pub mod Keys
+pub mod Answers
+pub mod Laws
