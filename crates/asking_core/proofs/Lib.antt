@@ -1,0 +1,6 @@
+pub mod WorldSteps
+pub mod Effects
+pub mod Sound
+pub mod Modesty
+pub mod OnePlainRun
+pub mod Shifts

@@ -1,0 +1,6 @@
+pub mod Worlds
+pub mod Machines
+pub mod Runs
+pub mod Footprints
+pub mod Laws
+pub mod Actions
