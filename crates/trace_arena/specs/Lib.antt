@@ -1,0 +1,5 @@
+pub mod Nodes
+pub mod Points
+pub mod Whole
+pub mod Changes
+pub mod Slots
