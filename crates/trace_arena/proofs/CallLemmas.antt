@@ -5,7 +5,9 @@ use Rattle.trace_arena.specs.declared.slot.Slot.{Slot}
 use Rattle.trace_arena.specs.declared.node.NodeId.{NodeId}
 use Rattle.trace_arena.specs.Nodes.{Node, Arena, free_node, new_node, node_at, with_item, with_link, with_owners, IsLive, IsUnshared}
 use Rattle.trace_arena.specs.Slots.{node_of, nodes_of}
+use Rattle.trace_arena.specs.Points.{points}
 use Rattle.trace_arena.specs.Whole.{IsWhole}
+use Rattle.trace_arena.proofs.PointLemmas.{points_length}
 use Rattle.trace_arena.specs.Changes.{Begins, Appends, Links}
 use Rattle.trace_arena.proofs.SlotLemmas.{nodes_of_set, owned_inside, node_of_read, writes_slot, same_slot}
 use Rattle.trace_arena.proofs.WriteLemmas.{Writes, writes_push}
@@ -109,3 +111,11 @@ module _ {I : Type 0} (slots : List (Slot I)) (nodes : List (Node I)) (view : no
         whole = here.whole;
         change = subst (λ (ns : List (Node I)). Links ns (nodes_of (set (set slots parent is) child.0 after)) parent child.0) view here.change;
       }
+
+  -- what a live node counts is how many points it has
+  pub points_read : (x : ℕ) (slot : Slot I) → IsLive nodes x → slot ≡ get_or slots x slot → slot.total ≡ length (points nodes x)
+  points_read x slot live read =
+      let inside = owned_inside slots x (subst (λ (ns : List (Node I)). IsLive ns x) (sym view) live) in
+      ap (λ n. n.total) (node_of_read slots x slot inside read)
+      ∙ sym (points_length (nodes_of slots) whole x)
+      ∙ ap (λ ns. length (points ns x)) view

@@ -4,3 +4,5 @@ pub mod WriteLemmas
 pub mod StepLemmas
 pub mod SlotLemmas
 pub mod CallLemmas
+pub mod LiveLemmas
+pub mod FreeLemmas

@@ -1,11 +1,11 @@
 -- The points of a node: they are woven of its items and its children's points, and stay where these stay.
-use Rattle.std.proofs.Common.{◌≡◌, ℕ, zero, suc, ◌+◌, ◌-◌, ◌<◌, ◌≤◌, List, [], ◌∷◌, ◌++◌, map, length, drop, refl, sym, ap, ◌∙◌, arith, length-drop}
-use Rattle.std.proofs.lemmas.List.{append_assoc, append-nil, map-append, take-append-le, drop-append-le, take_rest, drop_all}
+use Rattle.std.proofs.Common.{◌≡◌, ℕ, zero, suc, ◌+◌, ◌-◌, ◌<◌, ◌≤◌, List, [], ◌∷◌, ◌++◌, map, length, drop, refl, sym, ap, ◌∙◌, arith, length-drop, length-append, take}
+use Rattle.std.proofs.lemmas.List.{append_assoc, append-nil, map-append, take-append-le, drop-append-le, take_rest, drop_all, length-map, length-take}
 use Rattle.trace_arena.specs.declared.node.Link.{Link}
 use Rattle.trace_arena.specs.declared.node.NodeId.{NodeId}
 use Rattle.trace_arena.specs.Nodes.{Node, node_at, leads, IsLinked}
 use Rattle.trace_arena.specs.Points.{Point, own, within, last_before, weave, points_to, points}
-use Rattle.trace_arena.specs.Whole.{IsPlaced}
+use Rattle.trace_arena.specs.Whole.{IsPlaced, IsWhole}
 use Rattle.trace_arena.proofs.LinkLemmas.{leads_first, leads_rest}
 
 -- what agrees on the children weaves alike
@@ -121,3 +121,33 @@ module _ {I : Type 0} (old new : List (Node I)) (S : ℕ → Type 0)
   unfolding points
   points_keep y s height =
       points_to_keep (suc (node_at new y).height) y s ∙ ap (λ h. points_to (suc h) old y) height
+
+-- a woven list has as many points as its places say
+pub weave_length : {I : Type 0} (f : ℕ → List (Point I)) (total : ℕ → ℕ) (from before whole : ℕ) (items : List I) (links : List Link) →
+    ((c : ℕ) → 0 < leads c links → length (f c) ≡ total c) → IsPlaced total from before (length items) whole links →
+    before + length (weave f from items links) ≡ whole
+unfolding weave
+weave_length f total from before whole items [] lengths placed =
+    omega (arith, placed.0, placed.1, length-map (drop from items) own, length-drop from items)
+weave_length f total from before whole items (l ∷ ls) lengths placed =
+    let inside = placed_within total l.at (l.before + total l.child.0) (length items) whole ls placed.2 in
+    let own_points = map own (take (l.at - from) (drop from items)) in
+    let child_points = map (within (last_before l.at items)) (f l.child.0) in
+    omega (arith, placed.0, placed.1, inside,
+        length-append own_points (child_points ++ weave f l.at items ls), length-append child_points (weave f l.at items ls),
+        length-map (take (l.at - from) (drop from items)) own, length-take (l.at - from) (drop from items), length-drop from items,
+        length-map (f l.child.0) (within (last_before l.at items)), lengths l.child.0 (leads_first l ls),
+        weave_length f total l.at (l.before + total l.child.0) whole items ls (λ c lt. lengths c (leads_rest c l ls lt)) placed.2)
+
+pub points_to_length : {I : Type 0} (nodes : List (Node I)) → IsWhole nodes → (d x : ℕ) → (node_at nodes x).height < d →
+    length (points_to d nodes x) ≡ (node_at nodes x).total
+unfolding points_to
+points_to_length nodes whole zero x lt = absurd (omega arith)
+points_to_length nodes whole (suc d) x lt =
+    omega (arith, weave_length (points_to d nodes) (λ c. (node_at nodes c).total) 0 0 (node_at nodes x).total (node_at nodes x).items (node_at nodes x).links
+        (λ c linked. points_to_length nodes whole d c (omega (arith, whole.below x c linked))) (whole.placed x))
+
+-- a node has as many points as it counts
+pub points_length : {I : Type 0} (nodes : List (Node I)) → IsWhole nodes → (x : ℕ) → length (points nodes x) ≡ (node_at nodes x).total
+unfolding points
+points_length nodes whole x = points_to_length nodes whole (suc (node_at nodes x).height) x (omega arith)

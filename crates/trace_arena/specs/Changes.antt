@@ -1,6 +1,6 @@
 -- What each call changes (this project).
-use Rattle.std.specs.Prelude.{◌≡◌, ◌≢◌, ℕ, ◌+◌, List, [], ◌∷◌, ◌++◌, length, map}
-use Rattle.trace_arena.specs.Nodes.{Node, node_at, parents, IsUnshared, children}
+use Rattle.std.specs.Prelude.{◌≡◌, ◌≢◌, ℕ, ◌+◌, ◌-◌, ◌==◌, if◌then◌else◌, List, [], ◌∷◌, ◌++◌, length, map}
+use Rattle.trace_arena.specs.Nodes.{Node, node_at, parents, outside, IsLive, IsUnshared, IsReached, children}
 use Rattle.trace_arena.specs.Points.{own, within, last_before, points}
 
 -- a node keeps what it holds and means, and its links from and to others
@@ -54,3 +54,16 @@ pub record Links {I : Type 0} (old new : List (Node I)) (parent child : ℕ) : T
   pub owners : (node_at new child).owners ≡ (node_at old child).owners + 1
   pub parents : parents new child ≡ parents old child + 1
   pub others : (y : ℕ) → y ≢ parent → y ≢ child → Stays old new y
+
+-- a count less one, for one node
+abbrev pub less_one : (ℕ → ℕ) → ℕ → ℕ → ℕ
+less_one count x y = if y == x then count y - 1 else count y
+
+-- One owner from outside is given up, and the live nodes are those that the others reach. These keep what they hold and
+-- mean.
+pub record Releases {I : Type 0} (old new : List (Node I)) (x : ℕ) : Type 0 where
+  pub outer : (y : ℕ) → outside new y ≡ less_one (outside old) x y
+  pub live : (y : ℕ) → IsLive new y → IsReached old (less_one (outside old) x) y
+  pub reached : (y : ℕ) → IsReached old (less_one (outside old) x) y → IsLive new y
+  pub keeps : (y : ℕ) → IsLive new y → Keeps old new y
+  pub unshared : (y : ℕ) → y ≢ x → IsUnshared old y → IsUnshared new y

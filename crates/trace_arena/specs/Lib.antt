@@ -3,3 +3,4 @@ pub mod Points
 pub mod Whole
 pub mod Changes
 pub mod Slots
+pub mod Waiting

@@ -37,6 +37,10 @@ with_link node child height more = record node {
 abbrev pub with_owners : {I : Type 0} → Node I → ℕ → Node I
 with_owners node owners = record node { owners = owners }
 
+-- a node with these links
+abbrev pub with_links : {I : Type 0} → Node I → List Link → Node I
+with_links node links = record node { links = links }
+
 -- an arena: the nodes by their numbers, and how many items were ever appended, or the greatest u64 once that is reached
 pub record Arena (I : Type 0) : Type 0 where
   pub nodes : List (Node I)

@@ -1,10 +1,11 @@
 //! The arena: nodes are begun, appended to, linked, and found by their numbers.
-ghost use Rattle.std.specs.Prelude.{◌≡◌, ◌≢◌, ◌↔◌, ◌+◌, min, [], ◌∷◌, ◌++◌, IsTrue, OnOk, OnErr, IfOk, slice_get};
+ghost use Rattle.std.specs.Prelude.{◌≡◌, ◌≢◌, ◌↔◌, ◌+◌, min, [], ◌∷◌, ◌++◌, IsTrue, length, OnOk, OnErr, IfOk, slice_get};
 ghost use Rattle.std.specs.Option.{option_map};
-ghost use Rattle.trace_arena.specs.Nodes.{IsLive, IsUnshared, children};
+ghost use Rattle.trace_arena.specs.Nodes.{node_at, IsLive, IsUnshared, children};
+ghost use Rattle.trace_arena.specs.Points.{points};
 ghost use Rattle.trace_arena.specs.Changes.{Begins, Appends, Links};
 
-use crate::node::NodeId;
+use crate::node::{Link, NodeId};
 use crate::slot::{Slot, free_number, new_slot, push_item, push_link, reopen};
 use hl_base::{Ledger, OutOfMemory, Steps};
 use std::alloc::Global;
@@ -13,7 +14,7 @@ use std::marker::Model;
 /// Nodes of items, and links between them.
 #[derive(Drop)]
 pub struct TraceArena<I> {
-    slots: Vec<Slot<I>>,
+    pub(crate) slots: Vec<Slot<I>>,
     // The first of the slots that were freed.
     free: Option<u32>,
     made: u64,
@@ -64,6 +65,38 @@ impl<I: Drop> TraceArena<I> {
         let slot = self.slots.get(node.0 as usize)?;
         let link = slot.links.get(index as usize)?;
         Some(link.child)
+    }
+
+    /// The items that were appended to a node, in their order.
+    pub fn items(&self, node: NodeId) -> &[I]
+        requires live { IsLive self.now.nodes node.0 }
+        ensures { result.now ≡ (node_at self.now.nodes node.0).items }
+    {
+        self.slots[node.0 as usize].items.as_slice()
+    }
+
+    /// The links of a node, in their order.
+    pub fn links(&self, node: NodeId) -> &[Link]
+        requires live { IsLive self.now.nodes node.0 }
+        ensures { result.now ≡ (node_at self.now.nodes node.0).links }
+    {
+        self.slots[node.0 as usize].links.as_slice()
+    }
+
+    /// How many points a node has.
+    pub fn points(&self, node: NodeId) -> u32
+        requires live { IsLive self.now.nodes node.0 }
+        ensures points { result ≡ length (points self.now.nodes node.0) }
+        ensures total { result ≡ (node_at self.now.nodes node.0).total }
+    {
+        self.slots[node.0 as usize].total
+    }
+
+    /// How many items were ever appended, or the greatest number once that is reached.
+    pub fn made(&self) -> u64
+        ensures { result ≡ self.now.made }
+    {
+        self.made
     }
 
     /// A new node without points, which its maker owns. An `Err` changes nothing.

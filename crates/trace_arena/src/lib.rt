@@ -10,8 +10,11 @@
 #![tactic(auto)]
 
 mod arena;
+mod laws;
 mod node;
+mod release;
 mod slot;
 
 pub use arena::TraceArena;
+pub use laws::{arena_is_whole, live_nodes_are_reached};
 pub use node::{Link, NodeId};
