@@ -8,10 +8,10 @@ use Rattle.trace_arena.specs.Slots.{node_of, nodes_of}
 use Rattle.trace_arena.specs.Points.{points}
 use Rattle.trace_arena.specs.Whole.{IsWhole}
 use Rattle.trace_arena.proofs.PointLemmas.{points_length}
-use Rattle.trace_arena.specs.Changes.{Begins, Appends, Links}
+use Rattle.trace_arena.specs.Changes.{Recounts, Begins, Appends, Links}
 use Rattle.trace_arena.proofs.SlotLemmas.{nodes_of_set, owned_inside, node_of_read, writes_slot, same_slot}
 use Rattle.trace_arena.proofs.WriteLemmas.{Writes, writes_push}
-use Rattle.trace_arena.proofs.StepLemmas.{Step, step_append, step_begin, step_linked}
+use Rattle.trace_arena.proofs.StepLemmas.{Step, step_append, step_begin, step_recount, step_linked}
 
 pub on_err : {T E : Type 0} (r : Result T E) {P : Type 0} → P → OnErr r P
 on_err (Ok x) p = tt
@@ -119,3 +119,21 @@ module _ {I : Type 0} (slots : List (Slot I)) (nodes : List (Node I)) (view : no
       ap (λ n. n.total) (node_of_read slots x slot inside read)
       ∙ sym (points_length (nodes_of slots) whole x)
       ∙ ap (λ ns. length (points ns x)) view
+
+  -- the call of `retain` that had room
+  pub retain_slots : (x : ℕ) (was is : Slot I) (owners : ℕ) → IsLive nodes x → was ≡ get_or slots x was → owners ≡ was.owners + 1 →
+      node_of is ≡ with_owners (node_of was) owners →
+      Step I (nodes_of (set slots x is)) (Recounts nodes (nodes_of (set slots x is)) x ((node_at nodes x).owners + 1))
+  retain_slots x was is owners live read more written =
+      let here : IsLive (nodes_of slots) x = subst (λ (ns : List (Node I)). IsLive ns x) (sym view) live in
+      let inside = owned_inside slots x here in
+      let node : node_of was ≡ node_at (nodes_of slots) x = node_of_read slots x was inside read in
+      let step =
+      step_recount (nodes_of slots) (nodes_of (set slots x is)) x ((node_at (nodes_of slots) x).owners + 1) whole here
+      (omega (arith, whole.counted x)) (omega arith)
+      (writes_slot slots x is _ inside
+      (written ∙ ap (λ n. with_owners n owners) node ∙ ap (with_owners (node_at (nodes_of slots) x)) (more ∙ ap (λ n. n.owners + 1) node))) in
+      record {
+        whole = step.whole;
+        change = subst (λ (ns : List (Node I)). Recounts ns (nodes_of (set slots x is)) x ((node_at ns x).owners + 1)) view step.change;
+      }

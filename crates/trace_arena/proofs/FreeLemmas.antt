@@ -1,11 +1,11 @@
 -- A step of the loop that frees nodes: the first node that waits loses its last link, or its memory.
-use Rattle.std.proofs.Common.{◌≡◌, ◌≢◌, ◌⊎◌, ℕ, zero, suc, ◌+◌, ◌-◌, ◌<◌, ◌≤◌, Option, Some, None, List, [], ◌∷◌, ◌++◌, length, get_or, set, refl, sym, ap, subst, ◌∙◌, inl, inr, arith, length-append}
-use Rattle.std.proofs.lemmas.Bool.{cases_eq, cases_lt}
+use Rattle.std.proofs.Common.{◌≡◌, ◌≢◌, ◌⊎◌, ℕ, zero, suc, ◌+◌, ◌-◌, ◌<◌, ◌≤◌, Option, Some, None, List, [], ◌∷◌, ◌++◌, length, set, refl, sym, ap, subst, ◌∙◌, inl, inr, arith}
+use Rattle.std.proofs.lemmas.Bool.{cases_eq}
 use Rattle.std.proofs.lemmas.List.{get_or-set_same, get_or-set_other}
 use Rattle.std.proofs.lemmas.Option.{same_Some, none-some}
 use Rattle.trace_arena.specs.declared.node.Link.{Link}
-use Rattle.trace_arena.specs.Nodes.{Node, free_node, with_links, with_owners, node_at, leads, parents, outside, IsLive, IsLinked}
-use Rattle.trace_arena.specs.Waiting.{next_at, IsIn, IsPath, Holds, Frees, work}
+use Rattle.trace_arena.specs.Nodes.{Node, free_node, with_links, with_owners, node_at, leads, parents, outside, IsLive}
+use Rattle.trace_arena.specs.Waiting.{next_at, IsIn, IsPath, Frees, work}
 use Rattle.trace_arena.proofs.LinkLemmas.{leads_le, leads_push, leads_same, leads_other}
 use Rattle.trace_arena.proofs.WriteLemmas.{Writes}
 
@@ -13,9 +13,12 @@ use Rattle.trace_arena.proofs.WriteLemmas.{Writes}
 pub path_frame : (next more : ℕ → Option ℕ) (first : Option ℕ) (xs : List ℕ) → ((y : ℕ) → IsIn y xs → more y ≡ next y) →
     IsPath next first xs → IsPath more first xs
 path_frame next more first [] same path = path
-path_frame next more first (x ∷ xs) same path =
-    (path.0, path.1, subst (λ (o : Option ℕ). IsPath more o xs) (sym (same x (inl refl)))
-    (path_frame next more (next x) xs (λ y within. same y (inr within)) path.2))
+path_frame next more first (x ∷ xs) same path = (
+  path.0,
+  path.1,
+  subst (λ (o : Option ℕ). IsPath more o xs) (sym (same x (inl refl)))
+      (path_frame next more (next x) xs (λ y within. same y (inr within)) path.2),
+)
 
 -- a path that begins with a number
 pub path_front : (next : ℕ → Option ℕ) (x : ℕ) (queue : List ℕ) → IsPath next (Some x) queue →
@@ -40,7 +43,7 @@ write_field old new x n F writes same y = elim (cases_eq y x) [
 ]
 
 -- the first node that waits lost its last link, and the child lost an owner
-module _ {I : Type 0} (now mid new : List (Node I)) (nexts : List (Option ℕ)) (x : ℕ) (rest : List Link) (link : Link)
+module _ {I : Type 0} (now mid : List (Node I)) (nexts : List (Option ℕ)) (x : ℕ) (rest : List Link) (link : Link)
     (frees : Frees now now nexts (Some x)) (links : (node_at now x).links ≡ rest ++ link ∷ [])
     (first : Writes now mid x (with_links (node_at now x) rest)) where
   pub front_in : IsIn x frees.queue
@@ -65,7 +68,7 @@ module _ {I : Type 0} (now mid new : List (Node I)) (nexts : List (Option ℕ)) 
   child_differs : (y : ℕ) → (node_at now y).owners ≡ 0 → y ≢ link.child.0
   child_differs y none same = absurd (omega (arith, none, ap (λ z. (node_at now z).owners) same, child_owned_now))
 
-  module _ (second : Writes mid new link.child.0 (with_owners (node_at mid link.child.0) ((node_at mid link.child.0).owners - 1))) where
+  module _ (new : List (Node I)) (second : Writes mid new link.child.0 (with_owners (node_at mid link.child.0) ((node_at mid link.child.0).owners - 1))) where
     lost_items : (y : ℕ) → (node_at new y).items ≡ (node_at now y).items
     lost_items y =
         write_field mid new link.child.0 _ (λ m. m.items) second refl y ∙ write_field now mid x _ (λ m. m.items) first refl y
@@ -116,9 +119,10 @@ module _ {I : Type 0} (now mid new : List (Node I)) (nexts : List (Option ℕ)) 
         | inl was ↦
             let idle = frees.idle y was in
             (lost_owners y (child_differs y idle.0) ∙ idle.0, omega (arith, lost_height y, idle.1))
-        | inr is ↦
-            (ap (λ z. (node_at new z).owners) is.0 ∙ is.1,
-            omega (arith, lost_height y, ap (λ z. (node_at now z).height) is.0, frees.tall link.child.0 child_owned_now))
+        | inr is ↦ (
+          ap (λ z. (node_at new z).owners) is.0 ∙ is.1,
+          omega (arith, lost_height y, ap (λ z. (node_at now z).height) is.0, frees.tall link.child.0 child_owned_now),
+        )
       ];
       counted = λ y. elim (cases_eq y link.child.0) [
         | inl same ↦
@@ -141,7 +145,7 @@ module _ {I : Type 0} (now mid new : List (Node I)) (nexts : List (Option ℕ)) 
       tall = λ y live. omega (arith, lost_height y, frees.tall y (lost_live y live));
       kept = λ y live.
           let apart : y ≢ x = λ same.
-              absurd (omega (arith, live, ap (λ z. (node_at new z).owners) same, lost_owners x (child_differs x front_idle), front_idle)) in
+          absurd (omega (arith, live, ap (λ z. (node_at new z).owners) same, lost_owners x (child_differs x front_idle), front_idle)) in
           record {
             live = lost_live y live;
             items = lost_items y;
@@ -163,11 +167,13 @@ module _ {I : Type 0} (now mid new : List (Node I)) (nexts : List (Option ℕ)) 
         let gone : (node_at new link.child.0).owners ≡ 0 = omega (arith, last, ap (λ m. m.owners) second.here) in
         let out : (y : ℕ) → IsIn y frees.queue → y ≢ link.child.0 = λ y within. child_differs y (frees.idle y within).0 in
         let here : next_at (set nexts link.child.0 (Some x)) link.child.0 ≡ Some x = get_or-set_same nexts link.child.0 (Some x) None inside in
-        frees_lost (set nexts link.child.0 (Some x)) (Some link.child.0) (link.child.0 ∷ frees.queue)
-        (refl, λ within. out link.child.0 within refl,
-        subst (λ (o : Option ℕ). IsPath (next_at (set nexts link.child.0 (Some x))) o frees.queue) (sym here)
-        (path_frame (next_at nexts) (next_at (set nexts link.child.0 (Some x))) (Some x) frees.queue
-        (λ y within. get_or-set_other nexts link.child.0 y (Some x) None (out y within)) frees.path))
+        frees_lost (set nexts link.child.0 (Some x)) (Some link.child.0) (link.child.0 ∷ frees.queue) (
+          refl,
+          λ within. out link.child.0 within refl,
+          subst (λ (o : Option ℕ). IsPath (next_at (set nexts link.child.0 (Some x))) o frees.queue) (sym here)
+              (path_frame (next_at nexts) (next_at (set nexts link.child.0 (Some x))) (Some x) frees.queue
+              (λ y within. get_or-set_other nexts link.child.0 y (Some x) None (out y within)) frees.path),
+        )
         (λ y within. elim within [ inl same ↦ inr (same, gone) | inr later ↦ inl later ])
         (λ y away. (λ within. away (inr within), λ same. absurd (away (inl same))))
 
@@ -189,7 +195,7 @@ module _ {I : Type 0} (now new : List (Node I)) (nexts : List (Option ℕ)) (x :
       let idle : (node_at now x).owners ≡ 0 = (frees.idle x first).0 in
       let apart : (y : ℕ) → IsIn y ys → y ≢ x = λ y within same. front.2.1 (subst (λ (z : ℕ). IsIn z ys) same within) in
       let living : (y : ℕ) → IsLive new y → y ≢ x = λ y live same.
-          absurd (omega (arith, live, ap (λ z. (node_at new z).owners) same, ap (λ m. m.owners) writes.here)) in
+      absurd (omega (arith, live, ap (λ z. (node_at new z).owners) same, ap (λ m. m.owners) writes.here)) in
       record {
         queue = ys;
         path =

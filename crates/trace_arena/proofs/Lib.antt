@@ -6,3 +6,4 @@ pub mod SlotLemmas
 pub mod CallLemmas
 pub mod LiveLemmas
 pub mod FreeLemmas
+pub mod ReleaseLemmas

@@ -1,9 +1,9 @@
 -- Live nodes are those that an owner from outside reaches.
-use Rattle.std.proofs.Common.{◌≡◌, ℕ, zero, suc, ◌+◌, ◌-◌, ◌<◌, ◌≤◌, max, List, [], ◌∷◌, refl, ap, ◌∙◌, inl, inr, arith}
+use Rattle.std.proofs.Common.{ℕ, zero, suc, ◌+◌, ◌<◌, ◌≤◌, max, List, [], ◌∷◌, ap, inl, inr, arith}
 use Rattle.std.proofs.lemmas.Bool.{cases_lt}
 use Rattle.trace_arena.specs.Nodes.{Node, node_at, leads, parents, outside, IsLive, IsLinked, IsReached, IsReached.from_outside, IsReached.by_link}
 use Rattle.trace_arena.specs.Whole.{IsWhole}
-use Rattle.trace_arena.proofs.LinkLemmas.{leads_le, linked_live}
+use Rattle.trace_arena.proofs.LinkLemmas.{linked_live}
 
 -- the greatest height of a node
 abbrev tallest : {I : Type 0} → List (Node I) → ℕ

@@ -133,19 +133,31 @@ weave_length f total from before whole items (l ∷ ls) lengths placed =
     let inside = placed_within total l.at (l.before + total l.child.0) (length items) whole ls placed.2 in
     let own_points = map own (take (l.at - from) (drop from items)) in
     let child_points = map (within (last_before l.at items)) (f l.child.0) in
-    omega (arith, placed.0, placed.1, inside,
-        length-append own_points (child_points ++ weave f l.at items ls), length-append child_points (weave f l.at items ls),
-        length-map (take (l.at - from) (drop from items)) own, length-take (l.at - from) (drop from items), length-drop from items,
-        length-map (f l.child.0) (within (last_before l.at items)), lengths l.child.0 (leads_first l ls),
-        weave_length f total l.at (l.before + total l.child.0) whole items ls (λ c lt. lengths c (leads_rest c l ls lt)) placed.2)
+    omega (
+      arith,
+      placed.0,
+      placed.1,
+      inside,
+      length-append own_points (child_points ++ weave f l.at items ls),
+      length-append child_points (weave f l.at items ls),
+      length-map (take (l.at - from) (drop from items)) own,
+      length-take (l.at - from) (drop from items),
+      length-drop from items,
+      length-map (f l.child.0) (within (last_before l.at items)),
+      lengths l.child.0 (leads_first l ls),
+      weave_length f total l.at (l.before + total l.child.0) whole items ls (λ c lt. lengths c (leads_rest c l ls lt)) placed.2,
+    )
 
 pub points_to_length : {I : Type 0} (nodes : List (Node I)) → IsWhole nodes → (d x : ℕ) → (node_at nodes x).height < d →
     length (points_to d nodes x) ≡ (node_at nodes x).total
 unfolding points_to
 points_to_length nodes whole zero x lt = absurd (omega arith)
 points_to_length nodes whole (suc d) x lt =
-    omega (arith, weave_length (points_to d nodes) (λ c. (node_at nodes c).total) 0 0 (node_at nodes x).total (node_at nodes x).items (node_at nodes x).links
-        (λ c linked. points_to_length nodes whole d c (omega (arith, whole.below x c linked))) (whole.placed x))
+    omega (
+      arith,
+      weave_length (points_to d nodes) (λ c. (node_at nodes c).total) 0 0 (node_at nodes x).total (node_at nodes x).items (node_at nodes x).links
+          (λ c linked. points_to_length nodes whole d c (omega (arith, whole.below x c linked))) (whole.placed x),
+    )
 
 -- a node has as many points as it counts
 pub points_length : {I : Type 0} (nodes : List (Node I)) → IsWhole nodes → (x : ℕ) → length (points nodes x) ≡ (node_at nodes x).total

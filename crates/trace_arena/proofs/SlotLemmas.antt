@@ -1,5 +1,5 @@
 -- What a write of a slot leaves of the nodes.
-use Rattle.std.proofs.Common.{◌≡◌, ℕ, ◌<◌, List, length, get_or, set, sym, ap, subst, ◌∙◌, inl, inr, arith, Option, None, map}
+use Rattle.std.proofs.Common.{◌≡◌, ℕ, ◌<◌, List, length, get_or, set, sym, ap, subst, ◌∙◌, inl, inr, arith, Option, None}
 use Rattle.std.proofs.lemmas.Bool.{cases_lt}
 use Rattle.std.proofs.lemmas.List.{map-set, set-get_or, length-map, get_or-map, get_or_past}
 use Rattle.trace_arena.specs.declared.slot.Slot.{Slot}

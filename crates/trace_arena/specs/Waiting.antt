@@ -1,5 +1,5 @@
 -- Nodes without owners that wait to be freed. No public clause cites this file. This project.
-use Rattle.std.specs.Prelude.{◌≡◌, ℕ, zero, suc, ◌+◌, ◌<◌, ◌≤◌, ◌⊎◌, Option, Some, None, List, [], ◌∷◌, map, length, slice_index_or}
+use Rattle.std.specs.Prelude.{◌≡◌, ℕ, ◌+◌, ◌<◌, ◌≤◌, ◌⊎◌, Option, Some, None, List, [], ◌∷◌, map, length, slice_index_or}
 use Rattle.trace_arena.specs.declared.slot.Slot.{Slot}
 use Rattle.trace_arena.specs.Nodes.{Node, free_node, node_at, parents, outside, IsLive}
 

@@ -1,11 +1,13 @@
 //! The arena: nodes are begun, appended to, linked, and found by their numbers.
-ghost use Rattle.std.specs.Prelude.{◌≡◌, ◌≢◌, ◌↔◌, ◌+◌, min, [], ◌∷◌, ◌++◌, IsTrue, length, OnOk, OnErr, IfOk, slice_get};
+ghost use Rattle.std.specs.Prelude.{◌≡◌, ◌≢◌, ◌↔◌, ◌+◌, ◌<◌, min, [], ◌∷◌, ◌++◌, IsTrue, length, OnOk, OnErr, IfOk, slice_get};
+ghost use Rattle.std.specs.Bool.{OnTrue, OnFalse};
 ghost use Rattle.std.specs.Option.{option_map};
-ghost use Rattle.trace_arena.specs.Nodes.{node_at, IsLive, IsUnshared, children};
+ghost use Rattle.trace_arena.specs.Nodes.{node_at, outside, IsLive, IsUnshared, children};
 ghost use Rattle.trace_arena.specs.Points.{points};
-ghost use Rattle.trace_arena.specs.Changes.{Begins, Appends, Links};
+ghost use Rattle.trace_arena.specs.Changes.{Recounts, Begins, Appends, Links, Releases};
 
 use crate::node::{Link, NodeId};
+use crate::release::{Queues, free_waiting, give_up};
 use crate::slot::{Slot, free_number, new_slot, push_item, push_link, reopen};
 use hl_base::{Ledger, OutOfMemory, Steps};
 use std::alloc::Global;
@@ -153,5 +155,36 @@ impl<I: Drop> TraceArena<I> {
         push_link(&mut self.slots[parent.0 as usize], child, below, more)?;
         self.slots[child.0 as usize].owners = owners;
         Ok(())
+    }
+
+    /// One owner more of a live node, and whether there was room for it in the count. It takes no memory.
+    pub fn retain(&mut self, node: NodeId) -> bool
+        requires live { IsLive self.old.nodes node.0 }
+        ensures retained { OnTrue result (Recounts self.old.nodes self.new.nodes node.0 ((node_at self.old.nodes node.0).owners + 1)) }
+        ensures made { self.new.made ≡ self.old.made }
+        ensures refused { OnFalse result (self.new ≡ self.old) }
+        ensures full { OnFalse result ((node_at self.old.nodes node.0).owners ≡ u32.MAX) }
+    {
+        let slot = &mut self.slots[node.0 as usize];
+        let Some(owners) = slot.owners.checked_add(1) else {
+            return false;
+        };
+        slot.owners = owners;
+        true
+    }
+
+    /// Gives up an owner of a node that is no link. The nodes that no owner reaches any more are freed. It takes no
+    /// memory.
+    pub fn release(&mut self, node: NodeId)
+        requires owned { 0 < outside self.old.nodes node.0 }
+        ensures released { Releases self.old.nodes self.new.nodes node.0 }
+        ensures made { self.new.made ≡ self.old.made }
+    {
+        let waiting = give_up(&mut self.slots, node.0, None);
+        let queues = Queues {
+            waiting,
+            free: self.free,
+        };
+        self.free = free_waiting(self.alloc, &mut self.slots, queues);
     }
 }

@@ -1,5 +1,5 @@
 //! Nodes without owners are freed, one after another, in a list that goes through their own memory.
-ghost use Rattle.std.specs.Prelude.{ℕ, ◌≡◌, ◌↔◌, ◌+◌, ◌-◌, ◌<◌, [], ◌∷◌, ◌++◌, length, slice_set, if◌then◌else◌, ◌==◌, MatchOption, IsTrue};
+ghost use Rattle.std.specs.Prelude.{ℕ, ◌≡◌, ◌↔◌, ◌+◌, ◌-◌, ◌<◌, [], ◌∷◌, ◌++◌, length, slice_set, if◌then◌else◌, ◌==◌, MatchOption, IsTrue, Some, None};
 ghost use Rattle.std.specs.Bool.{OnTrue, OnFalse};
 ghost use Rattle.trace_arena.specs.Nodes.{free_node, with_owners, with_links, node_at};
 ghost use Rattle.trace_arena.specs.Slots.{node_of, nodes_of};
@@ -68,5 +68,46 @@ pub(crate) fn give_up<I>(slots: &mut Vec<Slot<I>>, index: u32, waiting: Option<u
     ensures stays { 1 < (node_at (nodes_of slots.old.items) index).owners →
         (result ≡ waiting) × (nexts_of slots.new.items ≡ nexts_of slots.old.items) }
 {
-    if lose_owner(&mut slots[index as usize], waiting) { Some(index) } else { waiting }
+    if lose_owner(&mut slots[index as usize], waiting) {
+        Some(index)
+    } else {
+        waiting
+    }
+}
+
+/// The first node that waits loses its last link, or else its memory.
+fn free_one<I: Drop>(alloc: Global, slots: &mut Vec<Slot<I>>, index: u32, queues: Queues) -> Queues
+    requires first { queues.waiting ≡ Some index }
+    requires frees { Frees (nodes_of slots.old.items) (nodes_of slots.old.items) (nexts_of slots.old.items) queues.waiting }
+    ensures frees { Frees (nodes_of slots.old.items) (nodes_of slots.new.items) (nexts_of slots.new.items) result.waiting }
+    ensures less { work (nodes_of slots.new.items) < work (nodes_of slots.old.items) }
+{
+    if let Some(link) = pop_link(&mut slots[index as usize]) {
+        let waiting = give_up(slots, link.child.0, queues.waiting);
+        return Queues {
+            waiting,
+            free: queues.free,
+        };
+    }
+    let waiting = finish(alloc, &mut slots[index as usize], queues.free);
+    Queues {
+        waiting,
+        free: Some(index),
+    }
+}
+
+/// Frees the nodes that wait, and those that lose their last owner by it. Gives the first of the free slots.
+pub(crate) fn free_waiting<I: Drop>(
+    alloc: Global,
+    slots: &mut Vec<Slot<I>>,
+    first: Queues,
+) -> Option<u32>
+    requires { Frees (nodes_of slots.old.items) (nodes_of slots.old.items) (nexts_of slots.old.items) first.waiting }
+    ensures { Frees (nodes_of slots.old.items) (nodes_of slots.new.items) (nexts_of slots.new.items) None }
+{
+    let mut queues = first;
+    while let Some(index) = queues.waiting {
+        queues = free_one(alloc, slots, index, queues);
+    }
+    queues.free
 }

@@ -1,5 +1,5 @@
 use Rattle.std.proofs.Common.{List, ap, subst}
-use Rattle.trace_arena.specs.Nodes.{Node, IsLive, IsReached}
+use Rattle.trace_arena.specs.Nodes.{Node}
 use Rattle.trace_arena.specs.Whole.{IsWhole}
 use Rattle.trace_arena.proofs.LiveLemmas.{live_from_reached, reached_from_live}
 use Rattle.trace_arena.proofs.laws.live_nodes_are_reached.Goals as goal

@@ -1,6 +1,5 @@
 use Rattle.std.proofs.Common.{◌-◌, refl}
-use Rattle.trace_arena.specs.Nodes.{Node, with_owners}
-use Rattle.trace_arena.proofs.FreeLemmas.{frees_on}
+use Rattle.trace_arena.specs.Nodes.{with_owners}
 use Rattle.trace_arena.proofs.SlotLemmas.{set_read, nexts_of_set, nexts_stay}
 use Rattle.trace_arena.proofs.release.give_up.Goals as goal
 

@@ -1,6 +1,4 @@
-use Rattle.std.proofs.Common.{length, sym, ap, subst, ◌∙◌}
-use Rattle.trace_arena.specs.Nodes.{Arena}
-use Rattle.trace_arena.specs.Points.{points}
+use Rattle.std.proofs.Common.{ap}
 use Rattle.trace_arena.proofs.CallLemmas.{points_read}
 use Rattle.trace_arena.proofs.arena.TraceArena.points.Goals as goal
 
