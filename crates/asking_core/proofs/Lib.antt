@@ -4,3 +4,4 @@ pub mod Sound
 pub mod Modesty
 pub mod OnePlainRun
 pub mod Shifts
+pub mod FootprintSteps

@@ -8,10 +8,12 @@
 //! It knows nothing of HLASM, of what a key asks and an item carries, and keeps nothing itself.
 #![tactic(auto)]
 
+mod footprint;
 mod laws;
 mod machine;
 mod world;
 
+pub use footprint::{Footprint, Noted};
 pub use laws::{depth_shifts, footprints_suffice, fuel_shifts, one_run, run_leaves};
 pub use machine::{Action, AskMachine, Given};
 pub use world::World;
