@@ -5,3 +5,5 @@ pub mod Modesty
 pub mod OnePlainRun
 pub mod Shifts
 pub mod FootprintSteps
+pub mod MergeLaws
+pub mod Parity

@@ -5,3 +5,4 @@ pub mod Footprints
 pub mod Places
 pub mod Laws
 pub mod Actions
+pub mod Example
