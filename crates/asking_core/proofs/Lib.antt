@@ -7,3 +7,4 @@ pub mod Shifts
 pub mod FootprintSteps
 pub mod MergeLaws
 pub mod Parity
+pub mod CounterLaws

@@ -6,3 +6,4 @@ pub mod Places
 pub mod Laws
 pub mod Actions
 pub mod Example
+pub mod Counters

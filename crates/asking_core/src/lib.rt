@@ -16,7 +16,7 @@ mod machine;
 mod world;
 
 pub use carrying::carry;
-pub use example::an_unfit_world_breaks_the_law;
+pub use example::{an_unfit_world_breaks_the_law, counters_that_go_round_fit};
 pub use footprint::{Footprint, Noted};
 pub use laws::{
     depth_shifts, footprints_suffice, fuel_shifts, merged_footprints_say_both, one_run, run_leaves,
