@@ -4,3 +4,7 @@ pub mod Sound
 pub mod Modesty
 pub mod OnePlainRun
 pub mod Shifts
+pub mod FootprintSteps
+pub mod MergeLaws
+pub mod Parity
+pub mod CounterLaws

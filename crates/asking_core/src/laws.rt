@@ -1,6 +1,6 @@
 //! What holds of every machine and every world that fits it.
 ghost use Rattle.asking_core.specs.Worlds.{Fits};
-ghost use Rattle.asking_core.specs.Laws.{FootprintLaw, ReadIsAnswered, RunLeaves, OneRun, FuelShifts, DepthShifts};
+ghost use Rattle.asking_core.specs.Laws.{FootprintLaw, ReadIsAnswered, RunLeaves, OneRun, FuelShifts, DepthShifts, MergedSays};
 
 use crate::{AskMachine, World};
 
@@ -32,4 +32,9 @@ pub fn fuel_shifts<M: AskMachine>()
 /// A run that found room for each frame and call goes as far at any depth that leaves room for its deepest one.
 pub fn depth_shifts<M: AskMachine>()
     ensures { DepthShifts (M.model).Call (M.model).Item }
+{}
+
+/// A merged footprint says of each key what the first said of it, and else what the second did.
+pub fn merged_footprints_say_both()
+    ensures { MergedSays }
 {}

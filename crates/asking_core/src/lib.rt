@@ -8,10 +8,18 @@
 //! It knows nothing of HLASM, of what a key asks and an item carries, and keeps nothing itself.
 #![tactic(auto)]
 
+mod carrying;
+mod example;
+mod footprint;
 mod laws;
 mod machine;
 mod world;
 
-pub use laws::{depth_shifts, footprints_suffice, fuel_shifts, one_run, run_leaves};
+pub use carrying::carry;
+pub use example::{an_unfit_world_breaks_the_law, counters_that_go_round_fit};
+pub use footprint::{Footprint, Noted};
+pub use laws::{
+    depth_shifts, footprints_suffice, fuel_shifts, merged_footprints_say_both, one_run, run_leaves,
+};
 pub use machine::{Action, AskMachine, Given};
 pub use world::World;
