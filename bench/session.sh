@@ -38,12 +38,32 @@ def keystroke(number, line):
     return frame({"method": "textDocument/didChange", "params": {
         "textDocument": {"uri": uri, "version": number + 2}, "contentChanges": [change]}})
 
-def session(name, lines, keystrokes):
+def opened(name, words):
+    return frame({"method": "textDocument/didOpen", "params": {"textDocument": {
+        "uri": name, "languageId": "hlasm", "version": 1, "text": words}}})
+
+# So many changes in one message: a character comes into each of the first lines, downwards or upwards.
+def changes(count, downwards):
+    places = ({"line": line, "character": 30} for line in (range(count) if downwards else reversed(range(count))))
+    return frame({"method": "textDocument/didChange", "params": {"textDocument": {"uri": uri, "version": 2},
+        "contentChanges": [{"range": {"start": at, "end": at}, "text": "x"} for at in places]}})
+
+# A session with one message behind the opening of a text of 10,000 lines of 80 characters.
+def one_message(name, message):
     path = f"{work}/{name}"
     with open(path, "wb") as out:
         out.write(frame({"id": 1, "method": "initialize", "params": {}}))
-        out.write(frame({"method": "textDocument/didOpen", "params": {"textDocument": {
-            "uri": uri, "languageId": "hlasm", "version": 1, "text": text(lines)}}}))
+        out.write(opened(uri, "".join(f"L{n:05}   MVC   TARGET,SOURCE".ljust(71) + f"{n % 10**8:>8}\n" for n in range(10000))))
+        out.write(message + frame({"id": 2, "method": "shutdown"}) + frame({"method": "exit"}))
+    return path
+
+def session(name, lines, keystrokes, others=0):
+    path = f"{work}/{name}"
+    with open(path, "wb") as out:
+        out.write(frame({"id": 1, "method": "initialize", "params": {}}))
+        for number in range(others):
+            out.write(opened(f"file:///w/other{number}.hlasm", text(lines)))
+        out.write(opened(uri, text(lines)))
         for number in range(keystrokes):
             out.write(keystroke(number, lines // 2 // 3 * 3))
         out.write(frame({"id": 2, "method": "shutdown"}))
@@ -93,4 +113,17 @@ print(f"  {(counts[1] - counts[0]) // 20} instructions a keystroke, with its lis
 for edits in (10, 1000):
     _, _, _, peak = run(served, session("edits", 1000, edits))
     print(f"{edits} edits in 1000 lines: at most {peak} kB")
+for others in (0, 19):
+    few, many = (min(run(served, session("open", 10000, count, others))[2] for _ in range(3)) for count in (10, 110))
+    print(f"a keystroke in one of {others + 1} open programs of 10000 lines: {(many - few) * 10:.1f} ms")
+words = b"x" * 800_000
+start = time.perf_counter()
+for _ in range(1000):
+    bytearray(words)
+copy = time.perf_counter() - start
+few = min(run(served, one_message("few", changes(1, True)))[2] for _ in range(3))
+for name, downwards in (("downwards", True), ("upwards", False)):
+    many = min(run(served, one_message("many", changes(10000, downwards)))[2] for _ in range(3))
+    print(f"10000 changes in one message, {name}, in 800 KB: {(many - few) * 1000:.0f} ms with the reading of the message, "
+          f"{(many - few) / (copy / 1000):.0f} copies of the text")
 RUNS

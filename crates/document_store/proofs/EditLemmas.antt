@@ -1,6 +1,7 @@
 -- The bytes of a text after a change, and what its changes in turn come to.
 use Rattle.std.proofs.Common.{◌≡◌, ◌∙◌, ℕ, ◌+◌, ◌<◌, ◌≤◌, true, false, List, ◌∷◌, ◌++◌, length, take, drop, sym, refl, ap, subst, arith, length-append}
 use Rattle.std.specs.Prelude.{encode_utf8_all, chars, IsUtf8, IsCharBoundary, slice_range, Result, Ok, Err}
+use Rattle.std.specs.String.Boundary.{IsSplitPoint}
 use Rattle.std.proofs.lemmas.Bool.{lt-ltb, le-ltb}
 use Rattle.std.proofs.lemmas.Str.{encodes-append, chars_from_encodes}
 use Rattle.hl_base.specs.declared.edit.Edit.{Edit}
@@ -50,6 +51,9 @@ slice_range-front xs n = grind arith
 -- a text may be cut where these bytes end
 pub cut_at : (bs : List ℕ) (at n : ℕ) → IsUtf8 bs → at ≡ bytes_before (chars bs) n → IsCharBoundary bs at
 cut_at bs at n u e = subst (IsCharBoundary bs) (sym e) (IsCharBoundary-bytes_before bs n u)
+
+pub split_at : (bs : List ℕ) (at n : ℕ) → IsUtf8 bs → at ≡ bytes_before (chars bs) n → IsSplitPoint bs at
+split_at bs at n u e = let cut = cut_at bs at n u e in (cut.0, λ _ within. cut.1 within)
 
 -- the text that its three parts are
 pub chars-edited : (bs text : List ℕ) (edit : Edit) (front middle back : List ℕ) (start stop : ℕ) → IsUtf8 bs → IsUtf8 text →

@@ -1,4 +1,5 @@
 pub mod LineLemmas
+pub mod OrderLemmas
 pub mod FromLemmas
 pub mod PlaceLemmas
 pub mod EditLemmas

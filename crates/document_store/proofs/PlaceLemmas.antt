@@ -101,10 +101,10 @@ one_less : (n : ℕ) → 0 < n → n ≡ suc (n - 1)
 one_less n h = omega arith
 
 -- a unit that is reached by the next character
-characters_before-stop : (unit c : ℕ) (rest : List ℕ) → unit < unit_width c → characters_before unit (c ∷ rest) ≡ 0
+pub characters_before-stop : (unit c : ℕ) (rest : List ℕ) → unit < unit_width c → characters_before unit (c ∷ rest) ≡ 0
 characters_before-stop unit c rest h = rw (lt-ltb unit (unit_width c) h) refl
 
-characters_before-go : (unit c : ℕ) (rest : List ℕ) → unit_width c ≤ unit → characters_before unit (c ∷ rest) ≡ suc (characters_before (unit - unit_width c) rest)
+pub characters_before-go : (unit c : ℕ) (rest : List ℕ) → unit_width c ≤ unit → characters_before unit (c ∷ rest) ≡ suc (characters_before (unit - unit_width c) rest)
 characters_before-go unit c rest h = rw (le-ltb unit (unit_width c) h) refl
 
 -- the next character of a line lies behind the unit, or before it

@@ -3,7 +3,7 @@ ghost use Rattle.std.specs.Prelude.{◌≡◌, ◌+◌, ◌<◌, ◌≤◌, ◌^
 ghost use Rattle.std.specs.Str.{chars};
 ghost use Rattle.std.specs.String.{string_bytes, string_len};
 ghost use Rattle.document_store.specs.Edits as changes;
-ghost use Rattle.document_store.specs.Places.{GivesText, IsBadRange};
+ghost use Rattle.document_store.specs.Places.{GivesText, LeavesText, IsBadRange};
 
 use crate::StoreFault;
 use crate::place::span_of;
@@ -33,50 +33,57 @@ fn bad_range(number: usize) -> StoreFault
     }
 }
 
-/// Three texts, one behind another.
-fn joined(alloc: Global, front: &str, middle: &str, back: &str) -> Result<String, AllocError>
-    requires { length front.now + length middle.now + length back.now ≤ LONGEST_TEXT }
-    ensures { IfOk result (λ text. string_bytes text ≡ front.now ++ middle.now ++ back.now) }
-{
-    let mut text = String::with_capacity(alloc, front.len() + middle.len() + back.len())?;
-    text.push_str(front)?;
-    text.push_str(middle)?;
-    text.push_str(back)?;
-    Ok(text)
-}
-
-/// The text after the change of a number.
-fn after_edit(alloc: Global, text: &str, number: usize, edit: &Edit) -> Result<String, StoreFault>
-    requires { length text.now ≤ LONGEST_TEXT }
-    ensures given { GivesText (changes.after_edit (chars text.now) number edit.now) result }
-    ensures short { IfOk result (λ t. string_len t ≤ LONGEST_TEXT) }
+/// Makes the change of a number in the text. Where it is refused for want of memory or for its length, the text is as it
+/// was.
+fn make_edit(text: &mut String, number: usize, edit: &Edit) -> Result<(), StoreFault>
+    requires { string_len text.old ≤ LONGEST_TEXT }
+    ensures given { LeavesText (changes.after_edit (chars (string_bytes text.old)) number edit.now) result text.new }
+    ensures short { string_len text.new ≤ LONGEST_TEXT }
 {
     if is_backward(edit) {
         return Err(bad_range(number));
     }
-    let span = span_of(text, edit);
-    let front = &text[..span.start];
-    let back = &text[span.end..];
-    let kept = front.len() + back.len();
+    let whole = text.as_str();
+    let span = span_of(whole, edit);
+    let kept = whole.len() - (span.end - span.start);
     let middle = edit.text.as_str();
-    if kept > LONGEST_TEXT || middle.len() > LONGEST_TEXT - kept {
+    if middle.len() > LONGEST_TEXT - kept {
         return Err(StoreFault::TextTooLong);
     }
-    Ok(joined(alloc, front, middle, back)?)
+    text.replace_range(span.start..span.end, middle)?;
+    Ok(())
 }
 
-/// The text after these changes in turn. The first that is refused refuses all.
+/// How many bytes a text may come to have while these changes are made.
+fn room_for(text: &str, edits: &[Edit]) -> usize
+    ensures { result ≤ LONGEST_TEXT }
+{
+    let mut room = text.len();
+    for edit in edits {
+        room = room.saturating_add(edit.text.as_str().len());
+    }
+    room.min(LONGEST_TEXT)
+}
+
+/// A copy of a text that has room for these changes, so that it is not moved while they are made.
+fn copy_for(alloc: Global, text: &str, edits: &[Edit]) -> Result<String, AllocError>
+    requires { length text.now ≤ LONGEST_TEXT }
+    ensures { IfOk result (λ copy. string_bytes copy ≡ text.now) }
+{
+    let mut copy = String::with_capacity(alloc, room_for(text, edits))?;
+    copy.push_str(text)?;
+    Ok(copy)
+}
+
+/// The text after these changes in turn, each made in the one copy. The first that is refused refuses all.
 pub fn after_edits(alloc: Global, text: &str, edits: &[Edit]) -> Result<String, StoreFault>
     requires { length text.now ≤ LONGEST_TEXT }
     ensures given { GivesText (changes.after_edits edits.now 0 (chars text.now)) result }
     ensures short { IfOk result (λ t. string_len t ≤ LONGEST_TEXT) }
 {
-    let Some((first, rest)) = edits.split_first() else {
-        return Ok(String::from_str(alloc, text)?);
-    };
-    let mut changed = after_edit(alloc, text, 0, first)?;
-    for (index, edit) in rest.iter().enumerate() {
-        changed = after_edit(alloc, changed.as_str(), index + 1, edit)?;
+    let mut changed = copy_for(alloc, text, edits)?;
+    for (index, edit) in edits.iter().enumerate() {
+        make_edit(&mut changed, index, edit)?;
     }
     Ok(changed)
 }

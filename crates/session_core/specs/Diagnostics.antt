@@ -10,7 +10,8 @@ use Rattle.hl_base.specs.declared.note.Severity.TheVariants.{Error, Warning, Inf
 use Rattle.hl_base.specs.declared.place.Frame.{Frame}
 use Rattle.lsp_messages.specs.declared.outgoing.Span.{Span}
 use Rattle.lsp_messages.specs.declared.outgoing.Diagnostic.{Diagnostic}
-use Rattle.session_core.specs.Notes.{notes_of, missing_end_code}
+use Rattle.note_rows.specs.Table.{is_at_start}
+use Rattle.session_core.specs.Notes.{notes_of}
 
 -- the letter H and three digits
 abbrev pub code_text : ℕ → List ℕ
@@ -33,7 +34,7 @@ width_of line = units (take 71 line)
 -- line begins.
 abbrev pub span_of_note : List (List ℕ) → Note → Span
 span_of_note all note =
-    span_in (line_of note.stack) (if note.code == missing_end_code then 0 else width_of (slice_index_or all (line_of note.stack) []))
+    span_in (line_of note.stack) (if is_at_start note then 0 else width_of (slice_index_or all (line_of note.stack) []))
 
 -- the number of a severity (LSP 3.17, `DiagnosticSeverity`)
 abbrev pub severity_number : Severity → ℕ

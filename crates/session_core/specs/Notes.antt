@@ -1,36 +1,36 @@
 -- What is noted of a text: the column faults of its statements, and that it has no END (this project).
 use Rattle.std.specs.Prelude.{◌-◌, ℕ, Bool, List, [], ◌∷◌, ◌++◌, codes, length, map, None, encode_utf8_all, if◌then◌else◌}
 use Rattle.std.specs.List.{list_any, flat_map}
-use Rattle.std.specs.Str.{chars, str_eq_ignore_ascii_case}
+use Rattle.std.specs.Str.{str_eq_ignore_ascii_case}
 use Rattle.hl_base.specs.Texts.{lines}
 use Rattle.hl_base.specs.declared.note.Note.{Note}
-use Rattle.hl_base.specs.declared.note.Severity.{Severity}
-use Rattle.hl_base.specs.declared.note.Severity.TheVariants.{Warning}
 use Rattle.hl_base.specs.declared.place.Frame.{Frame}
 use Rattle.hl_base.specs.declared.place.FrameKind.TheVariants.{OpenCode}
 use Rattle.hlasm_statements.specs.declared.fault.ColumnFault.{ColumnFault}
 use Rattle.hlasm_statements.specs.declared.fault.ColumnFault.TheVariants.{MarginText, SurplusLines, MissingLine}
 use Rattle.hlasm_statements.specs.declared.statement.Statement.{Statement}
-use Rattle.hlasm_statements.specs.Faults.{code_of, severity_of}
 use Rattle.hlasm_statements.specs.Statements.{statements_of}
+use Rattle.note_rows.specs.Table.{noted}
+use Rattle.note_rows.specs.declared.row.Row.{Row}
+use Rattle.note_rows.specs.declared.row.Row.TheVariants as row
 
 -- the statement of open code that begins in a line of the one file
 abbrev pub open_code_at : ℕ → Frame
 open_code_at line = record { kind = OpenCode; name = None; origin = record { path = record { 0 = 0 }; line = line } }
 
 -- a note of that statement
-abbrev pub note_at : (line code : ℕ) → Severity → List ℕ → Note
-note_at line code severity text = record { code = code; severity = severity; text = chars text; stack = open_code_at line ∷ [] }
+abbrev pub note_at : (line : ℕ) → Row → Note
+note_at line row = noted row (open_code_at line ∷ [])
 
--- what a column fault is called
-abbrev pub message_of_fault : ColumnFault → List ℕ
-message_of_fault MarginText = codes "columns 1 to 15 of a continuation line are not blank"
-message_of_fault SurplusLines = codes "more than nine continuation lines"
-message_of_fault MissingLine = codes "the text ends where a continuation line is expected"
+-- the row of a column fault
+abbrev pub row_of_fault : ColumnFault → Row
+row_of_fault MarginText = row.MarginText
+row_of_fault SurplusLines = row.SurplusLines
+row_of_fault MissingLine = row.MissingLine
 
 -- a column fault of the statement that begins in this line
 abbrev pub fault_note : ℕ → ColumnFault → Note
-fault_note line fault = note_at line (code_of fault) (severity_of fault) (message_of_fault fault)
+fault_note line fault = note_at line (row_of_fault fault)
 
 -- the column faults of a statement, in the order of their codes
 abbrev pub fault_notes : Statement → List Note
@@ -40,13 +40,9 @@ fault_notes statement = map (fault_note statement.first) statement.faults
 abbrev pub is_end : Statement → Bool
 is_end statement = str_eq_ignore_ascii_case (encode_utf8_all statement.op) (codes "END")
 
--- the code of a missing END
-abbrev pub missing_end_code : ℕ
-missing_end_code = 3
-
 -- no statement is an END: noted at the text's last line
 abbrev pub missing_end : ℕ → Note
-missing_end last_line = note_at last_line missing_end_code Warning (codes "END statement is missing")
+missing_end last_line = note_at last_line row.MissingEnd
 
 -- where none of the statements of a text of so many lines is an END, that
 abbrev pub end_notes : List Statement → (count : ℕ) → List Note

@@ -4,10 +4,11 @@ ghost use Rattle.std.specs.Str.{chars};
 ghost use Rattle.hl_base.specs.Texts.{lines};
 ghost use Rattle.session_core.specs.Diagnostics.{code_text, line_of, width_of, span_of_note, severity_number, diagnostic_of_note, published, diagnostics_of};
 
-use crate::notes::{MISSING_END, notes_of};
+use crate::notes::notes_of;
 use hl_base::{Frame, Note, OutOfMemory, Position, Severity, Text, lines, units};
 use hlasm_statements::split_columns;
 use lsp_messages::{Diagnostic, Diagnostics, Relations, Span};
+use note_rows::stands_at_start;
 use std::alloc::Global;
 
 /// The columns that a note is shown over: those of a statement.
@@ -60,7 +61,7 @@ fn span_of_note(widths: &[u32], note: &Note) -> Span
     ensures { (all : List (List ℕ)) → widths.now ≡ map width_of all → result ≡ span_of_note all note.now }
 {
     let line = line_of(note.stack.as_slice());
-    let width = if note.code == MISSING_END {
+    let width = if stands_at_start(note) {
         0
     } else {
         widths.get(line as usize).copied().unwrap_or(0)

@@ -3,35 +3,27 @@ ghost use Rattle.std.specs.Prelude.{◌≡◌, ◌++◌, ◌-◌, ◌<◌, ℕ, 
 ghost use Rattle.std.specs.List.{list_any};
 ghost use Rattle.std.specs.Str.{chars};
 ghost use Rattle.hlasm_statements.specs.Laws.{FollowOn};
-ghost use Rattle.session_core.specs.Notes.{note_at, message_of_fault, fault_notes, is_end, end_notes, notes_of};
+ghost use Rattle.session_core.specs.Notes.{note_at, row_of_fault, fault_notes, is_end, end_notes, notes_of};
 
-use hl_base::{Frame, FrameKind, Frames, Note, Notes, Origin, OutOfMemory, PathId, Severity, Text};
+use hl_base::{Frame, FrameKind, Frames, Note, Notes, Origin, OutOfMemory, PathId};
 use hlasm_statements::{ColumnFault, Statement, read_statements};
+use note_rows::{Row, note};
 use std::alloc::Global;
 
-/// The code of a missing END.
-pub const MISSING_END: u16 = 3;
-
-/// What a column fault is called.
-fn message_of_fault(fault: ColumnFault) -> &'static str
-    ensures { result.now ≡ message_of_fault fault }
+/// The row of a column fault.
+fn row_of_fault(fault: ColumnFault) -> Row
+    ensures { result ≡ row_of_fault fault }
 {
     match fault {
-        ColumnFault::MarginText => "columns 1 to 15 of a continuation line are not blank",
-        ColumnFault::SurplusLines => "more than nine continuation lines",
-        ColumnFault::MissingLine => "the text ends where a continuation line is expected",
+        ColumnFault::MarginText => Row::MarginText,
+        ColumnFault::SurplusLines => Row::SurplusLines,
+        ColumnFault::MissingLine => Row::MissingLine,
     }
 }
 
 /// A note of the statement of open code that begins in a line, counted from 0.
-fn note_at(
-    alloc: Global,
-    line: u32,
-    code: u16,
-    severity: Severity,
-    text: &str,
-) -> Result<Note, OutOfMemory>
-    ensures { IfOk result (λ note. note ≡ note_at line code severity text.now) }
+fn note_at(alloc: Global, line: u32, row: &Row) -> Result<Note, OutOfMemory>
+    ensures { IfOk result (λ note. note ≡ note_at line row.now) }
 {
     let mut stack = Frames::new(alloc);
     stack.push(Frame {
@@ -42,12 +34,7 @@ fn note_at(
             line,
         },
     })?;
-    Ok(Note {
-        code,
-        severity,
-        text: Text::of(alloc, text)?,
-        stack,
-    })
+    note(alloc, row, stack)
 }
 
 /// Adds the column faults of a statement.
@@ -55,13 +42,7 @@ fn add_faults(alloc: Global, statement: &Statement, notes: &mut Notes) -> Result
     ensures { OnOk result (notes.new ≡ notes.old ++ fault_notes statement.now) }
 {
     for fault in statement.faults.as_slice() {
-        let note = note_at(
-            alloc,
-            statement.first,
-            fault.code(),
-            fault.severity(),
-            message_of_fault(*fault),
-        )?;
+        let note = note_at(alloc, statement.first, &row_of_fault(*fault))?;
         notes.push(note)?;
     }
     Ok(())
@@ -104,8 +85,7 @@ fn add_missing_end(
         return Ok(());
     }
     let line = last_line(statements);
-    let text = "END statement is missing";
-    notes.push(note_at(alloc, line, MISSING_END, Severity::Warning, text)?)?;
+    notes.push(note_at(alloc, line, &Row::MissingEnd)?)?;
     Ok(())
 }
 
