@@ -14,3 +14,6 @@ pub mod Rows
 pub mod StackLaws
 pub mod MoveLaws
 pub mod ReadingLaws
+pub mod ReadLaws
+pub mod FrontLaws
+pub mod ClosedLaws

@@ -1,8 +1,10 @@
 pub mod Answers
 pub mod Characters
+pub mod Fronts
 pub mod Moves
 pub mod Parts
 pub mod Reading
+pub mod Readings
 pub mod Spelling
 pub mod Stacks
 pub mod Trees

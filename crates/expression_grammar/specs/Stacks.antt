@@ -1,5 +1,5 @@
 -- What the reader of expressions holds, as layers and a state (this project). No public contract speaks of it.
-use Rattle.std.specs.Prelude.{ℕ, List, [], ◌∷◌}
+use Rattle.std.specs.Prelude.{ℕ, ◌&&◌, Bool, true, false, List, [], ◌∷◌}
 use Rattle.expression_grammar.specs.declared.pending.Pending.{Pending}
 use Rattle.expression_grammar.specs.declared.pending.Pending.TheVariants as pending
 use Rattle.expression_grammar.specs.declared.pending.Point.{Point}
@@ -32,3 +32,14 @@ stand (point.Within part) layers = Within part layers
 abbrev pub closed_on : ℕ → Closing → List Layer → Folded
 closed_on floor (closing.Folded tree) below = fold floor (tree_of tree) below
 closed_on floor (closing.Kept kept tree) below = record { tree = tree_of tree; layers = pending_of kept ∷ below }
+
+-- whether the end of a text closes what is open: signs and operators it does
+abbrev pub closes : Pending → Bool
+closes (pending.Sign sign) = true
+closes (pending.Pair operator left) = true
+closes pending.Open = false
+closes (pending.Subscript asked symbol others) = false
+
+abbrev pub all_close : List Pending → Bool
+all_close [] = true
+all_close (one ∷ rest) = closes one && all_close rest

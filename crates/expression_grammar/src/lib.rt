@@ -10,6 +10,7 @@
 
 pub mod character;
 mod fault;
+pub mod front;
 pub mod laws;
 mod parse;
 pub mod part;
@@ -20,6 +21,7 @@ pub mod tree;
 
 pub use character::Grammar;
 pub use fault::SyntaxFault;
+pub use front::{Front, parse_front, parse_variable};
 pub use parse::{MOST_PARTS, parse_arith, parse_ordinary};
 pub use tree::{Attribute, Comparison, Expr, Form, Item, Operator, Reference, Sign, Symbol};
 

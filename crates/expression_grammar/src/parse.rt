@@ -19,15 +19,15 @@ pub const MOST_PARTS: u32 = 1000;
 
 /// What is read of an expression.
 #[derive(Drop)]
-struct Progress {
-    point: Point,
-    stack: Vec<Pending>,
+pub(crate) struct Progress {
+    pub(crate) point: Point,
+    pub(crate) stack: Vec<Pending>,
     /// How many terms, operators and pairs of parentheses each expression has at least that begins so.
-    weight: u32,
+    pub(crate) weight: u32,
 }
 
 /// One character more.
-fn advance(
+pub(crate) fn advance(
     alloc: Global,
     grammar: Grammar,
     progress: Progress,

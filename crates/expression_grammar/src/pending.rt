@@ -3,7 +3,7 @@
 ghost use Rattle.std.specs.Prelude.{◌≡◌, ◌≤◌, List, [], ◌∷◌, IfOk};
 ghost use Rattle.expression_grammar.specs.Characters.{strength};
 ghost use Rattle.expression_grammar.specs.Reading as reading;
-ghost use Rattle.expression_grammar.specs.Stacks.{pending_of, stack_of, closed_on};
+ghost use Rattle.expression_grammar.specs.Stacks.{pending_of, stack_of, closed_on, closes};
 ghost use Rattle.expression_grammar.specs.Views.{tree_of};
 
 use crate::part::Part;
@@ -37,6 +37,18 @@ pub enum Point {
 pub enum Closing {
     Folded(Expr),
     Kept(Pending, Expr),
+}
+
+impl Pending {
+    /// Whether the end of a text closes it.
+    pub fn closes(&self) -> bool
+        ensures { result ≡ closes self.now }
+    {
+        match self {
+            Pending::Sign(_) | Pending::Pair(_, _) => true,
+            Pending::Open | Pending::Subscript(_, _, _) => false,
+        }
+    }
 }
 
 impl Operator {

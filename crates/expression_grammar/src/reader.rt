@@ -2,12 +2,12 @@
 //!
 //! A stack holds what is open, and a point stands above it. No step looks below the topmost sign, operator or parenthesis
 //! that it closes, so a text is read in one pass, and no call recurses on it.
-ghost use Rattle.std.specs.Prelude.{◌≡◌, ◌+◌, ◌≤◌, [], ◌∷◌, IfOk, option_map};
+ghost use Rattle.std.specs.Prelude.{◌≡◌, ◌+◌, ◌≤◌, [], ◌∷◌, IfOk, is_some, option_map};
 ghost use Rattle.expression_grammar.specs.Characters as characters;
 ghost use Rattle.expression_grammar.specs.Moves.{Moves};
 ghost use Rattle.expression_grammar.specs.Parts as parts;
 ghost use Rattle.expression_grammar.specs.Reading as reading;
-ghost use Rattle.expression_grammar.specs.Stacks.{stack_of, stand};
+ghost use Rattle.expression_grammar.specs.Stacks.{all_close, stack_of, stand};
 ghost use Rattle.expression_grammar.specs.Trees.{size};
 ghost use Rattle.expression_grammar.specs.Views.{tree_of};
 
@@ -283,6 +283,30 @@ pub fn step(
         Point::Want => begin(grammar, kind, c, at, stack),
         Point::Have(tree) => go_behind(alloc, grammar, kind, tree, stack),
         Point::Within(part) => go_within(alloc, grammar, part, kind, c, at, stack),
+    }
+}
+
+/// Whether nothing is open but signs and operators.
+fn is_closed(stack: &[Pending]) -> bool
+    ensures { result ≡ all_close stack.now }
+{
+    for pending in stack {
+        if !pending.closes() {
+            return false;
+        }
+    }
+    true
+}
+
+/// Whether a text that ends here is an expression.
+#[tactic(auto, unfolding(crate::specs::Reading::accept), using(crate::proofs::ClosedLaws::stack_whole, crate::proofs::ClosedLaws::part_whole))]
+pub fn is_whole(grammar: Grammar, point: &Point, stack: &[Pending]) -> bool
+    ensures { result ≡ is_some (reading.accept grammar (stand point.now (stack_of stack.now []))) }
+{
+    match point {
+        Point::Want => false,
+        Point::Have(_) => is_closed(stack),
+        Point::Within(part) => part.is_whole(grammar) && is_closed(stack),
     }
 }
 
