@@ -28,11 +28,11 @@ install: build
 	install -m 755 $(program)/out/hlasm_ls $(lint) $(DESTDIR)$(PREFIX)/bin
 
 test:
-	.ci/run
+	tools/test.sh
 
 edits:
 	tools/edits.sh
 
-# The kit proves and builds a program where it runs it; with no change since, it only runs it.
+# Only what the program stands on, side by side; with no change since, it only says so.
 build:
-	cd $(program) && rt run -- serve < stdin > /dev/null
+	tools/build.py hlasm_ls
