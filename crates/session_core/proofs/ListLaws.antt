@@ -1,5 +1,5 @@
 -- Lists from an index on.
-use Rattle.std.proofs.Common.{◌≡◌, ℕ, ◌+◌, ◌<◌, ◌≤◌, Bool, ◌&&◌, List, [], ◌∷◌, length, drop, take, ◌++◌, get_or, Some, None, zero, suc, refl, ap, ◌∙◌, slice_get, arith, cond, find, true, false, Result, Ok, Err, OnOk}
+use Rattle.std.proofs.Common.{◌≡◌, ℕ, ◌+◌, ◌<◌, ◌≤◌, Bool, ◌&&◌, List, [], ◌∷◌, length, drop, take, ◌++◌, get_or, Some, None, zero, suc, refl, ap, ◌∙◌, slice_get, arith, cond, find, true, false, Result, Ok, Err, OnOk, IfOk}
 use Rattle.std.specs.List.{remove}
 use Rattle.std.specs.Cmp.Lexicographic.{pointwise}
 use Rattle.std.proofs.lemmas.List.{drop_more}
@@ -49,6 +49,11 @@ find_later test x xs fails = ap (λ b. cond b (Some x) (find test xs)) fails
 pub on_ok : {T E P Q : Type 0} (result : Result T E) → (P → Q) → OnOk result P → OnOk result Q
 on_ok (Ok x) follows p = follows p
 on_ok (Err e) follows p = tt
+
+-- what follows of what succeeded
+pub if_ok : {T E : Type 0} {P Q : T → Type 0} (result : Result T E) → ((x : T) → P x → Q x) → IfOk result P → IfOk result Q
+if_ok (Ok x) follows p = follows x p
+if_ok (Err e) follows p = tt
 
 -- without its first element a list is what follows
 pub remove_first : {X : Type 0} (xs : List X) → remove xs 0 ≡ drop 1 xs

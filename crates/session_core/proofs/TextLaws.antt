@@ -1,6 +1,5 @@
 -- The text of a document that is found by its number, and its list.
-use Rattle.std.proofs.Common.{◌≡◌, ℕ, Bool, true, false, cond, ◌==◌, List, [], ◌∷◌, find, Option, Some, None, ◌++◌, refl, sym, ap, ◌∙◌, subst, slice_get}
-use Rattle.std.proofs.lemmas.List.{append-nil}
+use Rattle.std.proofs.Common.{◌≡◌, ℕ, Bool, true, false, cond, ◌==◌, List, [], ◌∷◌, find, Option, Some, None, refl, sym, ap, ◌∙◌, subst, slice_get}
 use Rattle.std.specs.Str.{chars}
 use Rattle.std.proofs.lemmas.Bool.Decides.{Decides-eqb}
 use Rattle.std.proofs.lemmas.Slice.Eq.{bytes_eq-Decides}
@@ -16,10 +15,10 @@ use Rattle.document_store.specs.declared.document.Document.{Document}
 use Rattle.document_store.specs.declared.document.MemberText.{MemberText}
 use Rattle.lsp_messages.specs.declared.outgoing.Diagnostic.{Diagnostic}
 use Rattle.session_core.specs.declared.state.LastList.{LastList}
-use Rattle.session_core.specs.Bodies.{list_body}
+use Rattle.session_core.specs.Replies.{list_body}
 use Rattle.session_core.specs.Diagnostics.{diagnostics_of}
 use Rattle.session_core.specs.State.{State, number_at, is_number, document_at, last_list, with_list}
-use Rattle.session_core.specs.Step.{quiet, says, written, IsStep}
+use Rattle.session_core.specs.Step.{quiet, says, IsStep}
 use Rattle.session_core.specs.Turn.{turn_at, publish, is_published}
 use Rattle.session_core.proofs.ProgramLaws.{number_shown}
 
@@ -108,21 +107,20 @@ listed s n shown text list is tells made = by_document (document_at s.store n) r
       }
 
 -- it was published already
-pub publish_again : (s : State) (n : PathId) (shown : Document) (list : List Diagnostic) (before : List ℕ) → IsListed s n shown list
-    → is_published (last_list s.published n) shown.version list ≡ true → IsStep (turn_at s n (document_at s.store n)) s before before
-publish_again s n shown list before is old =
+pub publish_again : (s : State) (n : PathId) (shown : Document) (list : List Diagnostic) → IsListed s n shown list
+    → is_published (last_list s.published n) shown.version list ≡ true → IsStep (turn_at s n (document_at s.store n)) s []
+publish_again s n shown list is old =
     let test : is_published (last_list s.published n) is.document.version list ≡ true = ap (λ v. is_published (last_list s.published n) v list) (sym is.version) ∙ old in
-    let step : turn_at s n (document_at s.store n) ≡ quiet s = is.turn ∙ ap (λ b. cond b (quiet s) (says
+    is.turn ∙ ap (λ b. cond b (quiet s) (says
     (record s { published = with_list s.published (record { path = n; version = is.document.version; list = list }) })
-    (list_body is.document.uri (Some is.document.version) list))) test in
-    subst (λ z. IsStep z s before before) (sym step) (refl, sym (append-nil before))
+    (list_body is.document.uri (Some is.document.version) list))) test
 
 -- it is published now
-pub publish_new : (s : State) (n : PathId) (shown : Document) (list : List Diagnostic) (before after body : List ℕ) (published : List LastList) → IsListed s n shown list
+pub publish_new : (s : State) (n : PathId) (shown : Document) (list : List Diagnostic) (body : List ℕ) (published : List LastList) → IsListed s n shown list
     → is_published (last_list s.published n) shown.version list ≡ false → body ≡ list_body (chars shown.uri.now) (Some shown.version) list
-    → published ≡ with_list s.published (record { path = n; version = shown.version; list = list }) → after ≡ before ++ written (body ∷ [])
-    → IsStep (turn_at s n (document_at s.store n)) (record s { published = published }) before after
-publish_new s n shown list before after body published is fresh told kept wrote =
+    → published ≡ with_list s.published (record { path = n; version = shown.version; list = list })
+    → IsStep (turn_at s n (document_at s.store n)) (record s { published = published }) (body ∷ [])
+publish_new s n shown list body published is fresh told kept =
     let test : is_published (last_list s.published n) is.document.version list ≡ false = ap (λ v. is_published (last_list s.published n) v list) (sym is.version) ∙ fresh in
     let step : turn_at s n (document_at s.store n) ≡ says
     (record s { published = with_list s.published (record { path = n; version = is.document.version; list = list }) })
@@ -131,7 +129,7 @@ publish_new s n shown list before after body published is fresh told kept wrote 
     (list_body is.document.uri (Some is.document.version) list))) test in
     let line : body ≡ list_body is.document.uri (Some is.document.version) list =
     told ∙ ap (λ u. list_body u (Some shown.version) list) is.uri ∙ ap (λ v. list_body is.document.uri (Some v) list) is.version in
-    subst (λ z. IsStep z (record s { published = published }) before after) (sym step) (
-      ap (λ p. record s { published = p }) (kept ∙ ap (λ v. with_list s.published (record { path = n; version = v; list = list })) is.version),
-      wrote ∙ ap (λ z. before ++ written (z ∷ [])) line,
-    )
+    let newest : published ≡ with_list s.published (record { path = n; version = is.document.version; list = list }) =
+    kept ∙ ap (λ v. with_list s.published (record { path = n; version = v; list = list })) is.version in
+    step ∙ ap (λ p. says (record s { published = p }) (list_body is.document.uri (Some is.document.version) list)) (sym newest)
+    ∙ ap (λ z. says (record s { published = published }) z) (sym line)

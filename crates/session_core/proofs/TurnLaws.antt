@@ -1,15 +1,13 @@
 -- Turns, one after another.
 use Rattle.std.proofs.Common.{◌≡◌, ◌≢◌, ℕ, ◌<◌, Bool, true, false, cond, List, [], ◌∷◌, ◌++◌, Option, Some, None, length, drop, suc, slice_get, refl, sym, ap, ◌∙◌, subst, arith, append_assoc}
-use Rattle.std.proofs.lemmas.Grind.{flat_map-append}
 use Rattle.std.proofs.lemmas.List.{append-nil}
 use Rattle.hl_base.specs.declared.place.PathId.{PathId}
-use Rattle.rpc_framing.specs.Frames.{frame}
 use Rattle.document_store.specs.Store.{OpenDocument}
 use Rattle.lsp_messages.specs.declared.outgoing.Diagnostic.{Diagnostic}
 use Rattle.session_core.specs.declared.state.LastList.{LastList}
 use Rattle.session_core.specs.Diagnostics.{diagnostics_of}
 use Rattle.session_core.specs.State.{State, document_at, last_list}
-use Rattle.session_core.specs.Step.{Step, quiet, says, and_then, written, IsStep}
+use Rattle.session_core.specs.Step.{Step, quiet, says, and_then, IsStep}
 use Rattle.session_core.specs.Turn.{turn, turn_of, turns, all_turns, turn_at, publish, is_published, without_first}
 
 -- a step whose state has lost the first queued program
@@ -30,17 +28,15 @@ turn_at_first s n None = refl
 turn_at_first s n (Some document) = publish_first s n document (diagnostics_of document.text)
 
 -- a program's Turn, and then it leaves the queue
-pub turn_first : (s now : State) (n : PathId) (before after : List ℕ) → slice_get s.queue 0 ≡ Some n
-    → IsStep (turn_at s n (document_at s.store n)) now before after → IsStep (turn s) (without_first now) before after
+pub turn_first : (s now : State) (n : PathId) (bodies : List (List ℕ)) → slice_get s.queue 0 ≡ Some n
+    → IsStep (turn_at s n (document_at s.store n)) now bodies → IsStep (turn s) (without_first now) bodies
 unfolding turn
-turn_first s now n before after first step =
-    let made : turn s ≡ without_first_of (turn_at s n (document_at s.store n)) = ap (turn_of s) first ∙ turn_at_first s n (document_at s.store n) in
-    subst (λ z. IsStep z (without_first now) before after) (sym made) (ap without_first step.0, step.1)
+turn_first s now n bodies first step = ap (turn_of s) first ∙ turn_at_first s n (document_at s.store n) ∙ ap without_first_of step
 
 -- where none is queued
-pub turn_none : (s : State) (before : List ℕ) → slice_get s.queue 0 ≡ None → IsStep (turn s) s before before
+pub turn_none : (s : State) → slice_get s.queue 0 ≡ None → IsStep (turn s) s []
 unfolding turn
-turn_none s before none = subst (λ z. IsStep z s before before) (sym (ap (turn_of s) none)) (refl, sym (append-nil before))
+turn_none s none = ap (turn_of s) none
 
 -- publishing leaves the queue
 publish_queue : (s : State) (n : PathId) (document : OpenDocument) (list : List Diagnostic) → (publish s n document list).state.queue ≡ s.queue
@@ -74,38 +70,30 @@ turns_next s (n ∷ rest) e some =
     let behind : length (turn s).state.queue ≡ length rest = ap length (turn_queue s (λ f. let g = sym e ∙ f in cc) ∙ ap (drop 1) e) in
     ap (λ k. turns k s) here ∙ ap (λ k. and_then (turn s) (turns k)) (sym behind)
 
--- These bytes were added so far, and with the Turns that are left they are those of all Turns.
-pub record IsTurning (first now : State) (before after : List ℕ) : Type 0 where
-  pub done : List (List ℕ)
-  pub wrote : after ≡ before ++ written done
+-- These bodies were written so far, and with the Turns that are left they are those of all Turns.
+pub record IsTurning (first now : State) (done : List (List ℕ)) : Type 0 where
   pub rest : all_turns first ≡ record (all_turns now) { bodies = done ++ (all_turns now).bodies }
 
-pub turning_begins : (s : State) (output : List ℕ) → IsTurning s s output output
-turning_begins s output = record { done = []; wrote = sym (append-nil output); rest = refl }
-
-pub turning_goes_on : (first now next : State) (before after grown : List ℕ) → IsTurning first now before after → now.queue ≢ []
-    → IsStep (turn now) next after grown → IsTurning first next before grown
-turning_goes_on first now next before after grown turning some step =
-    let bodies = (turn now).bodies in
+pub turning_goes_on : (first now next : State) (done bodies : List (List ℕ)) → IsTurning first now done → now.queue ≢ [] → IsStep (turn now) next bodies → IsTurning first next (done ++ bodies)
+turning_goes_on first now next done bodies turning some step =
     let more : all_turns now ≡ record (all_turns next) { bodies = bodies ++ (all_turns next).bodies } =
-    turns_next now now.queue refl some ∙ ap (λ (z : State). record (all_turns z) { bodies = bodies ++ (all_turns z).bodies }) (sym step.0) in
+    turns_next now now.queue refl some ∙ ap (λ (z : Step). and_then z all_turns) step in
     record {
-      done = turning.done ++ bodies;
-      wrote = step.1 ∙ ap (λ z. z ++ written bodies) turning.wrote ∙ append_assoc before (written turning.done) (written bodies)
-          ∙ ap (λ z. before ++ z) (sym (flat_map-append frame turning.done bodies));
-      rest = turning.rest ∙ ap (λ (z : Step). record z { bodies = turning.done ++ z.bodies }) more
-          ∙ ap (λ z. record (all_turns next) { bodies = z }) (sym (append_assoc turning.done bodies (all_turns next).bodies));
+      rest = turning.rest ∙ ap (λ (z : Step). record z { bodies = done ++ z.bodies }) more
+          ∙ ap (λ z. record (all_turns next) { bodies = z }) (sym (append_assoc done bodies (all_turns next).bodies));
     }
 
-pub turning_ends : (first now : State) (before after : List ℕ) → IsTurning first now before after → now.queue ≡ [] → IsStep (all_turns first) now before after
-turning_ends first now before after turning none =
-    let left : all_turns now ≡ quiet now = ap (λ (z : List PathId). turns (length z) now) none in
-    let all : all_turns first ≡ record { state = now; bodies = turning.done } =
-    turning.rest ∙ ap (λ (z : Step). record z { bodies = turning.done ++ z.bodies }) left ∙ ap (λ z. record { state = now; bodies = z }) (append-nil turning.done) in
-    subst (λ z. IsStep z now before after) (sym all) (refl, turning.wrote)
+pub turning_told : (first now : State) (done others : List (List ℕ)) → others ≡ done → IsTurning first now done → IsTurning first now others
+turning_told first now done others same turning = subst (IsTurning first now) (sym same) turning
 
-pub turning_smaller : (now next : State) (before after : List ℕ) → now.queue ≢ [] → IsStep (turn now) next before after → length next.queue < length now.queue
-turning_smaller now next before after some step =
-    let queue : length next.queue ≡ length (drop 1 now.queue) = ap (λ (s : State). length s.queue) step.0 ∙ ap length (turn_queue now some) in
+pub turning_ends : (first now : State) (done : List (List ℕ)) → IsTurning first now done → now.queue ≡ [] → IsStep (all_turns first) now done
+turning_ends first now done turning none =
+    let left : all_turns now ≡ quiet now = ap (λ (z : List PathId). turns (length z) now) none in
+    turning.rest ∙ ap (λ (z : Step). record z { bodies = done ++ z.bodies }) left ∙ ap (λ z. record { state = now; bodies = z }) (append-nil done)
+
+pub turning_smaller : (now next : State) (bodies : List (List ℕ)) → now.queue ≢ [] → IsStep (turn now) next bodies → length next.queue < length now.queue
+turning_smaller now next bodies some step =
+    let same : (turn now).state ≡ next = ap (λ (z : Step). z.state) step in
+    let queue : length next.queue ≡ length (drop 1 now.queue) = ap (λ (s : State). length s.queue) (sym same) ∙ ap length (turn_queue now some) in
     let fewer = fewer_queued now.queue some in
     omega arith

@@ -19,8 +19,8 @@ state_code =
     code_by
     (Stage × (Store × (List PathId × List LastList)))
     (coded× stage.the_row.coded (coded× store_code (coded× (coded_list path_code) (coded_list last_list.the_row.coded))))
-    (λ s. (s.phase, (s.store, (s.queue, s.published))))
-    (λ t. record { phase = t.0; store = t.1.0; queue = t.1.1.0; published = t.1.1.1 })
+    (λ s. (s.stage, (s.store, (s.queue, s.published))))
+    (λ t. record { stage = t.0; store = t.1.0; queue = t.1.1.0; published = t.1.1.1 })
     (λ _. refl)
 
 abbrev pub held_code : Coded Held

@@ -5,7 +5,7 @@ use Rattle.session_core.specs.declared.fault.SessionFault.TheVariants.{Spent, Ou
 use Rattle.session_core.specs.declared.phase.Phase.{Phase}
 use Rattle.session_core.specs.declared.phase.Phase.TheVariants.{Running, Exit}
 use Rattle.session_core.specs.declared.state.Stage.{Stage}
-use Rattle.session_core.specs.declared.state.Stage.TheVariants.{Ended}
+use Rattle.session_core.specs.declared.state.Stage.TheVariants.{Fresh, Active, Closing, Ended}
 use Rattle.session_core.specs.State.{State, start}
 use Rattle.session_core.specs.Step.{Step, written}
 
@@ -21,10 +21,12 @@ beginning = record { state = start; output = []; spent = false }
 
 -- how a session in this state stands to its client
 abbrev pub phase_of : State → Phase
-phase_of s = phase_at s.phase where
+phase_of s = phase_at s.stage where
   phase_at : Stage → Phase
+  phase_at Fresh = Running
+  phase_at Active = Running
+  phase_at Closing = Running
   phase_at (Ended closed) = Exit closed
-  phase_at _ = Running
 
 -- An event came to this step: the state is the step's, and its bodies were added to the output. Memory ran out: nothing
 -- was added to the output, and the session is spent. It was spent before: nothing is changed.

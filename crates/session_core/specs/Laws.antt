@@ -3,30 +3,27 @@ use Rattle.std.specs.Prelude.{◌≡◌, ℕ, ◌≤◌, Bool, true, false, not,
 use Rattle.serde_json.specs.Data.{Data}
 use Rattle.json_view.specs.Texts.{reading}
 use Rattle.lsp_messages.specs.declared.incoming.LspIn.{LspIn}
-use Rattle.lsp_messages.specs.declared.incoming.LspIn.TheVariants.{Initialize, Shutdown, DidOpen, DidChange, DidClose}
+use Rattle.lsp_messages.specs.declared.incoming.LspIn.TheVariants.{Initialize, Shutdown, Initialized, Exit, DidOpen, DidChange, DidClose, DidSave, DidChangeConfiguration}
 use Rattle.lsp_messages.specs.declared.incoming.Refusal.{Refusal}
 use Rattle.lsp_messages.specs.Messages.{message_of}
 use Rattle.document_store.specs.Changes.{opened, changed, closed}
-use Rattle.session_core.specs.declared.state.Stage.{Stage}
-use Rattle.session_core.specs.declared.state.Stage.TheVariants.{Fresh}
-use Rattle.session_core.specs.Message.{is_active}
+use Rattle.session_core.specs.Refusals.{is_fresh, is_active}
 use Rattle.session_core.specs.State.{State}
 use Rattle.session_core.specs.Step.{Step}
-
-abbrev pub is_fresh : Stage → Bool
-is_fresh Fresh = true
-is_fresh _ = false
 
 -- a message is refused: it is none, its method is not known, a parameter is bad, it may not stand here, or the store
 -- refuses it
 abbrev pub is_refused : State → Result LspIn Refusal → Bool
-is_refused s (Err _) = true
-is_refused s (Ok (Initialize id root)) = not (is_fresh s.phase)
-is_refused s (Ok (Shutdown id)) = not (is_active s.phase)
+is_refused s (Err refusal) = true
+is_refused s (Ok (Initialize id root)) = not (is_fresh s.stage)
+is_refused s (Ok (Shutdown id)) = not (is_active s.stage)
 is_refused s (Ok (DidOpen uri language version text)) = is_err (opened s.store uri language version text)
 is_refused s (Ok (DidChange uri version edits)) = is_err (changed s.store uri version edits)
 is_refused s (Ok (DidClose uri)) = is_err (closed s.store uri)
-is_refused s (Ok _) = false
+is_refused s (Ok Initialized) = false
+is_refused s (Ok Exit) = false
+is_refused s (Ok DidSave) = false
+is_refused s (Ok DidChangeConfiguration) = false
 
 -- the body is refused: it is no JSON, or the message that it is is refused
 abbrev pub is_refused_value : State → Option Data → Bool

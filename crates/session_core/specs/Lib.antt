@@ -1,4 +1,3 @@
-pub mod Bodies
 pub mod Codes
 pub mod Diagnostics
 pub mod Held
@@ -6,6 +5,8 @@ pub mod Inside
 pub mod Laws
 pub mod Message
 pub mod Notes
+pub mod Refusals
+pub mod Replies
 pub mod Same
 pub mod State
 pub mod Step

@@ -1,7 +1,6 @@
 -- One message (JSON-RPC 2.0; LSP 3.17, "Base Protocol", "Lifecycle Messages", "Text Document Synchronization"): the
--- state behind it and what is written for it, for every body and from every state. Refusals stand in the order in which
--- they are tried.
-use Rattle.std.specs.Prelude.{ℕ, Bool, true, false, List, [], ◌∷◌, codes, take, Option, Some, None, Result, Ok, Err, encode_utf8_all, if◌then◌else◌}
+-- state behind it and what is written for it, for every body and from every state.
+use Rattle.std.specs.Prelude.{ℕ, Bool, true, false, not, ◌&&◌, ◌||◌, List, [], ◌∷◌, codes, take, Option, Some, None, Result, Ok, Err, encode_utf8_all, if◌then◌else◌}
 use Rattle.std.specs.Str.{bytes_eq}
 use Rattle.serde_json.specs.Data.{Data}
 use Rattle.json_view.specs.Texts.{reading}
@@ -9,55 +8,21 @@ use Rattle.io_edge.specs.LibraryCall.{LibraryCall}
 use Rattle.hl_base.specs.declared.place.PathId.{PathId}
 use Rattle.lsp_messages.specs.declared.incoming.Id.{Id}
 use Rattle.lsp_messages.specs.declared.incoming.LspIn.{LspIn}
-use Rattle.lsp_messages.specs.declared.incoming.LspIn.TheVariants.{Initialize, Shutdown, Initialized, Exit, DidOpen, DidChange, DidClose}
+use Rattle.lsp_messages.specs.declared.incoming.LspIn.TheVariants.{Initialize, Shutdown, Initialized, Exit, DidOpen, DidChange, DidClose, DidSave, DidChangeConfiguration}
 use Rattle.lsp_messages.specs.declared.incoming.Refusal.{Refusal}
-use Rattle.lsp_messages.specs.declared.incoming.Refusal.TheVariants.{NotRequest, UnknownMethod, BadParams}
+use Rattle.lsp_messages.specs.declared.incoming.Refusal.TheVariants.{NotRequest, UnknownMethod, BadParams, OutOfMemory}
 use Rattle.lsp_messages.specs.Messages.{is_response, message_of}
 use Rattle.document_store.specs.Store.{Store, OpenDocument}
 use Rattle.document_store.specs.Changes.{opened, changed, closed}
 use Rattle.document_store.specs.declared.fault.StoreFault.{StoreFault}
 use Rattle.session_core.specs.declared.state.LastList.{LastList}
 use Rattle.session_core.specs.declared.state.Stage.{Stage}
-use Rattle.session_core.specs.declared.state.Stage.TheVariants.{Fresh, Active, Closing, Ended}
+use Rattle.session_core.specs.declared.state.Stage.TheVariants.{Active, Closing, Ended}
+use Rattle.session_core.specs.Refusals.{Kind, Opens, Asks, Ends, Tells, Neither, kind_of, Refused, reply, refusal, is_active, is_closing, is_ended}
+use Rattle.session_core.specs.Replies.{initialize_reply, shutdown_reply, list_body}
 use Rattle.session_core.specs.State.{State, document_at, number_named, programs, with_programs, without, last_list, published_without, is_empty}
 use Rattle.session_core.specs.Step.{Step, quiet, says, and_then}
-use Rattle.session_core.specs.Bodies.{initialize_reply, shutdown_reply, parse_error, invalid_request, not_initialized, unknown_method, bad_parameter, log_line, bad_params, refusal_of, list_body}
 use Rattle.session_core.specs.Turn.{all_turns}
-
--- ---- phases
-
-abbrev pub is_active : Stage → Bool
-is_active Active = true
-is_active _ = false
-
-abbrev pub is_closing : Stage → Bool
-is_closing Closing = true
-is_closing _ = false
-
-abbrev pub is_ended : Stage → Bool
-is_ended (Ended _) = true
-is_ended _ = false
-
--- ---- what a message asks
-
--- the id of a request; a notification has none
-abbrev pub id_told : Result LspIn Refusal → Option Id
-id_told (Ok (Initialize id root)) = Some id
-id_told (Ok (Shutdown id)) = Some id
-id_told (Ok _) = None
-id_told (Err (UnknownMethod head)) = head.id
-id_told (Err (BadParams head name)) = head.id
-id_told (Err _) = None
-
--- the request is initialize, with right parameters or wrong ones
-abbrev pub is_initialize : Result LspIn Refusal → Bool
-is_initialize (Ok (Initialize id root)) = true
-is_initialize (Err (BadParams head name)) = bytes_eq (encode_utf8_all head.method) (codes "initialize")
-is_initialize _ = false
-
--- a notification that a server may pass over
-abbrev pub is_optional : List ℕ → Bool
-is_optional method = bytes_eq (codes "$/") (take 2 (encode_utf8_all method))
 
 -- ---- what an accepted message does
 
@@ -65,10 +30,10 @@ is_optional method = bytes_eq (codes "$/") (take 2 (encode_utf8_all method))
 abbrev pub queue_all : State → State
 queue_all s = record s { queue = with_programs s.queue (programs s.store) }
 
--- the documents have changed, or the change is refused
-abbrev pub after_change : State → (method : List ℕ) → Result Store StoreFault → Step
-after_change s method (Ok store) = quiet (queue_all (record s { store = store }))
-after_change s method (Err fault) = says s (log_line method (refusal_of fault))
+-- the documents have changed; where they refuse, nothing more is done
+abbrev pub after_change : State → Result Store StoreFault → Step
+after_change s (Ok store) = quiet (queue_all (record s { store = store }))
+after_change s (Err fault) = quiet s
 
 -- a program that leaves has an empty list, of no version, if its last was not empty
 abbrev pub farewell : Option OpenDocument → Option LastList → List (List ℕ)
@@ -88,81 +53,86 @@ after_leaving s n store = record {
   bodies = farewell_at s n;
 }
 
--- a document was closed, or is not
+-- a document was closed; where there is none, nothing more is done
 abbrev pub after_closing : State → Option PathId → Result Store StoreFault → Step
 after_closing s n (Ok store) = after_leaving s n store
-after_closing s n (Err fault) = says s (log_line (codes "textDocument/didClose") (refusal_of fault))
+after_closing s n (Err fault) = quiet s
 
 -- the Turns of all queued programs, and then the reply
 abbrev pub shut : State → Id → Step
-shut s id = and_then (all_turns s) (λ t. says (record t { phase = Closing }) (shutdown_reply id))
+shut s id = and_then (all_turns s) (λ t. says (record t { stage = Closing }) (shutdown_reply id))
 
 -- the session is at its end: after shutdown was answered, or before
 abbrev pub ended : State → State
-ended s = record s { phase = Ended (is_closing s.phase); queue = [] }
+ended s = record s { stage = Ended (is_closing s.stage); queue = [] }
 
--- ---- requests
+-- each message has its line
+abbrev pub effect : State → LspIn → Step
+effect s (Initialize id root) = says (record s { stage = Active }) (initialize_reply id)
+effect s (Shutdown id) = shut s id
+effect s Initialized = quiet (queue_all s)
+effect s Exit = quiet (ended s)
+effect s (DidOpen uri language version text) = after_change s (opened s.store uri language version text)
+effect s (DidChange uri version edits) = after_change s (changed s.store uri version edits)
+effect s (DidClose uri) = after_closing s (number_named s.store uri) (closed s.store uri)
+effect s DidSave = quiet s
+effect s DidChangeConfiguration = quiet s
 
--- a request that may stand here
-abbrev pub granted : State → Id → Result LspIn Refusal → Step
-granted s id (Err (UnknownMethod head)) = says s (unknown_method id)
-granted s id (Err (BadParams head name)) = says s (bad_parameter id name)
-granted s id (Ok (Initialize _ root)) = says (record s { phase = Active }) (initialize_reply id)
-granted s id (Ok (Shutdown _)) = shut s id
-granted s id _ = quiet s
+-- what was read in place of a message does nothing
+abbrev pub effect_of : State → Result LspIn Refusal → Step
+effect_of s (Ok message) = effect s message
+effect_of s (Err refusal) = quiet s
 
--- Where a request may stand: initialize comes first, once, and before it every other is refused; behind it come the
--- others, until shutdown is answered.
-abbrev pub placed : Stage → (begins : Bool) → State → Id → Result LspIn Refusal → Step
-placed Fresh false s id told = says s (not_initialized id)
-placed Fresh true s id told = granted s id told
-placed Active false s id told = granted s id told
-placed phase begins s id told = says s (invalid_request (Some id))
+-- ---- what is passed over
 
--- a request of this id
-abbrev pub requested : State → Id → Result LspIn Refusal → Step
-requested s id told = placed s.phase (is_initialize told) s id told
+-- a notification other than exit
+abbrev pub is_notice : Kind → Bool
+is_notice (Opens id) = false
+is_notice (Asks id) = false
+is_notice Ends = false
+is_notice Tells = true
+is_notice Neither = false
 
--- ---- notifications
+-- a method that a server may pass over
+abbrev pub is_optional : (method : List ℕ) → Bool
+is_optional method = bytes_eq (codes "$/") (take 2 (encode_utf8_all method))
 
--- a notification other than exit, while the session is active
-abbrev pub notified : State → Result LspIn Refusal → Step
-notified s (Err (UnknownMethod head)) =
-    if is_optional head.method then quiet s else says s (log_line (encode_utf8_all head.method) (codes "UnknownMethod"))
-notified s (Err (BadParams head name)) = says s (log_line (encode_utf8_all head.method) (bad_params name))
-notified s (Ok Initialized) = quiet (queue_all s)
-notified s (Ok (DidOpen uri language version text)) = after_change s (codes "textDocument/didOpen") (opened s.store uri language version text)
-notified s (Ok (DidChange uri version edits)) = after_change s (codes "textDocument/didChange") (changed s.store uri version edits)
-notified s (Ok (DidClose uri)) = after_closing s (number_named s.store uri) (closed s.store uri)
-notified s _ = quiet s
+-- a method that is not known, and may be passed over
+abbrev pub is_unknown_optional : Result LspIn Refusal → Bool
+is_unknown_optional (Ok message) = false
+is_unknown_optional (Err NotRequest) = false
+is_unknown_optional (Err (UnknownMethod head)) = is_optional head.method
+is_unknown_optional (Err (BadParams head name)) = false
+is_unknown_optional (Err OutOfMemory) = false
 
--- a notification: exit ends the session in every phase, and others are dropped before it began and after shutdown
-abbrev pub noticed : State → Result LspIn Refusal → Step
-noticed s (Ok Exit) = quiet (ended s)
-noticed s told = if is_active s.phase then notified s told else quiet s
+-- notifications are passed over before the session began and after shutdown, and where they are not known and optional
+abbrev pub is_passed_over : Stage → Result LspIn Refusal → Bool
+is_passed_over stage told = is_notice (kind_of told) && (not (is_active stage) || is_unknown_optional told)
 
 -- ---- messages
 
--- a message by its id, if it has one
-abbrev pub by_id : State → Option Id → Result LspIn Refusal → Step
-by_id s (Some id) told = requested s id told
-by_id s None told = noticed s told
+-- what is refused is answered by that alone, and the state stays
+abbrev pub unless_refused : State → Option Refused → Step → Step
+unless_refused s (Some why) step = says s (reply why)
+unless_refused s None step = step
 
--- a message, if it is one
+-- a message at a stage: its refusal, or its effect
+abbrev pub asked_at : Stage → State → Result LspIn Refusal → Step
+asked_at stage s told = if is_passed_over stage told then quiet s else unless_refused s (refusal stage s.store (Some told)) (effect_of s told)
+
 abbrev pub asked : State → Result LspIn Refusal → Step
-asked s (Err NotRequest) = says s (invalid_request None)
-asked s told = by_id s (id_told told) told
+asked s told = asked_at s.stage s told
 
--- a value: the answers of a client are dropped, since nothing was asked of it
+-- a value: the answers of a client are passed over, since nothing was asked of it
 abbrev pub heard : State → Data → Step
 heard s value = if is_response value then quiet s else asked s (message_of value)
 
--- a body, if it is JSON
+-- a body: its refusal where it is no JSON, or that of the message that it is
 abbrev pub received : State → Option Data → Step
-received s None = says s parse_error
+received s None = unless_refused s (refusal s.stage s.store None) (quiet s)
 received s (Some value) = heard s value
 
 -- One message. The library's answers are those to the calls that it makes, of which there are none yet. Behind the end
 -- nothing changes.
 unfoldable pub message : State → List ℕ → List LibraryCall → Step
-message s body calls = if is_ended s.phase then quiet s else received s (reading body)
+message s body calls = if is_ended s.stage then quiet s else received s (reading body)

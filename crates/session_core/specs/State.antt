@@ -13,14 +13,14 @@ use Rattle.session_core.specs.declared.state.LastList.{LastList}
 -- How far the session has come, the documents, the programs whose list is still to be made, in order, and what was last
 -- published of each program since it was opened. A program is named by the number of its path.
 pub record State : Type 0 where
-  pub phase : Stage
+  pub stage : Stage
   pub store : Store
   pub queue : List PathId
   pub published : List LastList
 
 -- before the first message
 abbrev pub start : State
-start = record { phase = Fresh; store = empty_store; queue = []; published = [] }
+start = record { stage = Fresh; store = empty_store; queue = []; published = [] }
 
 -- ---- programs
 

@@ -25,6 +25,6 @@ and_then step next = record { state = (next step.state).state; bodies = step.bod
 abbrev pub written : List (List ℕ) → List ℕ
 written bodies = flat_map frame bodies
 
--- An event came to this step: the state is the step's, and its bodies were added to the output.
-abbrev pub IsStep : Step → State → (before now : List ℕ) → Type 0
-IsStep step s before now = (s ≡ step.state) × (now ≡ before ++ written step.bodies)
+-- an event came to this state, and these bodies are written for it
+abbrev pub IsStep : Step → State → List (List ℕ) → Type 0
+IsStep step s bodies = step ≡ record { state = s; bodies = bodies }

@@ -10,7 +10,7 @@ use Rattle.session_core.specs.Diagnostics.{diagnostics_of}
 use Rattle.session_core.specs.Same.{is_same_list}
 use Rattle.session_core.specs.State.{State, document_at, last_list, with_list}
 use Rattle.session_core.specs.Step.{Step, quiet, says, and_then}
-use Rattle.session_core.specs.Bodies.{list_body}
+use Rattle.session_core.specs.Replies.{list_body}
 
 -- this version and this list were the last to be published; before the first Turn of a program none was
 abbrev pub is_published : Option LastList → ℤ → List Diagnostic → Bool

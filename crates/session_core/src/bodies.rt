@@ -1,168 +1,81 @@
-//! The bodies that a session writes (JSON-RPC 2.0, "Response object"; LSP 3.17, `ErrorCodes`).
-ghost use Rattle.std.specs.Prelude.{◌≡◌, ◌≢◌, ◌++◌, [], ◌∷◌, None, IfOk, OnOk, OnErr, codes, encode_utf8_all, string_bytes, IsSome, Some};
-ghost use Rattle.session_core.specs.Inside.{list_in};
-ghost use Rattle.std.specs.Str.{chars};
+//! The bodies that an event writes.
+ghost use Rattle.std.specs.Prelude.{◌≡◌, [], ◌∷◌, ◌++◌, IfOk, OnOk, OnErr};
 ghost use Rattle.session_core.specs.Step.{written};
-ghost use Rattle.session_core.specs.Bodies.{initialize_reply, shutdown_reply, refusal, parse_error, invalid_request, not_initialized, unknown_method, bad_parameter, log_line, bad_params, refusal_of, list_body};
 
-use document_store::StoreFault;
-use hl_base::{OutOfMemory, Text};
-use lsp_messages::{Diagnostics, Id, LspOut, initialize_result};
+use hl_base::OutOfMemory;
 use rpc_framing::write_frame;
-use serde_json::Value;
 use std::alloc::Global;
+use std::marker::Model;
 
-/// The reply to `initialize`.
-#[tactic(auto, unfolding(lsp_messages::specs::Written::text_of, lsp_messages::specs::Written::value_of))]
-pub(crate) fn initialize_reply(alloc: Global, id: Id) -> Result<Vec<u8>, OutOfMemory>
-    ensures { IfOk result (λ body. body.items ≡ initialize_reply id) }
-{
-    let result = initialize_result(alloc)?;
-    LspOut::Reply { id, result }.text(alloc)
+/// Bodies in the order in which they are written. Contracts see the list of them.
+#[derive(Drop)]
+pub(crate) struct Bodies {
+    bodies: Vec<Vec<u8>>,
 }
 
-/// The reply to `shutdown`.
-#[tactic(auto, unfolding(lsp_messages::specs::Written::text_of, lsp_messages::specs::Written::value_of))]
-pub(crate) fn shutdown_reply(alloc: Global, id: Id) -> Result<Vec<u8>, OutOfMemory>
-    ensures { IfOk result (λ body. body.items ≡ shutdown_reply id) }
-{
-    let result = Value::Null;
-    LspOut::Reply { id, result }.text(alloc)
+impl Model for Bodies {
+    ghost use Rattle.std.specs.Prelude.{ℕ, List, map};
+
+    ghost Value = { List (List ℕ) };
+
+    ghost view = { λ s. map (λ body. body.items) s.bodies.items };
 }
 
-fn refusal(alloc: Global, id: Option<Id>, code: i32, text: &str) -> Result<Vec<u8>, OutOfMemory>
-    ensures { IfOk result (λ body. body.items ≡ refusal id code text.now) }
-{
-    let message = Text::of(alloc, text)?;
-    LspOut::Fault { id, code, message }.text(alloc)
-}
-
-/// The body is no JSON.
-pub(crate) fn parse_error(alloc: Global) -> Result<Vec<u8>, OutOfMemory>
-    ensures { IfOk result (λ body. body.items ≡ parse_error) }
-{
-    refusal(alloc, None, -32700, "parse error")
-}
-
-/// No message, or one that may not stand here.
-pub(crate) fn invalid_request(alloc: Global, id: Option<Id>) -> Result<Vec<u8>, OutOfMemory>
-    ensures { IfOk result (λ body. body.items ≡ invalid_request id) }
-{
-    refusal(alloc, id, -32600, "invalid request")
-}
-
-/// A request before the session began.
-pub(crate) fn not_initialized(alloc: Global, id: Id) -> Result<Vec<u8>, OutOfMemory>
-    ensures { IfOk result (λ body. body.items ≡ not_initialized id) }
-{
-    refusal(alloc, Some(id), -32002, "not initialized")
-}
-
-/// No such request.
-pub(crate) fn unknown_method(alloc: Global, id: Id) -> Result<Vec<u8>, OutOfMemory>
-    ensures { IfOk result (λ body. body.items ≡ unknown_method id) }
-{
-    refusal(alloc, Some(id), -32601, "unknown method")
-}
-
-/// A parameter of a request is missing or of a wrong kind, in words.
-fn bad_parameter_text(alloc: Global, name: &Text) -> Result<String, OutOfMemory>
-    ensures { IfOk result (λ text. string_bytes text ≡ codes "bad parameter: " ++ encode_utf8_all name.now) }
-{
-    let name = name.as_str();
-    Ok(format!(in alloc; "bad parameter: {name}")?)
-}
-
-/// A parameter is missing or of a wrong kind.
-pub(crate) fn bad_parameter(alloc: Global, id: Id, name: &Text) -> Result<Vec<u8>, OutOfMemory>
-    ensures { IfOk result (λ body. body.items ≡ bad_parameter id name.now) }
-{
-    let text = bad_parameter_text(alloc, name)?;
-    refusal(alloc, Some(id), -32602, &text)
-}
-
-/// A line of the log: the method of a notification, and why it was refused.
-pub(crate) fn log_line(alloc: Global, method: &str, why: &str) -> Result<Vec<u8>, OutOfMemory>
-    ensures { IfOk result (λ body. body.items ≡ log_line method.now why.now) }
-{
-    let line = format!(in alloc; "{method}: {why}")?;
-    let message = Text::of(alloc, &line)?;
-    LspOut::Log { message }.text(alloc)
-}
-
-/// A parameter of a notification is missing or of a wrong kind, as the log has it.
-pub(crate) fn bad_params(alloc: Global, name: &Text) -> Result<String, OutOfMemory>
-    ensures { IfOk result (λ text. string_bytes text ≡ bad_params name.now) }
-{
-    let name = name.as_str();
-    Ok(format!(in alloc; "BadParams({name})")?)
-}
-
-/// Why the documents stay as they are, as the log has it.
-pub(crate) fn refusal_of(alloc: Global, fault: StoreFault) -> Result<String, OutOfMemory>
-    ensures text { IfOk result (λ text. string_bytes text ≡ refusal_of fault) }
-    ensures memory { IfOk result (λ text. fault ≢ StoreFault.OutOfMemory) }
-{
-    match fault {
-        StoreFault::BadUri => Ok(String::from_str(alloc, "BadUri")?),
-        StoreFault::AlreadyOpen => Ok(String::from_str(alloc, "AlreadyOpen")?),
-        StoreFault::TooMany => Ok(String::from_str(alloc, "TooMany")?),
-        StoreFault::TextTooLong => Ok(String::from_str(alloc, "TextTooLong")?),
-        StoreFault::NotOpen => Ok(String::from_str(alloc, "NotOpen")?),
-        StoreFault::BadRange(number) => Ok(format!(in alloc; "BadRange({number})")?),
-        StoreFault::OutOfMemory => Err(OutOfMemory),
+impl Bodies {
+    /// No body.
+    pub(crate) fn none(alloc: Global) -> Bodies
+        ensures { result ≡ [] }
+    {
+        Bodies {
+            bodies: Vec::new(alloc),
+        }
     }
-}
 
-/// The list of a message that publishes one.
-fn list_in(message: LspOut) -> Diagnostics
-    requires { IsSome (list_in message) }
-    ensures { list_in message ≡ Some result }
-{
-    match message {
-        LspOut::Published {
-            uri: _uri,
-            version: _version,
-            diagnostics,
-        } => diagnostics,
-        LspOut::Reply {
-            id: _id,
-            result: _result,
-        } => unreachable!(),
-        LspOut::Fault {
-            id: _id,
-            code: _code,
-            message: _message,
-        } => unreachable!(),
-        LspOut::Log { message: _message } => unreachable!(),
+    /// One body.
+    pub(crate) fn one(alloc: Global, body: Vec<u8>) -> Result<Bodies, OutOfMemory>
+        ensures { IfOk result (λ bodies. bodies ≡ body.items ∷ []) }
+    {
+        let mut bodies = Bodies::none(alloc);
+        bodies.push(body)?;
+        Ok(bodies)
     }
-}
 
-/// A list as it is published of a document, and the list itself.
-pub(crate) fn list_body(
-    alloc: Global,
-    uri: &str,
-    version: Option<i32>,
-    list: Diagnostics,
-) -> Result<(Vec<u8>, Diagnostics), OutOfMemory>
-    ensures body { IfOk result (λ told. told.0.items ≡ list_body (chars uri.now) version list) }
-    ensures list { IfOk result (λ told. told.1 ≡ list) }
-{
-    let uri = Text::of(alloc, uri)?;
-    let message = LspOut::Published {
-        uri,
-        version,
-        diagnostics: list,
-    };
-    let body = message.text(alloc)?;
-    let list = list_in(message);
-    Ok((body, list))
-}
+    /// One body more.
+    pub(crate) fn push(&mut self, body: Vec<u8>) -> Result<(), OutOfMemory>
+        ensures { OnOk result (self.new ≡ self.old ++ body.items ∷ []) }
+    {
+        self.bodies.push(body)?;
+        Ok(())
+    }
 
-/// Adds a body in its frame to the output. An `Err` changes nothing.
-pub(crate) fn write(alloc: Global, body: &[u8], output: &mut Vec<u8>) -> Result<(), OutOfMemory>
-    ensures ok { OnOk result (output.new.items ≡ output.old.items ++ written (body.now ∷ [])) }
-    ensures err { OnErr result (output.new.items ≡ output.old.items) }
-{
-    write_frame(alloc, body, output)
+    /// All of these bodies more.
+    pub(crate) fn append(&mut self, more: Bodies) -> Result<(), OutOfMemory>
+        ensures { OnOk result (self.new ≡ self.old ++ more) }
+    {
+        for body in more.bodies {
+            self.bodies.push(body)?;
+        }
+        Ok(())
+    }
+
+    /// Their bytes, each in a frame.
+    fn framed(&self, alloc: Global) -> Result<Vec<u8>, OutOfMemory>
+        ensures { IfOk result (λ bytes. bytes.items ≡ written self.now) }
+    {
+        let mut bytes = Vec::new(alloc);
+        for body in &self.bodies {
+            write_frame(alloc, body, &mut bytes)?;
+        }
+        Ok(bytes)
+    }
+
+    /// Adds them to the output, each in a frame. An `Err` changes nothing.
+    pub(crate) fn write_to(&self, alloc: Global, output: &mut Vec<u8>) -> Result<(), OutOfMemory>
+        ensures ok { OnOk result (output.new.items ≡ output.old.items ++ written self.now) }
+        ensures err { OnErr result (output.new.items ≡ output.old.items) }
+    {
+        let bytes = self.framed(alloc)?;
+        output.extend_from_slice(&bytes)?;
+        Ok(())
+    }
 }

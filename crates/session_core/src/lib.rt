@@ -7,19 +7,23 @@
 //! definition, `message` or `turn`, and nothing else has changed; where memory runs out nothing is written, and the
 //! session answers no more. It knows nothing of the source and the sink, of when a Turn is made, and of files.
 //!
-//! Within the crate, `standing` has the state and its Turns, `messages` what a message does to it, `programs` the queue
-//! and the documents by number, `notes` and `diagnostics` the list of a text, `same` when two lists are the same, and
-//! `bodies` what is written.
+//! Within the crate, `receiving` goes from a body to what it does: `lifecycle` begins and ends the session, `requests` and
+//! `notifications` take the others, `replies` has the bodies written. `standing` has the state and its Turns, `programs`
+//! the queue and the documents by number, `notes` and `diagnostics` the list of a text, `same` when two lists are the same.
 #![tactic(auto)]
 
 mod bodies;
 mod diagnostics;
 mod fault;
 pub mod laws;
-mod messages;
+mod lifecycle;
 mod notes;
+mod notifications;
 mod phase;
 mod programs;
+mod receiving;
+mod replies;
+mod requests;
 mod same;
 mod session;
 mod standing;

@@ -1,6 +1,7 @@
 //! The session, as `run` drives it.
-ghost use Rattle.std.specs.Prelude.{◌≡◌, ◌≢◌, [], IfOk, MatchBool};
+ghost use Rattle.std.specs.Prelude.{◌≡◌, ◌≢◌, [], IfOk, OnOk, OnErr, MatchBool};
 ghost use Rattle.session_core.specs.Held.{beginning, phase_of, Comes};
+ghost use Rattle.session_core.specs.Inside.{Adds, KeepsOutput};
 ghost use Rattle.session_core.specs.Message.{message};
 ghost use Rattle.session_core.specs.Turn.{turn};
 
@@ -59,6 +60,24 @@ impl Session {
         })
     }
 
+    /// Takes a message, and adds what is written for it to the output last.
+    fn hear(&mut self, alloc: Global, body: &[u8]) -> Result<(), OutOfMemory>
+        ensures ok { OnOk result (Adds (message self.old.state body.now []) self.old self.new) }
+        ensures err { OnErr result (KeepsOutput self.old self.new) }
+    {
+        let bodies = self.standing.message(alloc, body)?;
+        bodies.write_to(alloc, &mut self.output)
+    }
+
+    /// Makes a Turn, and adds what it publishes to the output last.
+    fn publish(&mut self, alloc: Global) -> Result<(), OutOfMemory>
+        ensures ok { OnOk result (Adds (turn self.old.state) self.old self.new) }
+        ensures err { OnErr result (KeepsOutput self.old self.new) }
+    {
+        let bodies = self.standing.turn(alloc)?;
+        bodies.write_to(alloc, &mut self.output)
+    }
+
     /// Takes the body of one message (LSP 3.17, "Base Protocol"). Nothing is asked of the library yet.
     pub fn message<B: Library, L: Ledger>(
         &mut self,
@@ -77,7 +96,7 @@ impl Session {
         if self.spent {
             return Err(SessionFault::Spent);
         }
-        match self.standing.message(alloc, body, &mut self.output) {
+        match self.hear(alloc, body) {
             Ok(()) => Ok(phase_of(&self.standing)),
             Err(_) => {
                 self.spent = true;
@@ -107,7 +126,7 @@ impl Session {
         if self.spent {
             return Err(SessionFault::Spent);
         }
-        match self.standing.turn(alloc, &mut self.output) {
+        match self.publish(alloc) {
             Ok(()) => Ok(()),
             Err(_) => {
                 self.spent = true;

@@ -1,15 +1,16 @@
 //! What a session is between two events, and its Turns.
-ghost use Rattle.std.specs.Prelude.{◌≡◌, ◌≢◌, [], Some, MatchBool, IfOk, OnOk, OnErr};
+ghost use Rattle.std.specs.Prelude.{◌≡◌, ◌≢◌, [], Some, MatchBool, IfOk};
 ghost use Rattle.std.specs.Str.{chars};
-ghost use Rattle.session_core.specs.Bodies.{list_body};
+ghost use Rattle.session_core.specs.Replies.{list_body};
 ghost use Rattle.session_core.specs.Message.{farewell_at};
 ghost use Rattle.session_core.specs.State.{start, document_at, last_list};
-ghost use Rattle.session_core.specs.Step.{IsStep, written};
+ghost use Rattle.session_core.specs.Step.{IsStep};
 ghost use Rattle.session_core.specs.Turn.{turn, turn_at, all_turns, is_published};
 
-use crate::bodies;
+use crate::bodies::Bodies;
 use crate::diagnostics::diagnostics_of;
 use crate::programs::{document_at, keep_list, last_list, text_at};
+use crate::replies;
 use crate::same::is_same_list;
 use crate::state::{LastList, Stage};
 use document_store::{Document, DocumentStore};
@@ -36,7 +37,7 @@ impl Model for Standing {
 
     ghost coded = { state_code };
 
-    ghost view = { λ s. record { phase = s.stage; store = s.store.store; queue = s.queue.items; published = s.published.items } };
+    ghost view = { λ s. record { stage = s.stage; store = s.store.store; queue = s.queue.items; published = s.published.items } };
 
     ghost invariant = { λ s. length s.store.store.documents ≤ 64 };
 }
@@ -67,7 +68,7 @@ fn listed_body(
     ensures body { IfOk result (λ told. told.0.items ≡ list_body (chars document.now.uri.now) (Some document.now.version) list) }
     ensures list { IfOk result (λ told. told.1 ≡ list) }
 {
-    bodies::list_body(alloc, document.uri, Some(document.version), list)
+    replies::list_body(alloc, document.uri, Some(document.version), list)
 }
 
 impl Standing {
@@ -85,7 +86,7 @@ impl Standing {
 
     /// How far the session has come.
     pub(crate) fn stage(&self) -> Stage
-        ensures { result ≡ self.now.phase }
+        ensures { result ≡ self.now.stage }
     {
         self.stage
     }
@@ -97,79 +98,67 @@ impl Standing {
         !self.queue.is_empty()
     }
 
-    /// Makes one Turn, and adds what it publishes to the output. After an `Err` the state is not to be used.
-    pub(crate) fn turn(&mut self, alloc: Global, output: &mut Vec<u8>) -> Result<(), OutOfMemory>
-        ensures ok { OnOk result (IsStep (turn self.old) self.new output.old.items output.new.items) }
-        ensures err { OnErr result (output.new.items ≡ output.old.items) }
+    /// Makes one Turn, and answers what it publishes. After an `Err` the state is not to be used.
+    pub(crate) fn turn(&mut self, alloc: Global) -> Result<Bodies, OutOfMemory>
+        ensures { IfOk result (λ bodies. IsStep (turn self.old) self.new bodies) }
     {
         let Some(path) = self.queue.first().copied() else {
-            return Ok(());
+            return Ok(Bodies::none(alloc));
         };
-        self.publish(alloc, path, output)?;
+        let bodies = self.publish(alloc, path)?;
         let _ = self.queue.remove(0);
-        Ok(())
+        Ok(bodies)
     }
 
     /// Publishes the list of a program, unless it was already.
-    fn publish(
-        &mut self,
-        alloc: Global,
-        path: PathId,
-        output: &mut Vec<u8>,
-    ) -> Result<(), OutOfMemory>
-        ensures ok { OnOk result (IsStep (turn_at self.old path (document_at self.old.store path)) self.new output.old.items output.new.items) }
-        ensures err { OnErr result (output.new.items ≡ output.old.items) }
+    fn publish(&mut self, alloc: Global, path: PathId) -> Result<Bodies, OutOfMemory>
+        ensures { IfOk result (λ bodies. IsStep (turn_at self.old path (document_at self.old.store path)) self.new bodies) }
     {
         let Some(document) = document_at(&self.store, path) else {
-            return Ok(());
+            return Ok(Bodies::none(alloc));
         };
         let list = diagnostics_of(alloc, text_at(&self.store, path))?;
         if is_published(&self.published, path, &document, list.as_slice()) {
-            return Ok(());
+            return Ok(Bodies::none(alloc));
         }
         let (body, list) = listed_body(alloc, &document, list)?;
-        self.published.reserve(1)?;
         keep_list(&mut self.published, path, &document, list)?;
-        bodies::write(alloc, &body, output)
+        Bodies::one(alloc, body)
     }
 
-    /// What is written where the document of a number leaves, each body in a frame.
+    /// What is written where the document of a number leaves.
     pub(crate) fn farewell_at(
         &self,
         alloc: Global,
         path: Option<PathId>,
-    ) -> Result<Vec<u8>, OutOfMemory>
-        ensures { IfOk result (λ bytes. bytes.items ≡ written (farewell_at self.now path)) }
+    ) -> Result<Bodies, OutOfMemory>
+        ensures { IfOk result (λ bodies. bodies ≡ farewell_at self.now path) }
     {
         let Some(path) = path else {
-            return Ok(Vec::new(alloc));
+            return Ok(Bodies::none(alloc));
         };
         let Some(document) = document_at(&self.store, path) else {
-            return Ok(Vec::new(alloc));
+            return Ok(Bodies::none(alloc));
         };
         let Some(last) = last_list(&self.published, path) else {
-            return Ok(Vec::new(alloc));
+            return Ok(Bodies::none(alloc));
         };
         if last.list.as_slice().is_empty() {
-            return Ok(Vec::new(alloc));
+            return Ok(Bodies::none(alloc));
         }
-        let (body, _) = bodies::list_body(alloc, document.uri, None, Diagnostics::new(alloc))?;
-        let mut bytes = Vec::new(alloc);
-        bodies::write(alloc, &body, &mut bytes)?;
-        Ok(bytes)
+        let (body, _) = replies::list_body(alloc, document.uri, None, Diagnostics::new(alloc))?;
+        Bodies::one(alloc, body)
     }
 
     /// Makes Turns until no program is queued.
-    pub(crate) fn all_turns(
-        &mut self,
-        alloc: Global,
-        output: &mut Vec<u8>,
-    ) -> Result<(), OutOfMemory>
-        ensures { OnOk result (IsStep (all_turns self.old) self.new output.old.items output.new.items) }
+    pub(crate) fn all_turns(&mut self, alloc: Global) -> Result<Bodies, OutOfMemory>
+        ensures { IfOk result (λ bodies. IsStep (all_turns self.old) self.new bodies) }
     {
+        let mut bodies = Bodies::none(alloc);
         'queue: while self.has_work() {
-            self.turn(alloc, output)?;
+            let more = self.turn(alloc)?;
+            bodies.append(more)?;
         }
-        Ok(())
+        Ok(bodies)
     }
 }

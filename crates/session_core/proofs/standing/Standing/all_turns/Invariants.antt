@@ -4,7 +4,7 @@ use Rattle.session_core.proofs.standing.Standing.all_turns.Given as goal
 
 -- what is written so far, and the Turns that are left, are all Turns
 abbrev pub invariant-queue : goal.invariant-queue
-invariant-queue l = IsTurning l.initial.self l.self l.initial.output.items l.output.items
+invariant-queue l = IsTurning l.initial.self l.self l.bodies
 
 abbrev pub decreases-queue : goal.decreases-queue
 decreases-queue l = length l.self.queue

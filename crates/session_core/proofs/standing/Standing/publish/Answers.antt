@@ -1,16 +1,16 @@
-use Rattle.std.proofs.Common.{◌≡◌, ◌++◌, ◌∷◌, [], ◌∙◌, ap, sym, subst, true, false}
-use Rattle.session_core.specs.State.{document_at, last_list, with_list}
-use Rattle.session_core.specs.Step.{IsStep, written}
+use Rattle.std.proofs.Common.{◌≡◌, ◌∷◌, [], ◌∙◌, ap, sym, subst, true, false}
+use Rattle.session_core.specs.State.{State, document_at, last_list, with_list}
+use Rattle.session_core.specs.Step.{IsStep}
 use Rattle.session_core.specs.Turn.{turn_at, is_published}
-use Rattle.session_core.proofs.EventLaws.{state_of}
-use Rattle.session_core.proofs.ListLaws.{on_ok}
+use Rattle.session_core.proofs.EventLaws.{with_bodies}
+use Rattle.session_core.proofs.ListLaws.{if_ok}
 use Rattle.session_core.proofs.TextLaws.{listed, publish_again, publish_new}
 use Rattle.session_core.proofs.standing.Standing.publish.Goals as goal
 
-pub returns-then-is_published-clause-ok : goal.returns-then-is_published-clause-ok
-returns-then-is_published-clause-ok c =
+pub returns-then-is_published : goal.returns-then-is_published
+returns-then-is_published c =
     let fields = c.self.inside in
-    let s = state_of fields.stage fields.store.store fields.queue.items fields.published.items in
+    let s : State = record { stage = fields.stage; store = fields.store.store; queue = fields.queue.items; published = fields.published.items } in
     let n = c.args.path in
     let shown = c.in-Some.document in
     let list = c.in_ok-list.list in
@@ -18,13 +18,13 @@ returns-then-is_published-clause-ok c =
     let old : is_published (last_list fields.published.items n) shown.version list ≡ true =
     ap (λ p. is_published (last_list p n) shown.version list) (sym c.deref.ensures.value)
     ∙ ap (λ l. is_published (last_list c.deref.result.now n) shown.version l) (sym c.as_slice.ensures) ∙ sym c.is_published.ensures ∙ c.if-is_published.true in
-    subst (λ z. IsStep (turn_at z n (document_at z.store n)) z c.args.output.now.items c.args.output.now.items) c.self.view_is
-    (publish_again s n shown list c.args.output.now.items is old)
+    with_bodies _ _ _ _ c.none-then-is_published.ensures
+    (subst (λ z. IsStep (turn_at z n (document_at z.store n)) z []) c.self.view_is (publish_again s n shown list is old))
 
-pub returns-clause-ok : goal.returns-clause-ok
-returns-clause-ok c =
+pub returns : goal.returns
+returns c =
     let fields = c.self.inside in
-    let s = state_of fields.stage fields.store.store fields.queue.items fields.published.items in
+    let s : State = record { stage = fields.stage; store = fields.store.store; queue = fields.queue.items; published = fields.published.items } in
     let n = c.args.path in
     let shown = c.in-Some.document in
     let list = c.in_ok-list.list in
@@ -33,10 +33,8 @@ returns-clause-ok c =
     ap (λ p. is_published (last_list p n) shown.version list) (sym c.deref.ensures.value)
     ∙ ap (λ l. is_published (last_list c.deref.result.now n) shown.version l) (sym c.as_slice.ensures) ∙ sym c.is_published.ensures ∙ c.if-is_published.false in
     let kept : c.keep_list.new.published.items ≡ with_list fields.published.items (record { path = n; version = shown.version; list = list }) =
-    c.in_ok-keep_list.ensures ∙ ap (λ l. with_list c.reserve.new.self.items (record { path = n; version = shown.version; list = l })) c.in_ok-body.ensures.list
-    ∙ ap (λ p. with_list p (record { path = n; version = shown.version; list = list })) c.in_ok-reserve.ensures.items in
-    let now = state_of fields.stage fields.store.store fields.queue.items c.keep_list.new.published.items in
-    on_ok c.write.result (λ wrote.
-    subst (λ z. IsStep (turn_at z n (document_at z.store n)) now c.args.output.now.items c.write.new.output.items) c.self.view_is
-    (publish_new s n shown list _ _ c.in_ok-body.body.items _ is fresh c.in_ok-body.ensures.body kept
-    (wrote ∙ ap (λ b. c.args.output.now.items ++ written (b ∷ [])) c.deref-2.ensures.value))) c.write.ensures.ok
+    c.in_ok-keep_list.ensures ∙ ap (λ l. with_list fields.published.items (record { path = n; version = shown.version; list = l })) c.in_ok-body.ensures.list in
+    let now : State = record s { published = c.keep_list.new.published.items } in
+    let new = publish_new s n shown list c.in_ok-body.body.items _ is fresh c.in_ok-body.ensures.body kept in
+    let step = subst (λ z. IsStep (turn_at z n (document_at z.store n)) now (c.in_ok-body.body.items ∷ [])) c.self.view_is new in
+    if_ok c.one.result (λ bodies told. with_bodies _ _ _ bodies told step) c.one.ensures

@@ -1,0 +1,84 @@
+//! How a session begins and ends (LSP 3.17, "Lifecycle Messages").
+ghost use Rattle.std.specs.Prelude.{◌≡◌, ℕ, List, Option, Ok, IfOk};
+ghost use Rattle.lsp_messages.specs.declared.incoming.LspIn.TheVariants as said;
+ghost use Rattle.session_core.specs.Message as messages;
+ghost use Rattle.session_core.specs.Refusals.{is_active};
+ghost use Rattle.session_core.specs.Step.{IsStep};
+
+use crate::bodies::Bodies;
+use crate::replies;
+use crate::requests::{out_of_place, too_early};
+use crate::standing::Standing;
+use crate::state::Stage;
+use hl_base::OutOfMemory;
+use lsp_messages::Id;
+use std::alloc::Global;
+
+impl Standing {
+    /// Whether `initialize` was answered, and `shutdown` was not.
+    pub(crate) fn is_active(&self) -> bool
+        ensures { result ≡ is_active self.now.stage }
+    {
+        match self.stage {
+            Stage::Fresh => false,
+            Stage::Active => true,
+            Stage::Closing => false,
+            Stage::Ended { .. } => false,
+        }
+    }
+
+    /// `initialize`: what the server offers, once.
+    pub(crate) fn initialize(&mut self, alloc: Global, id: Id) -> Result<Bodies, OutOfMemory>
+        ensures { IfOk result (λ bodies. (root : Option (List ℕ)) → IsStep (messages.asked self.old (Ok (said.Initialize id root))) self.new bodies) }
+    {
+        match self.stage {
+            Stage::Fresh => self.begin(alloc, id),
+            Stage::Active => out_of_place(alloc, id),
+            Stage::Closing => out_of_place(alloc, id),
+            Stage::Ended { .. } => out_of_place(alloc, id),
+        }
+    }
+
+    /// The session begins.
+    fn begin(&mut self, alloc: Global, id: Id) -> Result<Bodies, OutOfMemory>
+        ensures { IfOk result (λ bodies. (root : Option (List ℕ)) → IsStep (messages.effect self.old (said.Initialize id root)) self.new bodies) }
+    {
+        let reply = replies::initialize_reply(alloc, id)?;
+        let bodies = Bodies::one(alloc, reply)?;
+        self.stage = Stage::Active;
+        Ok(bodies)
+    }
+
+    /// `shutdown`: the Turns of all queued programs, and then the reply.
+    pub(crate) fn shutdown(&mut self, alloc: Global, id: Id) -> Result<Bodies, OutOfMemory>
+        ensures { IfOk result (λ bodies. IsStep (messages.asked self.old (Ok (said.Shutdown id))) self.new bodies) }
+    {
+        match self.stage {
+            Stage::Fresh => too_early(alloc, id),
+            Stage::Active => self.shut(alloc, id),
+            Stage::Closing => out_of_place(alloc, id),
+            Stage::Ended { .. } => out_of_place(alloc, id),
+        }
+    }
+
+    /// The Turns, and then the reply.
+    fn shut(&mut self, alloc: Global, id: Id) -> Result<Bodies, OutOfMemory>
+        ensures { IfOk result (λ bodies. IsStep (messages.shut self.old id) self.new bodies) }
+    {
+        let mut bodies = self.all_turns(alloc)?;
+        let reply = replies::shutdown_reply(alloc, id)?;
+        bodies.push(reply)?;
+        self.stage = Stage::Closing;
+        Ok(bodies)
+    }
+
+    /// `exit`, at every stage.
+    pub(crate) fn exit(&mut self, alloc: Global) -> Bodies
+        ensures { IsStep (messages.asked self.old (Ok said.Exit)) self.new result }
+    {
+        let closed = self.stage == Stage::Closing;
+        self.stage = Stage::Ended { closed };
+        self.queue.clear();
+        Bodies::none(alloc)
+    }
+}

@@ -1,0 +1,185 @@
+//! Notifications (LSP 3.17, "Text Document Synchronization"). While the session is not active they are passed over.
+ghost use Rattle.std.specs.Prelude.{◌≡◌, ◌≢◌, [], ◌∷◌, None, Ok, true, IfOk, codes, encode_utf8_all};
+ghost use Rattle.hl_base.specs.declared.edit.Edit.{Edit};
+ghost use Rattle.document_store.specs.Changes.{opened, changed, closed};
+ghost use Rattle.lsp_messages.specs.declared.incoming.LspIn.TheVariants as said;
+ghost use Rattle.session_core.specs.Inside.{unknown_asked, wrong_asked, change_asked, closing_asked};
+ghost use Rattle.session_core.specs.Message as messages;
+ghost use Rattle.session_core.specs.Replies.{log_line, refusal_of};
+ghost use Rattle.session_core.specs.State.{number_named};
+ghost use Rattle.session_core.specs.Step.{IsStep};
+
+use crate::bodies::Bodies;
+use crate::programs::{forget, number_named, queue_programs};
+use crate::replies;
+use crate::standing::Standing;
+use document_store::{MOST_DOCUMENTS, StoreFault};
+use hl_base::{Edit, OutOfMemory, Text};
+use std::alloc::Global;
+
+/// Whether a notification of this method may be passed over.
+fn is_optional(method: &Text) -> bool
+    ensures { result ≡ messages.is_optional method.now }
+{
+    method.as_str().as_bytes().starts_with(b"$/")
+}
+
+/// A line of the log: why a notification of this method was refused.
+fn log_method(alloc: Global, method: &Text, why: &str) -> Result<Bodies, OutOfMemory>
+    ensures { IfOk result (λ bodies. bodies ≡ log_line (encode_utf8_all method.now) why.now ∷ []) }
+{
+    let line = replies::log_line(alloc, method.as_str(), why)?;
+    Bodies::one(alloc, line)
+}
+
+/// A line of the log: why the documents stay as they are.
+fn log_refusal(alloc: Global, method: &str, fault: StoreFault) -> Result<Bodies, OutOfMemory>
+    ensures { IfOk result (λ bodies. (fault ≢ StoreFault.OutOfMemory) × (bodies ≡ log_line method.now (refusal_of fault) ∷ [])) }
+{
+    let why = replies::refusal_of(alloc, fault)?;
+    let line = replies::log_line(alloc, method, &why)?;
+    Bodies::one(alloc, line)
+}
+
+impl Standing {
+    pub(crate) fn unknown_notification(
+        &mut self,
+        alloc: Global,
+        method: &Text,
+    ) -> Result<Bodies, OutOfMemory>
+        ensures { IfOk result (λ bodies. IsStep (unknown_asked self.old None method.now) self.new bodies) }
+    {
+        if !self.is_active() {
+            return Ok(Bodies::none(alloc));
+        }
+        if is_optional(method) {
+            return Ok(Bodies::none(alloc));
+        }
+        log_method(alloc, method, "UnknownMethod")
+    }
+
+    pub(crate) fn bad_notification(
+        &mut self,
+        alloc: Global,
+        method: &Text,
+        name: &Text,
+    ) -> Result<Bodies, OutOfMemory>
+        ensures { IfOk result (λ bodies. IsStep (wrong_asked self.old None method.now name.now) self.new bodies) }
+    {
+        if !self.is_active() {
+            return Ok(Bodies::none(alloc));
+        }
+        let why = replies::bad_params(alloc, name)?;
+        log_method(alloc, method, &why)
+    }
+
+    /// `initialized`.
+    pub(crate) fn initialized(&mut self, alloc: Global) -> Result<Bodies, OutOfMemory>
+        ensures { IfOk result (λ bodies. IsStep (messages.asked self.old (Ok said.Initialized)) self.new bodies) }
+    {
+        if !self.is_active() {
+            return Ok(Bodies::none(alloc));
+        }
+        queue_programs(&self.store, &mut self.queue)?;
+        Ok(Bodies::none(alloc))
+    }
+
+    /// `textDocument/didOpen`.
+    pub(crate) fn opened(
+        &mut self,
+        alloc: Global,
+        uri: &Text,
+        language: &Text,
+        version: i32,
+        text: &Text,
+    ) -> Result<Bodies, OutOfMemory>
+        ensures { IfOk result (λ bodies. IsStep (messages.asked self.old (Ok (said.DidOpen uri.now language.now version text.now))) self.new bodies) }
+    {
+        if !self.is_active() {
+            return Ok(Bodies::none(alloc));
+        }
+        self.open(alloc, uri, language, version, text)
+    }
+
+    fn open(
+        &mut self,
+        alloc: Global,
+        uri: &Text,
+        language: &Text,
+        version: i32,
+        text: &Text,
+    ) -> Result<Bodies, OutOfMemory>
+        ensures { IfOk result (λ bodies. IsStep (change_asked self.old (codes "textDocument/didOpen") (opened self.old.store uri.now language.now version text.now)) self.new bodies) }
+    {
+        self.queue.reserve(MOST_DOCUMENTS)?;
+        let (uri, language, text) = (uri.as_str(), language.as_str(), text.as_str());
+        match self.store.open_text(alloc, uri, language, version, text) {
+            Ok(()) => {
+                queue_programs(&self.store, &mut self.queue)?;
+                Ok(Bodies::none(alloc))
+            }
+            Err(fault) => log_refusal(alloc, "textDocument/didOpen", fault),
+        }
+    }
+
+    /// `textDocument/didChange`.
+    pub(crate) fn changed(
+        &mut self,
+        alloc: Global,
+        uri: &Text,
+        version: i32,
+        edits: &[Edit],
+    ) -> Result<Bodies, OutOfMemory>
+        ensures { IfOk result (λ bodies. IsStep (messages.asked self.old (Ok (said.DidChange uri.now version edits.now))) self.new bodies) }
+    {
+        if !self.is_active() {
+            return Ok(Bodies::none(alloc));
+        }
+        self.change(alloc, uri, version, edits)
+    }
+
+    fn change(
+        &mut self,
+        alloc: Global,
+        uri: &Text,
+        version: i32,
+        edits: &[Edit],
+    ) -> Result<Bodies, OutOfMemory>
+        ensures { IfOk result (λ bodies. IsStep (change_asked self.old (codes "textDocument/didChange") (changed self.old.store uri.now version edits.now)) self.new bodies) }
+    {
+        self.queue.reserve(MOST_DOCUMENTS)?;
+        match self.store.change(alloc, uri.as_str(), version, edits) {
+            Ok(()) => {
+                queue_programs(&self.store, &mut self.queue)?;
+                Ok(Bodies::none(alloc))
+            }
+            Err(fault) => log_refusal(alloc, "textDocument/didChange", fault),
+        }
+    }
+
+    /// `textDocument/didClose`.
+    pub(crate) fn closed(&mut self, alloc: Global, uri: &Text) -> Result<Bodies, OutOfMemory>
+        ensures { IfOk result (λ bodies. IsStep (messages.asked self.old (Ok (said.DidClose uri.now))) self.new bodies) }
+    {
+        if !self.is_active() {
+            return Ok(Bodies::none(alloc));
+        }
+        self.close(alloc, uri)
+    }
+
+    fn close(&mut self, alloc: Global, uri: &Text) -> Result<Bodies, OutOfMemory>
+        ensures { IfOk result (λ bodies. IsStep (closing_asked self.old (codes "textDocument/didClose") (number_named self.old.store uri.now) (closed self.old.store uri.now)) self.new bodies) }
+    {
+        let path = number_named(alloc, &self.store, uri.as_str())?;
+        let farewell = self.farewell_at(alloc, path)?;
+        self.queue.reserve(MOST_DOCUMENTS)?;
+        match self.store.close(alloc, uri.as_str()) {
+            Ok(()) => {
+                forget(&mut self.queue, &mut self.published, path);
+                queue_programs(&self.store, &mut self.queue)?;
+                Ok(farewell)
+            }
+            Err(fault) => log_refusal(alloc, "textDocument/didClose", fault),
+        }
+    }
+}

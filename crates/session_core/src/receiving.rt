@@ -1,0 +1,115 @@
+//! One message, from its body to what it does (JSON-RPC 2.0; LSP 3.17, "Base Protocol"). After an `Err` the state is not
+//! to be used.
+ghost use Rattle.std.specs.Prelude.{◌≡◌, ◌≢◌, [], IfOk, Result, Ok, Err};
+ghost use Rattle.serde_json.specs.View.{view};
+ghost use Rattle.lsp_messages.specs.Messages.{IsReading};
+ghost use Rattle.lsp_messages.specs.declared.incoming.LspIn.{LspIn};
+ghost use Rattle.lsp_messages.specs.declared.incoming.Refusal.{Refusal};
+ghost use Rattle.session_core.specs.Message as messages;
+ghost use Rattle.session_core.specs.Refusals.{is_ended};
+ghost use Rattle.session_core.specs.Step.{IsStep};
+
+use crate::bodies::Bodies;
+use crate::replies;
+use crate::standing::Standing;
+use crate::state::Stage;
+use hl_base::OutOfMemory;
+use json_view::{ParseFault, parse};
+use lsp_messages::{LspIn, Refusal, is_response, read_lsp};
+use serde_json::Value;
+use std::alloc::Global;
+
+impl Standing {
+    /// Takes one message, and answers what is written for it.
+    #[tactic(auto, unfolding(crate::specs::Message::message))]
+    pub(crate) fn message(&mut self, alloc: Global, body: &[u8]) -> Result<Bodies, OutOfMemory>
+        ensures { IfOk result (λ bodies. IsStep (messages.message self.old body.now []) self.new bodies) }
+    {
+        if self.is_ended() {
+            return Ok(Bodies::none(alloc));
+        }
+        match parse(alloc, body) {
+            Ok(value) => self.hear(alloc, &value),
+            Err(ParseFault::NotJson) => {
+                let refusal = replies::parse_error(alloc)?;
+                Bodies::one(alloc, refusal)
+            }
+            Err(ParseFault::OutOfMemory) => Err(OutOfMemory),
+        }
+    }
+
+    /// Whether `exit` came.
+    fn is_ended(&self) -> bool
+        ensures { result ≡ is_ended self.now.stage }
+    {
+        match self.stage {
+            Stage::Fresh => false,
+            Stage::Active => false,
+            Stage::Closing => false,
+            Stage::Ended { .. } => true,
+        }
+    }
+
+    /// Takes a value; the answers of a client are passed over, since nothing was asked of it.
+    fn hear(&mut self, alloc: Global, value: &Value) -> Result<Bodies, OutOfMemory>
+        ensures { IfOk result (λ bodies. IsStep (messages.heard self.old (view value.now)) self.new bodies) }
+    {
+        if is_response(value) {
+            return Ok(Bodies::none(alloc));
+        }
+        let told = read_lsp(alloc, value);
+        self.answer(alloc, told)
+    }
+
+    /// Takes a message, or what was read in place of one.
+    fn answer(&mut self, alloc: Global, told: Result<LspIn, Refusal>) -> Result<Bodies, OutOfMemory>
+        ensures { IfOk result (λ bodies. (wanted : Result LspIn Refusal) → IsReading told wanted
+            → IsStep (messages.asked self.old wanted) self.new bodies) }
+    {
+        match told {
+            Ok(message) => self.take(alloc, message),
+            Err(refusal) => self.refuse(alloc, refusal),
+        }
+    }
+
+    /// Takes a message of a known method with right parameters.
+    fn take(&mut self, alloc: Global, message: LspIn) -> Result<Bodies, OutOfMemory>
+        ensures { IfOk result (λ bodies. IsStep (messages.asked self.old (Ok message)) self.new bodies) }
+    {
+        match message {
+            LspIn::Initialize { id, root: _root } => self.initialize(alloc, id),
+            LspIn::Shutdown { id } => self.shutdown(alloc, id),
+            LspIn::Exit => Ok(self.exit(alloc)),
+            LspIn::Initialized => self.initialized(alloc),
+            LspIn::DidOpen {
+                uri,
+                language,
+                version,
+                text,
+            } => self.opened(alloc, &uri, &language, version, &text),
+            LspIn::DidChange {
+                uri,
+                version,
+                edits,
+            } => self.changed(alloc, &uri, version, edits.as_slice()),
+            LspIn::DidClose { uri } => self.closed(alloc, &uri),
+            LspIn::DidSave => Ok(Bodies::none(alloc)),
+            LspIn::DidChangeConfiguration => Ok(Bodies::none(alloc)),
+        }
+    }
+
+    /// Takes what is no message that is understood.
+    fn refuse(&mut self, alloc: Global, refusal: Refusal) -> Result<Bodies, OutOfMemory>
+        ensures { IfOk result (λ bodies. (refusal ≢ Refusal.OutOfMemory) × IsStep (messages.asked self.old (Err refusal)) self.new bodies) }
+    {
+        match refusal {
+            Refusal::NotRequest => {
+                let body = replies::invalid_request(alloc, None)?;
+                Bodies::one(alloc, body)
+            }
+            Refusal::UnknownMethod(head) => self.unknown_method(alloc, head),
+            Refusal::BadParams(head, name) => self.bad_params(alloc, head, name),
+            Refusal::OutOfMemory => Err(OutOfMemory),
+        }
+    }
+}
