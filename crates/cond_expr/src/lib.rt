@@ -27,14 +27,3 @@ pub use laws::{more_answers_change_nothing, restarts_end, values_are_asked};
 pub use lookups::{Found, Lookups};
 pub use numbers::Numbers;
 pub use stop::Stop;
-
-#[cfg(test)]
-mod fake;
-#[cfg(test)]
-mod logic_tests;
-#[cfg(test)]
-mod number_tests;
-#[cfg(test)]
-mod tests;
-#[cfg(test)]
-mod text_tests;

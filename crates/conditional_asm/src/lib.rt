@@ -37,10 +37,3 @@ pub use processing::effect;
 pub use setting::assign;
 pub use substitution::substitute;
 pub use trouble::{left_out, no_operation, open_apostrophe, undefined, unreadable};
-
-#[cfg(test)]
-mod act_tests;
-#[cfg(test)]
-mod effect_tests;
-#[cfg(test)]
-mod setting_tests;

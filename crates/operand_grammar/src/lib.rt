@@ -14,12 +14,3 @@ pub use expression_grammar::{
 };
 pub use logical_grammar::parse_logic;
 pub use operand_list::{Operands, split_operands, split_sublist};
-
-#[cfg(test)]
-mod logic_tests;
-#[cfg(test)]
-mod shown;
-#[cfg(test)]
-mod tests;
-#[cfg(test)]
-mod text_tests;

@@ -1,6 +1,12 @@
-//! Trees and faults in letters, for the tables of the tests.
-use crate::{Attribute, Comparison, Expr, Item, Operator, Reference, Sign, Symbol, SyntaxFault};
+//! Trees and faults in letters.
+use hl_base::OutOfMemory;
+use operand_grammar::{
+    Attribute, Comparison, Expr, Item, Operator, Reference, Sign, Symbol, SyntaxFault,
+};
 use std::alloc::{AllocError, Global};
+
+/// The most bytes of a tree that are written down.
+const LONGEST_TREE: usize = 200;
 
 /// A symbol: what is asked of it, its sigil and name, and where it begins.
 fn symbol(
@@ -132,20 +138,24 @@ fn shown_item(alloc: Global, item: &Item) -> Result<String, AllocError> {
     }
 }
 
-/// The tree, or the place of the fault.
-pub(crate) fn answer(alloc: Global, read: Result<Expr, SyntaxFault>) -> Result<String, AllocError> {
-    match read {
-        Ok(e) => shown(alloc, &e),
-        Err(SyntaxFault::At(count)) => format!(in alloc; "at {count}"),
-        Err(SyntaxFault::OutOfMemory) => format!(in alloc; "out of memory"),
+/// How far some right text begins with what was read.
+pub fn fault(alloc: Global, fault: SyntaxFault) -> Result<String, OutOfMemory> {
+    match fault {
+        SyntaxFault::At(count) => Ok(format!(in alloc; "at {count}")?),
+        SyntaxFault::OutOfMemory => Err(OutOfMemory),
     }
 }
 
-/// A text so many times.
-pub(crate) fn repeated(alloc: Global, text: &str, count: u32) -> Result<String, AllocError> {
-    let mut all = String::new(alloc);
-    for _ in 0..count {
-        all.push_str(text)?;
+/// The tree, if it is short, or the place of the fault.
+pub fn answer(alloc: Global, read: Result<Expr, SyntaxFault>) -> Result<String, OutOfMemory> {
+    match read {
+        Ok(e) => {
+            let tree = shown(alloc, &e)?;
+            if tree.len() > LONGEST_TREE {
+                return Ok(String::from_str(alloc, "a long tree")?);
+            }
+            Ok(tree)
+        }
+        Err(stop) => fault(alloc, stop),
     }
-    Ok(all)
 }
