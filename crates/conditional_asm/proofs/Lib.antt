@@ -5,3 +5,6 @@ pub mod SettingLaws
 pub mod ConditionLaws
 pub mod EffectLaws
 pub mod MessageLaws
+pub mod AskingActs
+pub mod ReadingLaws
+pub mod MoreAnswers

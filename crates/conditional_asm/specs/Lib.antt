@@ -8,3 +8,4 @@ pub mod Messages
 pub mod Tasks
 pub mod Conditions
 pub mod Effects
+pub mod Readings

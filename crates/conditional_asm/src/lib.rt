@@ -18,6 +18,7 @@ mod condition;
 mod copying;
 mod declaring;
 mod generating;
+mod laws;
 mod message;
 mod processing;
 mod setting;
@@ -32,6 +33,7 @@ pub use conditional_fields::{Goto, Piece, Selector, Template, ago, declarations,
 pub use copying::copy;
 pub use declaring::{declare, refused};
 pub use generating::{Fields, defined, end, generate};
+pub use laws::{effects_are_asked, effects_stay, readings_tell_effects};
 pub use message::{Message, say};
 pub use processing::effect;
 pub use setting::assign;
