@@ -18,3 +18,6 @@ mod slot;
 pub use arena::TraceArena;
 pub use laws::{arena_is_whole, live_nodes_are_reached};
 pub use node::{Link, NodeId};
+
+#[cfg(test)]
+mod tests;
