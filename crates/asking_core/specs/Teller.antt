@@ -1,9 +1,7 @@
 -- A tiny machine over the world of counters, for the tests. This project.
-use Rattle.std.specs.Prelude.{◌≡◌, ◌<◌, ℕ, zero, suc, Bool, true, false, refl}
-use Rattle.std.proofs.Common.{lit<}
-use Rattle.kept_values.specs.Trees.{Tree, Leaf, Fork}
-use Rattle.asking_core.specs.Machines.{MachineModel, Told, Move, Ask, Put, Count, Bump, Emit, Leave, Modest, Falls, EmitsOnceACount, is_count, is_last}
-use Rattle.asking_core.specs.Counters.{counters_move, cell_is_writable}
+use Rattle.std.specs.Prelude.{ℕ, zero, suc, Bool, true, false}
+use Rattle.kept_values.specs.Trees.{Tree, Leaf}
+use Rattle.asking_core.specs.Machines.{MachineModel, Move, Ask, Put, Count, Bump, Emit, Leave}
 
 -- it asks the counter, takes a unit of fuel, emits an item, puts the value, counts a call and leaves
 pub data Stage : Type 0 where

@@ -1,9 +1,9 @@
 -- The tiny machine of the tests keeps the laws of machines: what each asks of a move, at each stage. This project.
-use Rattle.std.specs.Prelude.{◌≡◌, ◌<◌, ℕ, Bool, true, false, refl}
+use Rattle.std.specs.Prelude.{◌≡◌, ◌<◌, ℕ, true, false, refl}
 use Rattle.std.proofs.Common.{lit<, subst}
 use Rattle.std.proofs.lemmas.Bool.{true≢false}
-use Rattle.kept_values.specs.Trees.{Tree, Leaf, Fork}
-use Rattle.asking_core.specs.Machines.{MachineModel, Told, Move, Ask, Put, Count, Bump, Emit, Enter, Leave, Modest, Falls, EmitsOnceACount, is_count, is_last}
+use Rattle.kept_values.specs.Trees.{Tree}
+use Rattle.asking_core.specs.Machines.{Move, Ask, Put, Bump, Emit, Enter, Modest, Falls, EmitsOnceACount, is_count, is_last}
 use Rattle.asking_core.specs.Counters.{counters_move, cell_is_writable}
 use Rattle.asking_core.specs.Teller.{Stage, Asking, Counting, Emitting, Putting, Bumping, Leaving, stage_move, stage_next, teller, stage_number, stage_marked, stage_quiet}
 
