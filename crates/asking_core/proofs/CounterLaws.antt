@@ -136,3 +136,12 @@ counters_fit = record {
   rebased_back = back;
   rebased_once = once;
 }
+
+-- a number that went round, and more
+pub round_more : (c n : ℕ) → round ((c + n) % 4294967296) ≡ round (c % 4294967296 + n)
+round_more c n =
+    let e : (c + n) % 4294967296 % 4294967296 ≡ (c % 4294967296 + n) % 4294967296 = omega arith in
+    round_one (round ((c + n) % 4294967296)) (round (c % 4294967296 + n)) e
+
+abbrev pub counted_with : Round → Round → Tree → Counted
+counted_with calls depth cell = record { calls = calls; depth = depth; cell = cell }

@@ -7,3 +7,5 @@ pub mod Laws
 pub mod Actions
 pub mod Example
 pub mod Counters
+pub mod Teller
+pub mod TellerLaws

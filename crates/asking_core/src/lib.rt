@@ -23,3 +23,6 @@ pub use laws::{
 };
 pub use machine::{Action, AskMachine, Given};
 pub use world::World;
+
+#[cfg(test)]
+mod tests;
