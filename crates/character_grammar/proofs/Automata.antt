@@ -7,6 +7,7 @@ use Rattle.expression_grammar.specs.Spelling.{Placed, placed, IsExpression, IsVi
 use Rattle.expression_grammar.proofs.Pieces.{append-nil}
 use Rattle.expression_grammar.proofs.Completions.{placed-append}
 use Rattle.expression_grammar.proofs.Finds.{placed-one, take-all, take-past}
+use Rattle.expression_grammar.proofs.ReadLaws.{Reader}
 use Rattle.expression_grammar.proofs.ReadingLaws.{cut-at, take-next, take-size, take-whole}
 
 -- A state with one character more, unless it weighs more than a limit. The weight never falls, and the tree that a state
@@ -48,7 +49,7 @@ module _ {Written : List ℕ → Tree → Type 0} {State : Type 0} (m : Automato
   run-append (p ∷ ps) qs state next e =
       m.goes state p (ps ++ qs) ∙ append-of ps qs next (m.step state p) (λ s f. run-append ps qs s next f) (sym (m.goes state p ps) ∙ e)
 
-  viable : (limit : ℕ) (text : List ℕ) (state : State) → Reached limit text state → IsViable Written limit text
+  pub viable : (limit : ℕ) (text : List ℕ) (state : State) → Reached limit text state → IsViable Written limit text
   viable limit text state r =
       let c = m.completes text state r.runs in
       let small = r.small in let exact = c.3 in
@@ -70,7 +71,7 @@ module _ {Written : List ℕ → Tree → Type 0} {State : Type 0} (m : Automato
       let k = kept-some limit state next (nat_le (m.weight state) limit) refl e in
       record { steps = ap Some k.0; small = k.1 }
 
-  reached-next : (limit : ℕ) (text : List ℕ) (c : ℕ) (state next : State) → Reached limit text state →
+  pub reached-next : (limit : ℕ) (text : List ℕ) (c : ℕ) (state next : State) → Reached limit text state →
       m.advance limit state (record { at = length text; code = c }) ≡ Some next → Reached limit (text ++ c ∷ []) next
   reached-next limit text c state next r e =
       let p : Placed = record { at = length text; code = c } in
@@ -107,7 +108,7 @@ module _ {Written : List ℕ → Tree → Type 0} {State : Type 0} (m : Automato
       let over = stuck limit (m.step state p) ps all.0 (sym (m.advances limit state p) ∙ a) runs in
       absurd (omega arith)
 
-  stops : (limit : ℕ) (text : List ℕ) (c : ℕ) (rest : List ℕ) (state : State) → Reached limit text state →
+  pub stops : (limit : ℕ) (text : List ℕ) (c : ℕ) (rest : List ℕ) (state : State) → Reached limit text state →
       m.advance limit state (record { at = length text; code = c }) ≡ None → IsAt Written limit (text ++ c ∷ rest) (length text)
   stops limit text c rest state r a =
       record {
@@ -128,7 +129,7 @@ module _ {Written : List ℕ → Tree → Type 0} {State : Type 0} (m : Automato
       ap m.accept same ∙ all.2
 
   -- at the end no tree is there
-  ends-open : (limit : ℕ) (text : List ℕ) (state : State) → Reached limit text state → m.accept state ≡ None → IsAt Written limit text (length text)
+  pub ends-open : (limit : ℕ) (text : List ℕ) (state : State) → Reached limit text state → m.accept state ≡ None → IsAt Written limit text (length text)
   ends-open limit text state r n =
       record {
         within = omega arith;
@@ -138,7 +139,7 @@ module _ {Written : List ℕ → Tree → Type 0} {State : Type 0} (m : Automato
       }
 
   -- at the end a tree is there
-  ends-whole : (limit : ℕ) (text : List ℕ) (state : State) (tree : Tree) → Reached limit text state →
+  pub ends-whole : (limit : ℕ) (text : List ℕ) (state : State) (tree : Tree) → Reached limit text state →
       m.accept state ≡ Some tree → IsExpression Written limit text tree
   ends-whole limit text state tree r a =
       let exact = m.exact state tree a in let small = r.small in
@@ -152,6 +153,17 @@ module _ {Written : List ℕ → Tree → Type 0} {State : Type 0} (m : Automato
       let same : a.0 ≡ b.0 = let x = a.1 in let y = b.1 in cc in
       let e : m.accept a.0 ≡ Some other = ap m.accept same ∙ b.2 in
       let f = a.2 in cc
+
+  -- it comes from text to text
+  pub reader : Reader Written (m.advance most_parts) m.accept (Reached most_parts)
+  reader = record {
+    goes = λ text c state next r e. reached-next most_parts text c state next r e;
+    stops = λ text c rest state r e. stops most_parts text c rest state r e;
+    whole = λ text state tree r e. ends-whole most_parts text state tree r e;
+    partly = λ text state r e. ends-open most_parts text state r e;
+    viable = λ text state r. viable most_parts text state r;
+    one = λ text tree other s t. one-tree text tree other s t;
+  }
 
   -- In the words of a reader.
 

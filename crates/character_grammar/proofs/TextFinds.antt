@@ -1,6 +1,6 @@
 -- What the reading of a character expression finds: its tree, or where no character expression goes on.
 use Rattle.std.proofs.Common.{◌≡◌, ℕ, ◌+◌, ◌<◌, List, [], ◌∷◌, ◌++◌, length, take, get_or, refl, sym, subst, arith}
-use Rattle.std.specs.Prelude.{nat_le, Option, Some, None, option_and_then, if◌then◌else◌}
+use Rattle.std.specs.Prelude.{MatchResult, Result, Ok, Err, nat_le, Option, Some, None, option_and_then, if◌then◌else◌}
 use Rattle.expression_grammar.specs.declared.character.Grammar.TheVariants.{Arithmetic}
 use Rattle.expression_grammar.specs.declared.character.Kind.TheVariants as kind
 use Rattle.expression_grammar.specs.declared.fault.SyntaxFault.{SyntaxFault}
@@ -9,6 +9,11 @@ use Rattle.expression_grammar.specs.Trees.{Tree, Quoted, NoTrees, size}
 use Rattle.expression_grammar.specs.Parts.{symbol_at}
 use Rattle.expression_grammar.specs.Spelling.{Placed, placed, One, Reads, IsExpression, IsAt, most_parts}
 use Rattle.expression_grammar.specs.Answers.{IsFault}
+use Rattle.expression_grammar.specs.declared.tree.Expr.{Expr}
+use Rattle.expression_grammar.specs.Readings.{Tells}
+use Rattle.expression_grammar.specs.Views.{tree_of}
+use Rattle.expression_grammar.proofs.ReadLaws.{Finds, finds, read-tree, read-fault}
+use Rattle.character_grammar.specs.TextReadings.{read_text}
 use Rattle.character_grammar.specs.Texts.{spell_text, IsText, SpellsText}
 use Rattle.character_grammar.specs.TextAnswers.{TextStops}
 use Rattle.character_grammar.specs.TextReading.{AsType, TextState, WantPart, Naming, Closed, Word, Done, built, with_plain, typed, typed_name, text_step, text_run, text_accept, text_weight, text_advance, TextReaches}
@@ -100,6 +105,16 @@ reached limit text state r = record { runs = r.runs; small = r.small }
 -- a text has one tree
 pub one_text-tree : (text : List ℕ) (tree other : Tree) → SpellsText text tree → SpellsText text other → tree ≡ other
 one_text-tree text tree other s t = automata.one-tree text_automaton text tree other s t
+
+-- what is read of a text
+pub read_text-finds : (text : List ℕ) → Finds SpellsText text (read_text text)
+read_text-finds text = finds (automata.reader text_automaton) [] text (WantPart None) (record { runs = refl; small = omega arith })
+
+-- the same answer, by the function
+pub tells : (text : List ℕ) (r : Result Expr SyntaxFault) → MatchResult r (λ e. IsExpression SpellsText most_parts text (tree_of e)) (IsFault SpellsText text) → Tells (read_text text) r
+tells text (Ok e) m = (read-tree SpellsText text (read_text text) (read_text-finds text) one_text-tree (tree_of e)).1 m
+tells text (Err (At count)) m = (read-fault SpellsText text (read_text text) (read_text-finds text) count).1 m
+tells text (Err OutOfMemory) m = tt
 
 -- In the words of the reader.
 

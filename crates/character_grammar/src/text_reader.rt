@@ -700,3 +700,17 @@ pub fn text_finish(alloc: Global, point: TextPoint) -> Result<Option<Expr>, OutO
         _ => Ok(None),
     }
 }
+
+/// Whether a text that ends here is a character expression.
+#[tactic(auto, unfolding(crate::specs::TextReading::text_accept))]
+pub fn text_is_whole(point: &TextPoint) -> bool
+    ensures { result ≡ is_some (texts.text_accept (text_state point.now)) }
+{
+    match point {
+        TextPoint::Naming(Holder::AsType(_), _, _)
+        | TextPoint::Closed(_, _, _)
+        | TextPoint::Word(_, _, _)
+        | TextPoint::Done(_) => true,
+        _ => false,
+    }
+}
