@@ -5,10 +5,6 @@ use crate::{OwnFrames, Settings};
 use hl_base::{Declarations, Line, Notes, Origin, OutOfMemory};
 use std::alloc::Global;
 
-/// The number of a node of a trace.
-#[derive(Clone, Copy, Debug, PartialEq, Eq)]
-pub struct NodeId(pub u32);
-
 /// One point of a trace. Its whole stack is the outer frames of its node with `frames` within them.
 #[derive(Drop)]
 pub struct TraceItem {

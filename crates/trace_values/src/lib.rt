@@ -19,7 +19,7 @@ mod variable;
 
 pub use frames::OwnFrames;
 pub use generated::{Generated, GeneratedList};
-pub use item::{NodeId, TraceItem, copy_notes};
+pub use item::{TraceItem, copy_notes};
 pub use occurrence::{Entity, Occurrence, Occurrences, Role, Scope};
 pub use section::{Reloc, Section, SectionId, Sections};
 pub use symbol_row::{SymbolRow, SymbolRows};
