@@ -1,6 +1,6 @@
 -- Effects of statements go along trees of questions, over each frame.
-use Rattle.std.proofs.Common.{◌≡◌, refl, ℕ, Bool, true, false, List, [], ◌∷◌, ◌++◌, Option, Some, None}
-use Rattle.std.specs.Prelude.{ℤ, pos, chars, encode_utf8_all, if◌then◌else◌}
+use Rattle.std.proofs.Common.{◌≡◌, refl, ℕ, true, false, List, [], ◌∷◌, ◌++◌, Option, Some, None}
+use Rattle.std.specs.Prelude.{pos, chars, encode_utf8_all, if◌then◌else◌}
 use Rattle.hl_base.specs.Symbols.{symbol_of}
 use Rattle.hl_base.specs.declared.note.Severity.{Severity}
 use Rattle.hl_base.specs.declared.note.Severity.TheVariants.{Information}
@@ -9,15 +9,13 @@ use Rattle.hl_base.specs.declared.set.Key.TheVariants.{Op}
 use Rattle.hl_base.specs.declared.set.Line.{Line}
 use Rattle.hl_base.specs.declared.set.SetKind.{SetKind}
 use Rattle.hl_base.specs.declared.set.SetKind.TheVariants.{A, B, C}
-use Rattle.hl_base.specs.declared.set.SetValue.{SetValue}
 use Rattle.hl_base.specs.declared.set.SetValue.TheVariants as set
 use Rattle.hlasm_statements.specs.Fields.{ends_quoted}
 use Rattle.instruction_table.specs.Operations.{operation_of}
 use Rattle.expression_grammar.specs.declared.tree.Expr.{Expr}
 use Rattle.expression_grammar.specs.Trees.{Tree, Number, Here, Ordinary, Variable, Signed, Pair, Paren, Not, Compared, Quoted, Duplicated, Substring, SubstringToEnd, Joined}
 use Rattle.expression_grammar.specs.Views.{tree_of}
-use Rattle.cond_expr.specs.Told.{Told}
-use Rattle.cond_expr.specs.Outcome.{Outcome, Gives, gives, and_then}
+use Rattle.cond_expr.specs.Outcome.{Gives, gives, and_then}
 use Rattle.cond_expr.specs.Characters.{not_below_0}
 use Rattle.cond_expr.specs.Troubles.{note}
 use Rattle.cond_expr.specs.Values as values
@@ -31,7 +29,6 @@ use Rattle.conditional_fields.specs.declared.branch.Goto.TheVariants.{To, Among}
 use Rattle.conditional_fields.specs.declared.branch.Selector.{Selector}
 use Rattle.conditional_fields.specs.declared.template.Piece.{Piece}
 use Rattle.conditional_fields.specs.declared.template.Piece.TheVariants as piece
-use Rattle.conditional_asm.specs.declared.act.Act.{Act}
 use Rattle.conditional_asm.specs.declared.act.Act.TheVariants as act
 use Rattle.conditional_asm.specs.declared.generating.Fields.{Fields}
 use Rattle.conditional_asm.specs.declared.task.Task.{Task}

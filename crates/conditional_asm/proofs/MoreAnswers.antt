@@ -1,5 +1,5 @@
 -- An effect of a statement stays one under more answers.
-use Rattle.std.proofs.Common.{◌≡◌, ◌∙◌, ℕ, Bool, true, false, List, [], ◌∷◌, ◌++◌, Option, Some, None, Result, Ok, Err, refl, sym, ap, subst}
+use Rattle.std.proofs.Common.{◌≡◌, ℕ, Bool, true, false, List, [], ◌++◌, Option, Some, None, Result, Ok, Err, refl, sym, subst}
 use Rattle.std.specs.Prelude.{encode_utf8_all}
 use Rattle.hl_base.specs.Symbols.{symbol_of}
 use Rattle.hl_base.specs.declared.note.Note.{Note}
@@ -13,7 +13,6 @@ use Rattle.expression_grammar.specs.declared.fault.SyntaxFault.TheVariants as fa
 use Rattle.expression_grammar.specs.Views.{tree_of}
 use Rattle.cond_expr.specs.declared.stop.Stop.{Stop}
 use Rattle.cond_expr.specs.declared.stop.Stop.TheVariants as stop
-use Rattle.cond_expr.specs.Told.{Told}
 use Rattle.cond_expr.specs.Outcome.{Outcome, Gives, Asks, gives, and_then, Tells}
 use Rattle.cond_expr.specs.Asking.{Answers, IsAsking, HasAll}
 use Rattle.cond_expr.specs.Frames.{Frame, told_by}

@@ -1,5 +1,5 @@
 -- What a statement does that is read is an effect of it.
-use Rattle.std.proofs.Common.{◌≡◌, ◌∙◌, ℕ, Bool, true, false, List, [], ◌∷◌, ◌++◌, Option, Some, None, Result, Ok, Err, refl, sym, ap, subst, append_assoc}
+use Rattle.std.proofs.Common.{◌∙◌, ℕ, Bool, true, false, List, [], ◌∷◌, ◌++◌, Option, Some, None, Result, Ok, Err, refl, sym, subst, append_assoc}
 use Rattle.std.specs.Prelude.{encode_utf8_all, if◌then◌else◌}
 use Rattle.hl_base.specs.Symbols.{symbol_of}
 use Rattle.hl_base.specs.declared.note.Note.{Note}
@@ -13,8 +13,6 @@ use Rattle.cond_expr.specs.declared.stop.Stop.{Stop}
 use Rattle.cond_expr.specs.declared.stop.Stop.TheVariants as stop
 use Rattle.cond_expr.specs.Told.{Told}
 use Rattle.cond_expr.specs.Outcome.{Outcome, Gives, Asks, noting, and_then, Tells}
-use Rattle.conditional_fields.specs.Declarations.{declarations}
-use Rattle.conditional_fields.specs.Sequences.{named_or, symbol_reach}
 use Rattle.conditional_asm.specs.declared.act.Act.{Act}
 use Rattle.conditional_asm.specs.declared.act.Act.TheVariants as act
 use Rattle.conditional_asm.specs.declared.task.Task.{Task}
@@ -22,7 +20,7 @@ use Rattle.conditional_asm.specs.declared.task.Task.TheVariants as task
 use Rattle.conditional_asm.specs.Acts.{declares as declared, copies as copied}
 use Rattle.conditional_asm.specs.Effects.{Then, Handles, PerformsWith, OperatesWith, MeansWith, Means, Follows, Does, DoesWith, IsEffect, checked, unless_defined, nameless}
 use Rattle.conditional_asm.specs.Generating.{defined}
-use Rattle.conditional_asm.specs.Readings.{Body, Reading, unread, limits, goes, goes_if, declares, assigns, copies, says, generates, ends, ends_unread, defines, leaves, nothing, leaves_out, calls, idle, unread_operation, operation, doing, performing, operating, meaning, effect_of, shown, IsBody, IsReadingOf, IsReadingWith, IsReading}
+use Rattle.conditional_asm.specs.Readings.{Body, Reading, unread, limits, goes, goes_if, declares, assigns, copies, says, generates, ends, ends_unread, defines, leaves, nothing, leaves_out, calls, idle, unread_operation, operation, doing, performing, meaning, effect_of, shown, IsBody, IsReadingOf, IsReadingWith, IsReading}
 use Rattle.conditional_asm.specs.Substitution.{substituted}
 use Rattle.conditional_asm.specs.Tasks as tasks
 

@@ -1,7 +1,7 @@
 -- What a statement does once it is read (HLASM Language Reference SC26-4940, "Conditional assembly instructions", "Model
 -- statements"): a function of what it is told. Of a statement that is read its operation is known as pieces, and for each
 -- task that the operation may turn out to have, what the fields say.
-use Rattle.std.specs.Prelude.{◌≡◌, ℕ, Bool, true, false, List, [], ◌∷◌, Option, Some, None, Ok, Err, chars, encode_utf8_all, if◌then◌else◌}
+use Rattle.std.specs.Prelude.{◌≡◌, ℕ, List, [], ◌∷◌, Option, Some, None, Ok, Err, chars, encode_utf8_all, if◌then◌else◌}
 use Rattle.hl_base.specs.Symbols.{symbol_of}
 use Rattle.hl_base.specs.declared.set.Declaration.{Declaration}
 use Rattle.hl_base.specs.declared.set.SetKind.{SetKind}
