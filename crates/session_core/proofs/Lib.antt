@@ -1,5 +1,6 @@
 pub mod DiagnosticLaws
 pub mod EventLaws
+pub mod FreshLaws
 pub mod ListLaws
 pub mod MessageLaws
 pub mod ProgramLaws

@@ -1,15 +1,13 @@
 -- What a message that is refused leaves, and what stands behind the end.
-use Rattle.std.proofs.Common.{◌≡◌, ℕ, Bool, true, false, not, cond, List, [], ◌∷◌, Option, Some, None, Result, Ok, Err, refl, arith, codes, IsSome}
+use Rattle.std.proofs.Common.{◌≡◌, ℕ, Bool, true, false, not, cond, List, [], ◌∷◌, Option, Some, None, Result, Ok, Err, refl, arith, codes}
 use Rattle.std.specs.Prelude.{is_err}
 use Rattle.serde_json.specs.Data.{Data}
 use Rattle.json_view.specs.Texts.{reading}
 use Rattle.io_edge.specs.LibraryCall.{LibraryCall}
-use Rattle.lsp_messages.specs.declared.incoming.Head.{Head}
 use Rattle.lsp_messages.specs.declared.incoming.Id.{Id}
 use Rattle.lsp_messages.specs.declared.incoming.LspIn.{LspIn}
 use Rattle.lsp_messages.specs.declared.incoming.LspIn.TheVariants.{Initialize, Shutdown, Initialized, Exit, DidOpen, DidChange, DidClose, DidSave, DidChangeConfiguration}
 use Rattle.lsp_messages.specs.declared.incoming.Refusal.{Refusal}
-use Rattle.lsp_messages.specs.declared.incoming.Refusal.TheVariants.{NotRequest, UnknownMethod, BadParams, OutOfMemory}
 use Rattle.lsp_messages.specs.Messages.{is_response, message_of}
 use Rattle.document_store.specs.Store.{Store}
 use Rattle.document_store.specs.Changes.{opened, changed, closed}
@@ -20,9 +18,9 @@ use Rattle.session_core.specs.declared.state.Stage.TheVariants.{Fresh, Active, C
 use Rattle.session_core.specs.Held.{phase_of}
 use Rattle.session_core.specs.Laws.{is_refused, is_refused_value, is_refused_body, Keeps}
 use Rattle.session_core.specs.Message.{message, received, asked, effect_of, is_passed_over, unless_refused}
-use Rattle.session_core.specs.Refusals.{Refused, OutOfPlace, TooEarly, where_so, first_of, refusal, log_fault, is_fresh, is_active, is_closed, is_ended, refused_by_store}
-use Rattle.session_core.specs.State.{State, number_named}
-use Rattle.session_core.specs.Step.{Step, quiet, says}
+use Rattle.session_core.specs.Refusals.{Refused, OutOfPlace, TooEarly, where_so, first_of, refusal, log_fault, is_fresh, is_active, is_closed, is_ended}
+use Rattle.session_core.specs.State.{State}
+use Rattle.session_core.specs.Step.{Step, quiet}
 
 keeps_quiet : (s : State) → Keeps (quiet s) s
 keeps_quiet s = (refl, omega arith)

@@ -1,6 +1,6 @@
 -- The list of diagnostics that an editor shows of a text (LSP 3.17, "PublishDiagnostics Notification"); its codes and
 -- places are this project's.
-use Rattle.std.specs.Prelude.{◌/◌, ◌%◌, ◌==◌, ℕ, List, [], ◌∷◌, ◌++◌, codes, map, take, slice_index_or, if◌then◌else◌}
+use Rattle.std.specs.Prelude.{◌/◌, ◌%◌, ℕ, List, [], ◌∷◌, ◌++◌, codes, map, take, slice_index_or, if◌then◌else◌}
 use Rattle.std.specs.Fmt.{decimal}
 use Rattle.std.specs.Str.{chars}
 use Rattle.hl_base.specs.Texts.{lines, units}

@@ -6,10 +6,14 @@ use Rattle.lsp_messages.specs.declared.incoming.LspIn.{LspIn}
 use Rattle.lsp_messages.specs.declared.incoming.LspIn.TheVariants.{Initialize, Shutdown, Initialized, Exit, DidOpen, DidChange, DidClose, DidSave, DidChangeConfiguration}
 use Rattle.lsp_messages.specs.declared.incoming.Refusal.{Refusal}
 use Rattle.lsp_messages.specs.Messages.{message_of}
+use Rattle.hl_base.specs.declared.place.PathId.{PathId}
+use Rattle.document_store.specs.Store.{OpenDocument}
 use Rattle.document_store.specs.Changes.{opened, changed, closed}
 use Rattle.session_core.specs.Refusals.{is_fresh, is_active}
-use Rattle.session_core.specs.State.{State}
+use Rattle.session_core.specs.Diagnostics.{diagnostics_of}
+use Rattle.session_core.specs.State.{State, document_at, is_program, is_queued, last_list}
 use Rattle.session_core.specs.Step.{Step}
+use Rattle.session_core.specs.Turn.{is_published}
 
 -- a message is refused: it is none, its method is not known, a parameter is bad, it may not stand here, or the store
 -- refuses it
@@ -36,3 +40,18 @@ is_refused_body s body = is_refused_value s (reading body)
 -- nothing has changed but that one body may be written
 abbrev pub Keeps : Step → State → Type 0
 Keeps step s = (step.state ≡ s) × (length step.bodies ≤ 1)
+
+-- ---- lists
+
+-- what was last published of the document of a number is its list, of its version and its text as they are
+abbrev pub is_listed : State → PathId → OpenDocument → Bool
+is_listed s n document = is_published (last_list s.published n) document.version (diagnostics_of document.text)
+
+-- Lists are fresh: every open program is listed, unless it is queued.
+abbrev pub AreFresh : State → Type 0
+AreFresh s = (n : PathId) (document : OpenDocument) → document_at s.store n ≡ Some document → is_program document ≡ true
+    → is_queued s.queue n ≡ false → is_listed s n document ≡ true
+
+-- every open program is queued
+abbrev pub AllQueued : State → Type 0
+AllQueued s = (n : PathId) (document : OpenDocument) → document_at s.store n ≡ Some document → is_program document ≡ true → is_queued s.queue n ≡ true

@@ -1,0 +1,383 @@
+-- Lists are fresh, and where an event changes the documents every program is queued.
+use Rattle.std.proofs.Common.{◌≡◌, ℕ, ℤ, Bool, true, false, not, cond, ◌&&◌, ◌||◌, ◌==◌, List, [], ◌∷◌, ◌++◌, map, filter, find, length, drop, Option, Some, None, Result, Ok, Err, zero, suc, ◌⊎◌, inl, inr, slice_get, refl, sym, ap, ◌∙◌, subst}
+use Rattle.std.specs.List.{list_any}
+use Rattle.std.specs.Ordering.{int_eq}
+use Rattle.std.specs.Cmp.Lexicographic.{pointwise}
+use Rattle.std.specs.Str.{bytes_eq}
+use Rattle.std.proofs.lemmas.Bool.Decides.{Decides-eqb, Decides-int_eq}
+use Rattle.std.proofs.lemmas.Slice.Eq.{bytes_eq-Decides}
+use Rattle.serde_json.specs.Data.{Data}
+use Rattle.json_view.specs.Texts.{reading}
+use Rattle.io_edge.specs.LibraryCall.{LibraryCall}
+use Rattle.hl_base.specs.declared.edit.Position.{Position}
+use Rattle.hl_base.specs.declared.place.PathId.{PathId}
+use Rattle.lsp_messages.specs.declared.incoming.LspIn.{LspIn}
+use Rattle.lsp_messages.specs.declared.incoming.LspIn.TheVariants.{Initialize, Shutdown, Initialized, Exit, DidOpen, DidChange, DidClose, DidSave, DidChangeConfiguration}
+use Rattle.lsp_messages.specs.declared.incoming.Refusal.{Refusal}
+use Rattle.lsp_messages.specs.declared.outgoing.Diagnostic.{Diagnostic}
+use Rattle.lsp_messages.specs.declared.outgoing.Relation.{Relation}
+use Rattle.lsp_messages.specs.declared.outgoing.Span.{Span}
+use Rattle.lsp_messages.specs.Messages.{is_response, message_of}
+use Rattle.document_store.specs.Store.{Store, OpenDocument}
+use Rattle.document_store.specs.Changes.{opened, changed, closed}
+use Rattle.document_store.specs.declared.fault.StoreFault.{StoreFault}
+use Rattle.session_core.specs.declared.state.LastList.{LastList}
+use Rattle.session_core.specs.Diagnostics.{diagnostics_of}
+use Rattle.session_core.specs.Laws.{is_listed, AreFresh, AllQueued}
+use Rattle.session_core.specs.Message.{message, received, asked, effect, effect_of, after_change, after_closing, queue_all, is_passed_over, unless_refused}
+use Rattle.session_core.specs.Refusals.{Refused, refusal, is_ended}
+use Rattle.session_core.specs.Replies.{list_body}
+use Rattle.session_core.specs.Same.{is_same_position, is_same_span, is_same_relation, is_same_diagnostic, is_same_list}
+use Rattle.session_core.specs.State.{State, start, number_at, number_named, is_number, is_program, is_queued, document_at, programs, with_programs, last_list, without_list, with_list, without, published_without}
+use Rattle.session_core.specs.Step.{Step, quiet, says}
+use Rattle.session_core.specs.Turn.{is_published, publish, turn, turn_of, turn_at, turns, without_first}
+
+-- ---- tests
+
+or_right : (a b : Bool) → b ≡ true → (a || b) ≡ true
+or_right true b is = refl
+or_right false b is = is
+
+or_split : (a b : Bool) → (a || b) ≡ false → (a ≡ false) × (b ≡ false)
+or_split true b is = cc
+or_split false b is = (refl, is)
+
+and_true : (a b : Bool) → a ≡ true → b ≡ true → (a && b) ≡ true
+and_true true b one two = two
+and_true false b one two = cc
+
+not_both : (b : Bool) → b ≡ true → b ≡ false → ⊥
+not_both true is other = cc
+not_both false is other = cc
+
+any_front : {X : Type 0} (p : X → Bool) (xs ys : List X) → list_any p xs ≡ true → list_any p (xs ++ ys) ≡ true
+any_front p [] ys here = cc
+any_front p (x ∷ xs) ys here = by_first (p x) here (any_front p xs ys) where
+  by_first : (b : Bool) → (b || list_any p xs) ≡ true → (list_any p xs ≡ true → list_any p (xs ++ ys) ≡ true) → (b || list_any p (xs ++ ys)) ≡ true
+  by_first true first later = refl
+  by_first false first later = later first
+
+any_back : {X : Type 0} (p : X → Bool) (xs ys : List X) → list_any p ys ≡ true → list_any p (xs ++ ys) ≡ true
+any_back p [] ys there = there
+any_back p (x ∷ xs) ys there = or_right (p x) (list_any p (xs ++ ys)) (any_back p xs ys there)
+
+-- ---- numbers
+
+same_number : (n m : PathId) → is_number n m ≡ true → n ≡ m
+same_number n m is = ap (λ (k : ℕ). record { 0 = k }) ((Decides-eqb n.0 m.0).0 is)
+
+number_back : (n m : PathId) → is_number n m ≡ true → is_number m n ≡ true
+number_back n m is = (Decides-eqb m.0 n.0).1 (sym ((Decides-eqb n.0 m.0).0 is))
+
+number_itself : (n : PathId) → is_number n n ≡ true
+number_itself n = (Decides-eqb n.0 n.0).1 refl
+
+other_number : (a b : PathId) → is_number b a ≡ false → is_number a b ≡ false
+other_number a b differs = by_test (is_number a b) refl where
+  by_test : (c : Bool) → is_number a b ≡ c → c ≡ false
+  by_test true same = absurd (not_both (is_number b a) (number_back a b same) differs)
+  by_test false same = refl
+
+-- ---- the queue
+
+-- a program that is open is among the programs
+among_programs : (store : Store) (n : PathId) (documents : List OpenDocument) (document : OpenDocument) → find (λ d. is_number (number_at store d) n) documents ≡ Some document → is_program document ≡ true
+    → list_any (is_number n) (map (number_at store) (filter is_program documents)) ≡ true
+among_programs store n [] document found program = cc
+among_programs store n (d ∷ rest) document found program =
+    by_number (is_number (number_at store d) n) refl found (λ behind. among_programs store n rest document behind program) where
+      others : List PathId
+      others = map (number_at store) (filter is_program rest)
+
+      by_program : (b : Bool) → list_any (is_number n) others ≡ true → list_any (is_number n) (map (number_at store) (cond b (d ∷ filter is_program rest) (filter is_program rest))) ≡ true
+      by_program true there = or_right (is_number n (number_at store d)) (list_any (is_number n) others) there
+      by_program false there = there
+
+      by_first : is_number (number_at store d) n ≡ true → (b : Bool) → b ≡ true → list_any (is_number n) (map (number_at store) (cond b (d ∷ filter is_program rest) (filter is_program rest))) ≡ true
+      by_first same true is = ap (λ c. c || list_any (is_number n) others) (number_back (number_at store d) n same)
+      by_first same false is = cc
+
+      by_number : (b : Bool) → is_number (number_at store d) n ≡ b → cond b (Some d) (find (λ e. is_number (number_at store e) n) rest) ≡ Some document
+          → (find (λ e. is_number (number_at store e) n) rest ≡ Some document → list_any (is_number n) others ≡ true)
+          → list_any (is_number n) (map (number_at store) (cond (is_program d) (d ∷ filter is_program rest) (filter is_program rest))) ≡ true
+      by_number true same here later =
+          let first : d ≡ document = cc in
+          by_first same (is_program d) (ap is_program first ∙ program)
+      by_number false same behind later = by_program (is_program d) (later behind)
+
+-- a program that is queued too is queued
+queued_too : (n : PathId) (queue others : List PathId) → list_any (is_number n) others ≡ true → is_queued (with_programs queue others) n ≡ true
+queued_too n queue [] there = cc
+queued_too n queue (m ∷ others) there = by_number (is_number n m) refl there (λ behind. queued_too n queue others behind) where
+  wanted : List PathId
+  wanted = filter (λ k. not (is_queued queue k)) others
+
+  by_here : (b : Bool) → is_queued queue m ≡ b → is_number n m ≡ true → list_any (is_number n) (queue ++ cond (not b) (m ∷ wanted) wanted) ≡ true
+  by_here true queued same = any_front (is_number n) queue wanted (ap (λ (k : PathId). is_queued queue k) (same_number n m same) ∙ queued)
+  by_here false queued same = any_back (is_number n) queue (m ∷ wanted) (ap (λ c. c || list_any (is_number n) wanted) same)
+
+  by_later : (b : Bool) → list_any (is_number n) (queue ++ wanted) ≡ true → list_any (is_number n) (queue ++ cond b (m ∷ wanted) wanted) ≡ true
+  by_later false there = there
+  by_later true there = more queue there where
+    more : (front : List PathId) → list_any (is_number n) (front ++ wanted) ≡ true → list_any (is_number n) (front ++ m ∷ wanted) ≡ true
+    more [] is = or_right (is_number n m) (list_any (is_number n) wanted) is
+    more (k ∷ front) is = by_front (is_number n k) is (more front) where
+      by_front : (b : Bool) → (b || list_any (is_number n) (front ++ wanted)) ≡ true
+          → (list_any (is_number n) (front ++ wanted) ≡ true → list_any (is_number n) (front ++ m ∷ wanted) ≡ true) → (b || list_any (is_number n) (front ++ m ∷ wanted)) ≡ true
+      by_front true first later = refl
+      by_front false first later = later first
+
+  by_number : (b : Bool) → is_number n m ≡ b → (b || list_any (is_number n) others) ≡ true → (list_any (is_number n) others ≡ true → is_queued (with_programs queue others) n ≡ true)
+      → list_any (is_number n) (queue ++ cond (not (is_queued queue m)) (m ∷ wanted) wanted) ≡ true
+  by_number true same here later = by_here (is_queued queue m) refl same
+  by_number false same behind later = by_later (not (is_queued queue m)) (later behind)
+
+-- where every program is queued, each is
+all_queued : (s : State) → AllQueued (queue_all s)
+all_queued s n document found program = queued_too n s.queue (programs s.store) (among_programs s.store n s.store.documents document found program)
+
+fresh_queued : (s : State) → AllQueued s → AreFresh s
+fresh_queued s all n document found program free = absurd (not_both (is_queued s.queue n) (all n document found program) free)
+
+-- ---- the same list
+
+pointwise_itself : {X : Type 0} (E : X → X → Bool) (xs : List X) → ((x : X) → E x x ≡ true) → pointwise E xs xs ≡ true
+pointwise_itself E [] same = refl
+pointwise_itself E (x ∷ xs) same = and_true (E x x) (pointwise E xs xs) (same x) (pointwise_itself E xs same)
+
+bytes_itself : (text : List ℕ) → bytes_eq text text ≡ true
+bytes_itself text = (bytes_eq-Decides text text).1 refl
+
+position_itself : (p : Position) → is_same_position p p ≡ true
+position_itself p = and_true (p.line == p.line) (p.character == p.character) ((Decides-eqb p.line p.line).1 refl) ((Decides-eqb p.character p.character).1 refl)
+
+span_itself : (s : Span) → is_same_span s s ≡ true
+span_itself s = and_true (is_same_position s.start s.start) (is_same_position s.end s.end) (position_itself s.start) (position_itself s.end)
+
+relation_itself : (r : Relation) → is_same_relation r r ≡ true
+relation_itself r = and_true (bytes_eq r.uri r.uri) _ (bytes_itself r.uri) (and_true (is_same_span r.range r.range) _ (span_itself r.range) (bytes_itself r.message))
+
+diagnostic_itself : (d : Diagnostic) → is_same_diagnostic d d ≡ true
+diagnostic_itself d =
+    and_true (bytes_eq d.code d.code) _ (bytes_itself d.code)
+    (and_true (bytes_eq d.message d.message) _ (bytes_itself d.message)
+    (and_true (is_same_span d.range d.range) _ (span_itself d.range)
+    (and_true (d.severity == d.severity) _ ((Decides-eqb d.severity d.severity).1 refl) (pointwise_itself is_same_relation d.related relation_itself))))
+
+published_itself : (n : PathId) (version : ℤ) (list : List Diagnostic) → is_published (Some (record { path = n; version = version; list = list })) version list ≡ true
+published_itself n version list = and_true (int_eq version version) (is_same_list list list) ((Decides-int_eq version version).1 refl) (pointwise_itself is_same_diagnostic list diagnostic_itself)
+
+-- ---- what was last published
+
+last_other : (published : List LastList) (last : LastList) (m : PathId) → is_number last.path m ≡ false → last_list (with_list published last) m ≡ last_list published m
+last_other [] last m other = ap (λ b. cond b (Some last) None) other
+last_other (x ∷ published) last m other = by_kept (is_number x.path last.path) refl (last_other published last m other) where
+  others : List LastList
+  others = without_list published last.path
+
+  by_kept : (b : Bool) → is_number x.path last.path ≡ b → last_list (others ++ last ∷ []) m ≡ last_list published m
+      → last_list (cond (not b) (x ∷ others) others ++ last ∷ []) m ≡ cond (is_number x.path m) (Some x) (last_list published m)
+  by_kept true same behind =
+      let path : is_number x.path m ≡ false = ap (λ (k : PathId). is_number k m) (same_number x.path last.path same) ∙ other in
+      behind ∙ ap (λ b. cond b (Some x) (last_list published m)) (sym path)
+  by_kept false differs behind = ap (λ z. cond (is_number x.path m) (Some x) z) behind
+
+last_newest : (published : List LastList) (last : LastList) → last_list (with_list published last) last.path ≡ Some last
+last_newest [] last = ap (λ b. cond b (Some last) None) (number_itself last.path)
+last_newest (x ∷ published) last = by_kept (is_number x.path last.path) refl (last_newest published last) where
+  others : List LastList
+  others = without_list published last.path
+
+  by_kept : (b : Bool) → is_number x.path last.path ≡ b → last_list (others ++ last ∷ []) last.path ≡ Some last
+      → last_list (cond (not b) (x ∷ others) others ++ last ∷ []) last.path ≡ Some last
+  by_kept true same behind = behind
+  by_kept false differs behind = ap (λ b. cond b (Some x) (last_list (others ++ last ∷ []) last.path)) differs ∙ behind
+
+-- ---- Turns
+
+-- the first program is listed, and the others are as they were
+fresh_publish : (s : State) (n : PathId) (rest : List PathId) (document : OpenDocument) → s.queue ≡ n ∷ rest → document_at s.store n ≡ Some document → AreFresh s
+    → AreFresh (publish (without_first s) n document (diagnostics_of document.text)).state
+fresh_publish s n rest document queue found fresh = by_old (is_published (last_list s.published n) document.version (diagnostics_of document.text)) refl where
+  list : List Diagnostic
+  list = diagnostics_of document.text
+
+  newest : LastList
+  newest = record { path = n; version = document.version; list = list }
+
+  left : drop 1 s.queue ≡ rest
+  left = ap (drop 1) queue
+
+  others : (m : PathId) → is_number m n ≡ false → is_queued (drop 1 s.queue) m ≡ false → is_queued s.queue m ≡ false
+  others m differs free = ap (λ q. is_queued q m) queue ∙ ap (λ b. b || is_queued rest m) differs ∙ ap (λ q. is_queued q m) (sym left) ∙ free
+
+  by_old : (b : Bool) → is_published (last_list s.published n) document.version list ≡ b
+      → AreFresh (cond b (quiet (without_first s)) (says (record (without_first s) { published = with_list s.published newest }) (list_body document.uri (Some document.version) list))).state
+  by_old true old m other at program free = by_number (is_number m n) refl where
+    by_number : (b : Bool) → is_number m n ≡ b → is_listed (without_first s) m other ≡ true
+    by_number true same =
+        let number = same_number m n same in
+        let is : Some document ≡ Some other = sym found ∙ ap (document_at s.store) (sym number) ∙ at in
+        let document_is : document ≡ other = cc in
+        subst (λ z. is_listed s m z ≡ true) document_is (subst (λ k. is_listed s k document ≡ true) (sym number) old)
+    by_number false differs = fresh m other at program (others m differs free)
+  by_old false old m other at program free = by_number (is_number m n) refl where
+    by_number : (b : Bool) → is_number m n ≡ b → is_listed (record (without_first s) { published = with_list s.published newest }) m other ≡ true
+    by_number true same =
+        let number = same_number m n same in
+        let is : Some document ≡ Some other = sym found ∙ ap (document_at s.store) (sym number) ∙ at in
+        let document_is : document ≡ other = cc in
+        let here : is_published (last_list (with_list s.published newest) n) document.version list ≡ true =
+        ap (λ z. is_published z document.version list) (last_newest s.published newest) ∙ published_itself n document.version list in
+        subst (λ z. is_listed (record s { published = with_list s.published newest }) m z ≡ true) document_is
+        (subst (λ k. is_listed (record s { published = with_list s.published newest }) k document ≡ true) (sym number) here)
+    by_number false differs =
+        ap (λ z. is_published z other.version (diagnostics_of other.text)) (last_other s.published newest m (other_number n m differs)) ∙ fresh m other at program (others m differs free)
+
+-- a number without a document leaves the queue
+fresh_without : (s : State) (n : PathId) (rest : List PathId) → s.queue ≡ n ∷ rest → document_at s.store n ≡ None → AreFresh s → AreFresh (without_first s)
+fresh_without s n rest queue none fresh m other at program free = by_number (is_number m n) refl where
+  by_number : (b : Bool) → is_number m n ≡ b → is_listed s m other ≡ true
+  by_number true same =
+      let is : None ≡ Some other = sym none ∙ ap (document_at s.store) (sym (same_number m n same)) ∙ at in
+      cc
+  by_number false differs = fresh m other at program
+      (ap (λ q. is_queued q m) queue ∙ ap (λ b. b || is_queued rest m) differs ∙ ap (λ q. is_queued q m) (sym (ap (drop 1) queue)) ∙ free)
+
+fresh_turn_at : (s : State) (n : PathId) (rest : List PathId) (document : Option OpenDocument) → s.queue ≡ n ∷ rest → document_at s.store n ≡ document → AreFresh s
+    → AreFresh (turn_at (without_first s) n document).state
+fresh_turn_at s n rest None queue found fresh = fresh_without s n rest queue found fresh
+fresh_turn_at s n rest (Some document) queue found fresh = fresh_publish s n rest document queue found fresh
+
+pub fresh_turn : (s : State) → AreFresh s → AreFresh (turn s).state
+unfolding turn
+fresh_turn s fresh = by_queue s.queue refl where
+  by_queue : (queue : List PathId) → s.queue ≡ queue → AreFresh (turn_of s (slice_get queue 0)).state
+  by_queue [] e = fresh
+  by_queue (n ∷ rest) e = fresh_turn_at s n rest (document_at s.store n) e refl fresh
+
+fresh_turns : (n : ℕ) (s : State) → AreFresh s → AreFresh (turns n s).state
+fresh_turns zero s fresh = fresh
+fresh_turns (suc n) s fresh = fresh_turns n (turn s).state (fresh_turn s fresh)
+
+-- ---- messages
+
+-- what a step leaves: lists are fresh, but behind the end
+abbrev IsGood : Step → Type 0
+IsGood step = is_ended step.state.stage ≡ false → AreFresh step.state
+
+good_cond : (b : Bool) (step other : Step) → IsGood step → IsGood other → IsGood (cond b step other)
+good_cond true step other good also = good
+good_cond false step other good also = also
+
+good_unless : (s : State) (why : Option Refused) (step : Step) → AreFresh s → IsGood step → IsGood (unless_refused s why step)
+good_unless s None step fresh good = good
+good_unless s (Some why) step fresh good = λ alive. fresh
+
+good_change : (s : State) (asked : Result Store StoreFault) → AreFresh s → IsGood (after_change s asked)
+good_change s (Ok store) fresh = λ alive. fresh_queued (queue_all (record s { store = store })) (all_queued (record s { store = store }))
+good_change s (Err fault) fresh = λ alive. fresh
+
+abbrev left_behind : State → Option PathId → Store → State
+left_behind s n store = record s { store = store; queue = without s.queue n; published = published_without s.published n }
+
+good_closing : (s : State) (n : Option PathId) (asked : Result Store StoreFault) → AreFresh s → IsGood (after_closing s n asked)
+good_closing s n (Ok store) fresh = λ alive. fresh_queued (queue_all (left_behind s n store)) (all_queued (left_behind s n store))
+good_closing s n (Err fault) fresh = λ alive. fresh
+
+good_effect : (s : State) (message : LspIn) → AreFresh s → IsGood (effect s message)
+good_effect s (Initialize id root) fresh = λ alive. fresh
+good_effect s (Shutdown id) fresh = λ alive. fresh_turns (length s.queue) s fresh
+good_effect s Initialized fresh = λ alive. fresh_queued (queue_all s) (all_queued s)
+good_effect s Exit fresh = λ alive. cc
+good_effect s (DidOpen uri language version text) fresh = good_change s (opened s.store uri language version text) fresh
+good_effect s (DidChange uri version edits) fresh = good_change s (changed s.store uri version edits) fresh
+good_effect s (DidClose uri) fresh = good_closing s (number_named s.store uri) (closed s.store uri) fresh
+good_effect s DidSave fresh = λ alive. fresh
+good_effect s DidChangeConfiguration fresh = λ alive. fresh
+
+good_of : (s : State) (told : Result LspIn Refusal) → AreFresh s → IsGood (effect_of s told)
+good_of s (Ok message) fresh = good_effect s message fresh
+good_of s (Err refusal) fresh = λ alive. fresh
+
+good_asked : (s : State) (told : Result LspIn Refusal) → AreFresh s → IsGood (asked s told)
+good_asked s told fresh =
+    good_cond (is_passed_over s.stage told) (quiet s) _ (λ alive. fresh) (good_unless s (refusal s.stage s.store (Some told)) (effect_of s told) fresh (good_of s told fresh))
+
+good_received : (s : State) (value : Option Data) → AreFresh s → IsGood (received s value)
+good_received s None fresh = λ alive. fresh
+good_received s (Some value) fresh = good_cond (is_response value) (quiet s) (asked s (message_of value)) (λ alive. fresh) (good_asked s (message_of value) fresh)
+
+pub fresh_message : (s : State) (body : List ℕ) (calls : List LibraryCall) → AreFresh s → is_ended (message s body calls).state.stage ≡ false → AreFresh (message s body calls).state
+unfolding message
+fresh_message s body calls fresh = good_cond (is_ended s.stage) (quiet s) (received s (reading body)) (λ alive. fresh) (good_received s (reading body) fresh)
+
+pub fresh_start : AreFresh start
+fresh_start n document found program free = cc
+
+-- ---- changes
+
+-- the documents are as they were, or every program is queued
+abbrev KeepsOrQueues : State → Step → Type 0
+KeepsOrQueues s step = (step.state.store ≡ s.store) ⊎ AllQueued step.state
+
+keeps_cond : (s : State) (b : Bool) (step other : Step) → KeepsOrQueues s step → KeepsOrQueues s other → KeepsOrQueues s (cond b step other)
+keeps_cond s true step other keeps also = keeps
+keeps_cond s false step other keeps also = also
+
+keeps_unless : (s : State) (why : Option Refused) (step : Step) → KeepsOrQueues s step → KeepsOrQueues s (unless_refused s why step)
+keeps_unless s None step keeps = keeps
+keeps_unless s (Some why) step keeps = inl refl
+
+keeps_change : (s : State) (asked : Result Store StoreFault) → KeepsOrQueues s (after_change s asked)
+keeps_change s (Ok store) = inr (all_queued (record s { store = store }))
+keeps_change s (Err fault) = inl refl
+
+keeps_closing : (s : State) (n : Option PathId) (asked : Result Store StoreFault) → KeepsOrQueues s (after_closing s n asked)
+keeps_closing s n (Ok store) = inr (all_queued (left_behind s n store))
+keeps_closing s n (Err fault) = inl refl
+
+store_of_cond : (b : Bool) (s t : State) (body : List ℕ) → t.store ≡ s.store → (cond b (quiet s) (says t body)).state.store ≡ s.store
+store_of_cond true s t body same = refl
+store_of_cond false s t body same = same
+
+store_of_turn_at : (s : State) (n : PathId) (document : Option OpenDocument) → (turn_at s n document).state.store ≡ s.store
+store_of_turn_at s n None = refl
+store_of_turn_at s n (Some document) = store_of_cond (is_published (last_list s.published n) document.version (diagnostics_of document.text)) s _ _ refl
+
+store_of_turn : (s : State) → (turn s).state.store ≡ s.store
+unfolding turn
+store_of_turn s = by_queue (slice_get s.queue 0) where
+  by_queue : (first : Option PathId) → (turn_of s first).state.store ≡ s.store
+  by_queue None = refl
+  by_queue (Some n) = store_of_turn_at (without_first s) n (document_at s.store n)
+
+store_of_turns : (n : ℕ) (s : State) → (turns n s).state.store ≡ s.store
+store_of_turns zero s = refl
+store_of_turns (suc n) s = store_of_turns n (turn s).state ∙ store_of_turn s
+
+keeps_effect : (s : State) (message : LspIn) → KeepsOrQueues s (effect s message)
+keeps_effect s (Initialize id root) = inl refl
+keeps_effect s (Shutdown id) = inl (store_of_turns (length s.queue) s)
+keeps_effect s Initialized = inl refl
+keeps_effect s Exit = inl refl
+keeps_effect s (DidOpen uri language version text) = keeps_change s (opened s.store uri language version text)
+keeps_effect s (DidChange uri version edits) = keeps_change s (changed s.store uri version edits)
+keeps_effect s (DidClose uri) = keeps_closing s (number_named s.store uri) (closed s.store uri)
+keeps_effect s DidSave = inl refl
+keeps_effect s DidChangeConfiguration = inl refl
+
+keeps_of : (s : State) (told : Result LspIn Refusal) → KeepsOrQueues s (effect_of s told)
+keeps_of s (Ok message) = keeps_effect s message
+keeps_of s (Err refusal) = inl refl
+
+keeps_asked : (s : State) (told : Result LspIn Refusal) → KeepsOrQueues s (asked s told)
+keeps_asked s told = keeps_cond s (is_passed_over s.stage told) (quiet s) _ (inl refl) (keeps_unless s (refusal s.stage s.store (Some told)) (effect_of s told) (keeps_of s told))
+
+keeps_received : (s : State) (value : Option Data) → KeepsOrQueues s (received s value)
+keeps_received s None = inl refl
+keeps_received s (Some value) = keeps_cond s (is_response value) (quiet s) (asked s (message_of value)) (inl refl) (keeps_asked s (message_of value))
+
+pub change_queues : (s : State) (body : List ℕ) (calls : List LibraryCall) → ((message s body calls).state.store ≡ s.store) ⊎ AllQueued (message s body calls).state
+unfolding message
+change_queues s body calls = keeps_cond s (is_ended s.stage) (quiet s) (received s (reading body)) (inl refl) (keeps_received s (reading body))
