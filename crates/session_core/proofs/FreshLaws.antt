@@ -24,13 +24,13 @@ use Rattle.document_store.specs.declared.fault.StoreFault.{StoreFault}
 use Rattle.session_core.specs.declared.state.LastList.{LastList}
 use Rattle.session_core.specs.Diagnostics.{diagnostics_of}
 use Rattle.session_core.specs.Laws.{is_listed, AreFresh, AllQueued}
-use Rattle.session_core.specs.Message.{message, received, heard, asked, effect, effect_of, after_change, after_closing, queue_all, is_passed_over, unless_refused}
+use Rattle.session_core.specs.Message.{message, received, asked, effect, effect_of, after_change, after_closing, queue_all, is_passed_over, unless_refused}
 use Rattle.session_core.specs.Refusals.{Refused, refusal, is_ended}
 use Rattle.session_core.specs.Replies.{list_body}
 use Rattle.session_core.specs.Same.{is_same_position, is_same_span, is_same_relation, is_same_diagnostic, is_same_list}
 use Rattle.session_core.specs.State.{State, start, number_at, number_named, is_number, is_program, is_queued, document_at, programs, with_programs, last_list, without_list, with_list, without, published_without}
-use Rattle.session_core.specs.Step.{Step, quiet, says, and_then}
-use Rattle.session_core.specs.Turn.{is_published, publish, turn, turn_of, turn_at, turns, all_turns, without_first}
+use Rattle.session_core.specs.Step.{Step, quiet, says}
+use Rattle.session_core.specs.Turn.{is_published, publish, turn, turn_of, turn_at, turns, without_first}
 
 -- ---- tests
 
