@@ -5,6 +5,7 @@ pub mod LogicPoints
 pub mod LogicSteps
 pub mod LogicCompletions
 pub mod LogicFinds
+pub mod LogicClosedLaws
 pub mod LogicWeights
 pub mod LogicLaws
 pub mod LogicTouches

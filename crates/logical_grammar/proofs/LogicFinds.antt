@@ -1,11 +1,18 @@
 -- What the reading of a logical expression finds: its tree, or where no logical expression goes on.
-use Rattle.std.proofs.Common.{◌≡◌, ℕ, ◌+◌, ◌<◌, false, List, [], ◌++◌, length, take, get_or, refl, subst, arith}
-use Rattle.std.specs.Prelude.{nat_le, Option, Some, None, option_and_then, if◌then◌else◌}
+use Rattle.std.proofs.Common.{◌≡◌, ℕ, ◌+◌, ◌<◌, ◌&&◌, drop, false, List, [], ◌++◌, length, take, get_or, refl, subst, arith}
+use Rattle.std.specs.Prelude.{MatchResult, Result, Ok, Err, ◌==◌, is_some, nat_le, Option, Some, None, option_and_then, if◌then◌else◌}
 use Rattle.expression_grammar.specs.declared.fault.SyntaxFault.{SyntaxFault}
 use Rattle.expression_grammar.specs.declared.fault.SyntaxFault.TheVariants.{At, OutOfMemory}
 use Rattle.expression_grammar.specs.Trees.{Tree, size}
 use Rattle.expression_grammar.specs.Spelling.{Placed, placed, IsExpression, IsAt, most_parts}
 use Rattle.expression_grammar.specs.Answers.{IsFault}
+use Rattle.expression_grammar.specs.declared.tree.Expr.{Expr}
+use Rattle.expression_grammar.specs.Fronts.{IsClosed}
+use Rattle.expression_grammar.specs.Readings.{Front, Tells, TellsFront, front_by}
+use Rattle.expression_grammar.specs.Views.{tree_of}
+use Rattle.expression_grammar.proofs.FrontLaws.{front_stop}
+use Rattle.expression_grammar.proofs.ReadLaws.{Finds, FindsFront, finds, front-finds, read-tree, read-fault}
+use Rattle.logical_grammar.specs.LogicReadings.{read_logic, read_logic_front}
 use Rattle.logical_grammar.specs.Logics.{IsTruth, SpellsLogic}
 use Rattle.logical_grammar.specs.LogicAnswers.{LogicStops}
 use Rattle.logical_grammar.specs.LogicReading.{Want, LogicState, at_point, logic_step, logic_run, logic_accept, logic_weight, logic_advance, LogicReaches}
@@ -57,6 +64,26 @@ reached limit text state r = record { runs = r.runs; small = r.small }
 -- a text has one tree
 pub one_logic-tree : (text : List ℕ) (tree other : Tree) → SpellsLogic text tree → SpellsLogic text other → tree ≡ other
 one_logic-tree text tree other s t = automata.one-tree logic_automaton text tree other s t
+
+-- what is read of a text, and of its front
+pub read_logic-finds : (text : List ℕ) → Finds SpellsLogic text (read_logic text)
+read_logic-finds text = finds (automata.reader logic_automaton) [] text (at_point [] (Want false)) (record { runs = refl; small = omega arith })
+
+pub read_logic_front-finds : (text : List ℕ) → FindsFront SpellsLogic (IsClosed SpellsLogic text) text (read_logic_front text)
+read_logic_front-finds text =
+    front-finds (automata.reader logic_automaton) text [] text (at_point [] (Want false)) refl (record { runs = refl; small = omega arith }) (λ earlier tree less closed. absurd (omega arith))
+
+-- the same answer, by the function
+pub tells : (text : List ℕ) (r : Result Expr SyntaxFault) → MatchResult r (λ e. IsExpression SpellsLogic most_parts text (tree_of e)) (IsFault SpellsLogic text) → Tells (read_logic text) r
+tells text (Ok e) m = (read-tree SpellsLogic text (read_logic text) (read_logic-finds text) one_logic-tree (tree_of e)).1 m
+tells text (Err (At count)) m = (read-fault SpellsLogic text (read_logic text) (read_logic-finds text) count).1 m
+tells text (Err OutOfMemory) m = tt
+
+-- the text goes no further
+pub stops_front : (all : List ℕ) (n c at : ℕ) (state : LogicState) (whole : Result Front ℕ) (fault : SyntaxFault) → n < length all → c ≡ get_or all n c → at ≡ n →
+    whole ≡ front_by (logic_advance most_parts) logic_accept state n (drop n all) → ((c == 41) && is_some (logic_accept state)) ≡ false → LogicStops state (record { at = at; code = c }) fault → TellsFront whole (Err fault)
+stops_front all n c at state whole (At count) h e a w not s = front_stop (logic_advance most_parts) logic_accept all n c at state whole count h e a w not s.0 s.1
+stops_front all n c at state whole OutOfMemory h e a w not s = tt
 
 -- In the words of the reader.
 

@@ -1,5 +1,5 @@
 -- What the reader of logical expressions holds, as a state (this project). No public contract speaks of it.
-use Rattle.std.specs.Prelude.{◌≡◌, ℕ, ◌+◌, Bool, true, false, List, [], ◌∷◌, length, Option, Some, None, nat_lt, not, option_map}
+use Rattle.std.specs.Prelude.{◌≡◌, ℕ, ◌+◌, ◌&&◌, Bool, true, false, List, [], ◌∷◌, length, Option, Some, None, nat_lt, not, option_map}
 use Rattle.expression_grammar.specs.declared.character.Kind.{Kind}
 use Rattle.expression_grammar.specs.declared.character.Kind.TheVariants as kind
 use Rattle.expression_grammar.specs.declared.part.Part.{Part}
@@ -123,3 +123,13 @@ abbrev pub closes_number : Kind → Bool
 closes_number kind.Close = true
 closes_number kind.Letter = true
 closes_number _ = false
+
+-- whether the end of a text closes what is open: all but a parenthesis it does
+abbrev pub closes : Opening → Bool
+closes opening.Negation = true
+closes (opening.Both operator left) = true
+closes opening.Group = false
+
+abbrev pub all_close : List Opening → Bool
+all_close [] = true
+all_close (one ∷ rest) = closes one && all_close rest

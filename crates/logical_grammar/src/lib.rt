@@ -12,4 +12,4 @@ mod logic_point;
 mod logic_reader;
 mod parse_truth;
 
-pub use parse_truth::parse_logic;
+pub use parse_truth::{parse_logic, parse_logic_front};

@@ -2,7 +2,7 @@
 ghost use Rattle.std.specs.Prelude.{◌≡◌, IfOk, Some, option_map};
 ghost use Rattle.expression_grammar.specs.Views.{tree_of};
 ghost use Rattle.logical_grammar.specs.LogicReading as logic;
-ghost use Rattle.logical_grammar.specs.LogicViews.{against_of, operand_of};
+ghost use Rattle.logical_grammar.specs.LogicViews.{against_of, closes, operand_of};
 
 use character_grammar::text_point::TextPoint;
 use expression_grammar::pending::{Pending, Point};
@@ -19,6 +19,18 @@ pub(crate) enum Opening {
     Both(Operator, Expr),
     /// A parenthesis where a truth was wanted.
     Group,
+}
+
+impl Opening {
+    /// Whether the end of a text closes it.
+    pub(crate) fn closes(&self) -> bool
+        ensures { result ≡ closes self.now }
+    {
+        match self {
+            Opening::Negation | Opening::Both(_, _) => true,
+            Opening::Group => false,
+        }
+    }
 }
 
 /// A comparison with its left side.

@@ -2,7 +2,7 @@
 //!
 //! A stack holds what is open, and a point stands above it, which reads numbers by the automaton of arithmetic and texts by
 //! that of character expressions. No call recurses on the text.
-ghost use Rattle.std.specs.Prelude.{◌≡◌, ℕ, ◌+◌, ◌<◌, ◌^◌, List, [], ◌∷◌, ◌&&◌, ◌==◌, true, false, IfOk, IfSome, None, Some, is_some, option_map, if◌then◌else◌};
+ghost use Rattle.std.specs.Prelude.{◌≡◌, ℕ, ◌+◌, ◌<◌, ◌^◌, List, [], ◌∷◌, ◌&&◌, ◌==◌, true, false, IfOk, IfSome, None, Some, is_some, option_and_then, option_map, if◌then◌else◌};
 ghost use Rattle.std.specs.Char.{to_ascii_uppercase};
 ghost use Rattle.expression_grammar.specs.Characters as characters;
 ghost use Rattle.expression_grammar.specs.Reading as reading;
@@ -10,7 +10,7 @@ ghost use Rattle.expression_grammar.specs.Stacks.{stack_of, stand};
 ghost use Rattle.expression_grammar.specs.Trees.{Paren, size};
 ghost use Rattle.expression_grammar.specs.Views.{tree_of};
 ghost use Rattle.logical_grammar.specs.LogicReading as logic;
-ghost use Rattle.logical_grammar.specs.LogicViews.{LogicMoves, against_of, closes_number, ends_number, letter_of, letters_of, may_end_text, open_of, operand_of, part_takes_letter, point_of, text_takes_letter};
+ghost use Rattle.logical_grammar.specs.LogicViews.{LogicMoves, against_of, all_close, closes_number, ends_number, letter_of, letters_of, may_end_text, open_of, operand_of, part_takes_letter, point_of, text_takes_letter};
 ghost use Rattle.character_grammar.specs.TextReading as texts;
 ghost use Rattle.character_grammar.specs.TextViews.{text_state};
 
@@ -21,12 +21,12 @@ use crate::logic_point::{
 };
 use character_grammar::text_point::{Holder, TextPoint};
 use character_grammar::text_reader::{
-    Settled, begin_part, quotation, settle, text_finish, text_step,
+    Settled, begin_part, quotation, settle, text_finish, text_is_whole, text_step,
 };
 use expression_grammar::character::{Grammar, Kind, kind_of};
 use expression_grammar::part::Part;
 use expression_grammar::pending::{Pending, Point, fold};
-use expression_grammar::reader::{finish, step};
+use expression_grammar::reader::{finish, is_whole as is_whole_number, step};
 use expression_grammar::spelled::LONGEST;
 use expression_grammar::tree::{Comparison, Expr, paren};
 use hl_base::{OutOfMemory, is_symbol_character};
@@ -629,4 +629,45 @@ pub(crate) fn logic_finish(
     };
     let found = finish_truth(alloc, tree, layers)?;
     Ok(found)
+}
+
+/// Whether nothing is open but NOTs and operators.
+fn is_closed(layers: &[Opening]) -> bool
+    ensures { result ≡ all_close layers.now }
+{
+    for opening in layers {
+        if !opening.closes() {
+            return false;
+        }
+    }
+    true
+}
+
+/// Whether a truth may end here.
+#[tactic(auto, using(crate::proofs::LogicClosedLaws::number_truth, crate::proofs::LogicClosedLaws::compared_truth, crate::proofs::LogicClosedLaws::text_truth))]
+fn ends_truth(point: &LogicPoint) -> bool
+    ensures { result ≡ is_some (option_and_then logic.truth_of (logic.settled (point_of point.now))) }
+{
+    match point {
+        LogicPoint::Number(_, inner, stack, _) => {
+            is_whole_number(Grammar::Arithmetic, inner, stack.as_slice())
+        }
+        LogicPoint::Text(Some(_), inner, _) => text_is_whole(inner),
+        LogicPoint::Text(None, _, _) => false,
+        LogicPoint::Closed(_) | LogicPoint::Had(_) => true,
+        LogicPoint::Want(_)
+        | LogicPoint::MaybeNot(_, _)
+        | LogicPoint::Letters(_)
+        | LogicPoint::Ended(_)
+        | LogicPoint::Comparing(_, _, _)
+        | LogicPoint::Right(_, _, _) => false,
+    }
+}
+
+/// Whether a text that ends here is a logical expression.
+#[tactic(auto, unfolding(crate::specs::LogicReading::logic_accept), using(crate::proofs::LogicClosedLaws::accept_closed))]
+pub(crate) fn logic_is_whole(point: &LogicPoint, layers: &[Opening]) -> bool
+    ensures { result ≡ is_some (logic.logic_accept (logic.at_point (open_of layers.now []) (point_of point.now))) }
+{
+    ends_truth(point) && is_closed(layers)
 }
