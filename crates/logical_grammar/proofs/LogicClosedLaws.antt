@@ -1,7 +1,6 @@
 -- What the end of a text closes in a logical expression.
-use Rattle.std.proofs.Common.{◌≡◌, ℕ, suc, ◌+◌, ◌<◌, ◌≤◌, Bool, true, false, List, [], ◌∷◌, length, drop, drop-cons, add-one, get_or, refl, sym, ap, ◌∙◌, arith, ◌&&◌}
+use Rattle.std.proofs.Common.{◌≡◌, ℕ, Bool, true, false, List, [], ◌∷◌, refl, ap, ◌∙◌, arith, ◌&&◌}
 use Rattle.std.specs.Prelude.{nat_le, is_some, Option, Some, None, option_map, option_and_then, if◌then◌else◌}
-use Rattle.std.proofs.Math.ListN.{drop_of_length-le}
 use Rattle.std.proofs.lemmas.Bool.Decides.{nat_tests}
 use Rattle.expression_grammar.specs.declared.tree.Operator.{Operator}
 use Rattle.expression_grammar.specs.Characters.{strength}
@@ -10,7 +9,7 @@ use Rattle.expression_grammar.specs.Views.{tree_of}
 use Rattle.logical_grammar.specs.declared.logic_point.Opening.{Opening}
 use Rattle.logical_grammar.specs.declared.logic_point.Opening.TheVariants as opening
 use Rattle.logical_grammar.specs.LogicReading.{Open, Negation, Both, Group, Against, LogicFolded, number_side, text_side, truth_of, logic_fold, whole, whole_over}
-use Rattle.logical_grammar.specs.LogicViews.{opening_of, open_of, closes, all_close}
+use Rattle.logical_grammar.specs.LogicViews.{open_of, all_close}
 
 layers_close : List Open → Bool
 layers_close [] = true
