@@ -1,22 +1,26 @@
--- What some texts cannot begin with.
-use Rattle.std.proofs.Common.{◌≡◌, ℕ, ◌+◌, ◌<◌, ◌≤◌, false, List, [], ◌++◌, length, take, drop, sym, ap, ◌∙◌, subst, append_assoc, append-nil, take-append-drop, inl, inr, get_or, arith}
-use Rattle.std.specs.Prelude.{nat_lt, MatchResult, Result}
-use Rattle.std.proofs.Math.Nat.{eq-or-lt_of_le}
+-- What some texts begin with, and cannot begin with.
+use Rattle.std.proofs.Common.{◌≡◌, ℕ, true, false, List, [], length, refl, sym, ap, ◌∙◌, subst, append-nil, arith}
+use Rattle.std.specs.Prelude.{MatchResult, Result, Ok, Err, Some, is_some}
 use Rattle.std.proofs.Math.Seq.{take-length}
-use Rattle.std.proofs.lemmas.List.{take-take, get_or_past}
-use Rattle.std.proofs.lemmas.Grind.{get_or_default_zero}
+use Rattle.std.proofs.lemmas.Bool.{true≢false}
+use Rattle.expression_grammar.specs.declared.character.Grammar.{Grammar}
 use Rattle.expression_grammar.specs.declared.character.Grammar.TheVariants.{Arithmetic}
 use Rattle.expression_grammar.specs.declared.fault.SyntaxFault.{SyntaxFault}
+use Rattle.expression_grammar.specs.declared.fault.SyntaxFault.TheVariants.{At, OutOfMemory}
+use Rattle.expression_grammar.specs.declared.front.Front.{Front}
 use Rattle.expression_grammar.specs.declared.tree.Expr.{Expr}
+use Rattle.expression_grammar.specs.declared.tree.Reference.TheVariants.{Value}
 use Rattle.expression_grammar.specs.Answers.{IsFault}
-use Rattle.expression_grammar.specs.Trees.{Tree}
+use Rattle.expression_grammar.specs.Fronts.{IsClosed as IsClosedBy, IsFirst, IsFrontFault as IsFrontFaultOf, IsReach as IsReachOf, IsVariableClosed}
+use Rattle.expression_grammar.specs.Readings.{variable_only}
+use Rattle.expression_grammar.specs.Trees.{Tree, Variable as VariableTree}
 use Rattle.expression_grammar.specs.Views.{tree_of}
 use Rattle.expression_grammar.specs.Spelling.{IsExpression, IsAt, Spells, most_parts}
-use Rattle.expression_grammar.specs.declared.character.Grammar.{Grammar}
-use Rattle.std.proofs.lemmas.Bool.{true≢false, cases_Bool, ltb-true, ltb-false}
+use Rattle.logical_grammar.specs.Logics.{SpellsLogic}
 use Rattle.conditional_fields.specs.declared.front.Sought.{Sought}
 use Rattle.conditional_fields.specs.declared.front.Sought.TheVariants.{Number, Condition, Variable}
-use Rattle.conditional_fields.specs.Fronts.{IsSought, IsClosed, Written, accepts, extent, IsReach}
+use Rattle.conditional_fields.specs.Fronts.{IsSought, IsFirstClosed, Written, accepts, is_variable, IsReach}
+use Rattle.conditional_fields.specs.Tries.{IsFrontFault}
 
 -- how a text is read that is sought, whatever it is
 pub read_as : (sought known : Sought) (text : List ℕ) (r : Result Expr SyntaxFault) → sought ≡ known →
@@ -24,18 +28,6 @@ pub read_as : (sought known : Sought) (text : List ℕ) (r : Result Expr SyntaxF
     MatchResult r (λ e. IsExpression (Written sought) most_parts text (tree_of e)) (IsFault (Written sought) text)
 read_as sought known text r is read =
     subst (λ (s : Sought). MatchResult r (λ e. IsExpression (Written s) most_parts text (tree_of e)) (IsFault (Written s) text)) (sym is) read
-
--- where an expression goes no further than a place within a text, no longer text that begins with it is one
-pub never_longer : (sought : Sought) (text : List ℕ) (count : ℕ) → IsAt (Written sought) most_parts text count → count < length text → (rest : List ℕ) (tree : Tree) → IsSought sought (text ++ rest) tree → ⊥
-never_longer sought text count at short rest tree s =
-    let seam : text ++ rest ≡ take (count + 1) text ++ (drop (count + 1) text ++ rest) =
-    ap (λ front. front ++ rest) (sym (take-append-drop (count + 1) text)) ∙ append_assoc (take (count + 1) text) (drop (count + 1) text) rest in
-    at.longest (count + 1) (omega arith) (omega arith)
-    (record {
-      rest = drop (count + 1) text ++ rest;
-      tree = tree;
-      expression = subst (λ (whole : List ℕ). IsExpression (Written sought) most_parts whole tree) seam s.expression;
-    })
 
 -- a text whose one tree is not accepted is not what is sought
 pub other_tree : (sought : Sought) (text : List ℕ) (tree : Tree) → IsExpression (Written sought) most_parts text tree → accepts sought tree ≡ false →
@@ -62,57 +54,65 @@ whole_reach sought text tree e = record {
 pub at_reach : (sought : Sought) (text : List ℕ) (count : ℕ) → IsAt (Written sought) most_parts text count → IsReach sought text count
 at_reach sought text count at = record { within = at.within; viable = at.viable; longest = at.longest }
 
--- ---- where what is sought may end
+-- a text that goes wrong somewhere is not what is sought
+pub faulty_text : (sought : Sought) (text : List ℕ) (count : ℕ) → IsAt (Written sought) most_parts text count → (tree : Tree) → IsSought sought text tree → ⊥
+faulty_text sought text count at tree s = at.none tree s.expression
 
-extent-le : (sought : Sought) (j k : ℕ) → j ≤ k → extent sought j ≤ extent sought k
-extent-le Number j k h = h
-extent-le Condition j k h = h
-extent-le Variable j k h = omega arith
+-- Fronts, by what is read.
 
--- it does not end at a character that is no closing parenthesis
-pub not_closing : (sought : Sought) (text : List ℕ) (before c : ℕ) → before < length text → c ≡ get_or text before c → (c ≡ 41 → ⊥) → (tree : Tree) → IsClosed sought text before tree → ⊥
-not_closing sought text before c within here other tree closed = other (here ∙ get_or_default_zero text before c within ∙ closed.closes)
+pub variable_is : (tree : Tree) → is_some (variable_only (Some tree)) ≡ is_variable tree
+variable_is (VariableTree Value symbol subscripts) = refl
+variable_is _ = refl
 
--- nor behind a part that is not what is sought
-pub not_sought : (sought : Sought) (text part : List ℕ) (before : ℕ) → part ≡ take (extent sought before) text → ((tree : Tree) → IsSought sought part tree → ⊥) → (tree : Tree) → IsClosed sought text before tree → ⊥
-not_sought sought text part before same none tree closed = none tree (subst (λ (front : List ℕ). IsSought sought front tree) (sym same) closed.within)
-
-pub is_closed : (sought : Sought) (text part : List ℕ) (before c : ℕ) (tree : Tree) → before < length text → c ≡ get_or text before c → c ≡ 41 → part ≡ take (extent sought before) text → IsSought sought part tree → IsClosed sought text before tree
-is_closed sought text part before c tree within here closes same s = record {
-  closes = sym (get_or_default_zero text before c within) ∙ sym here ∙ closes;
-  within = subst (λ (front : List ℕ). IsSought sought front tree) same s;
+number-first : (text : List ℕ) (before : ℕ) (tree : Tree) → IsFirst (IsClosedBy (Spells Arithmetic) text) before tree → IsFirstClosed Number text before tree
+number-first text before tree f = record {
+  closed = record { closes = f.here.closes; within = record { expression = f.here.within; accepted = refl } };
+  first = λ earlier other less closed. f.first earlier other less (record { closes = closed.closes; within = closed.within.expression });
 }
 
--- nor anywhere further on, where no longer text is what is sought
-pub never_further : (sought : Sought) (text part : List ℕ) (before : ℕ) → part ≡ take (extent sought before) text → ((rest : List ℕ) (tree : Tree) → IsSought sought (part ++ rest) tree → ⊥) →
-    (later : ℕ) (tree : Tree) → before ≤ later → IsClosed sought text later tree → ⊥
-never_further sought text part before same none later tree h closed =
-    let n = extent sought before in
-    let m = extent sought later in
-    let seam : take m text ≡ part ++ drop n (take m text) =
-    sym (take-append-drop n (take m text)) ∙ ap (λ front. front ++ drop n (take m text)) (take-take n m text (extent-le sought before later h) ∙ sym same) in
-    none (drop n (take m text)) tree (subst (λ (front : List ℕ). IsSought sought front tree) seam closed.within)
+condition-first : (text : List ℕ) (before : ℕ) (tree : Tree) → IsFirst (IsClosedBy SpellsLogic text) before tree → IsFirstClosed Condition text before tree
+condition-first text before tree f = record {
+  closed = record { closes = f.here.closes; within = record { expression = f.here.within; accepted = refl } };
+  first = λ earlier other less closed. f.first earlier other less (record { closes = closed.closes; within = closed.within.expression });
+}
 
--- nor past the end
-pub past_end : (sought : Sought) (text : List ℕ) (before : ℕ) (tree : Tree) → length text ≤ before → IsClosed sought text before tree → ⊥
-past_end sought text before tree h closed = let none : get_or text before 0 ≡ 0 = get_or_past text before 0 h in let some : get_or text before 0 ≡ 41 = closed.closes in absurd (omega arith)
+value-accepted : (tree : Tree) → variable_only (Some tree) ≡ Some tree → is_variable tree ≡ true
+value-accepted (VariableTree Value symbol subscripts) e = refl
+value-accepted _ e = absurd (let x = e in cc)
 
--- so far and here, so up to the next
-pub none_more : (sought : Sought) (text : List ℕ) (before next : ℕ) → next ≡ before + 1 → ((earlier : ℕ) (tree : Tree) → earlier < before → IsClosed sought text earlier tree → ⊥) →
-    ((tree : Tree) → IsClosed sought text before tree → ⊥) → (earlier : ℕ) (tree : Tree) → earlier < next → IsClosed sought text earlier tree → ⊥
-none_more sought text before next e so_far here earlier tree below closed = elim (eq-or-lt_of_le {n = earlier} {m = before} (omega arith)) [
-  | inl same ↦ here tree (subst (λ (k : ℕ). IsClosed sought text k tree) same closed)
-  | inr less ↦ so_far earlier tree less closed
-]
+accepted-value : (tree : Tree) → is_variable tree ≡ true → variable_only (Some tree) ≡ Some tree
+accepted-value (VariableTree Value symbol subscripts) e = refl
+accepted-value _ e = absurd (let x = e in cc)
 
--- so far and from here on, so nowhere
-pub none_at_all : (sought : Sought) (text : List ℕ) (before : ℕ) → ((earlier : ℕ) (tree : Tree) → earlier < before → IsClosed sought text earlier tree → ⊥) →
-    ((later : ℕ) (tree : Tree) → before ≤ later → IsClosed sought text later tree → ⊥) → (k : ℕ) (tree : Tree) → IsClosed sought text k tree → ⊥
-none_at_all sought text before so_far further k tree closed = elim (cases_Bool (nat_lt k before)) [
-  | inl less ↦ so_far k tree (ltb-true k before less) closed
-  | inr more ↦ further k tree (ltb-false k before more) closed
-]
+variable-first : (text : List ℕ) (before : ℕ) (tree : Tree) → IsFirst (IsVariableClosed text) before tree → IsFirstClosed Variable text before tree
+variable-first text before tree f = record {
+  closed = record { closes = f.here.closes; within = record { expression = f.here.within; accepted = value-accepted tree f.here.value } };
+  first = λ earlier other less closed. f.first earlier other less (record { closes = closed.closes; within = closed.within.expression; value = accepted-value other closed.within.accepted });
+}
 
--- never with more is not so now
-pub never_now : (sought : Sought) (text : List ℕ) → ((rest : List ℕ) (tree : Tree) → IsSought sought (text ++ rest) tree → ⊥) → (tree : Tree) → IsSought sought text tree → ⊥
-never_now sought text never tree s = never [] tree (subst (λ (front : List ℕ). IsSought sought front tree) (sym (append-nil text)) s)
+same-reach : (sought : Sought) (text : List ℕ) (count : ℕ) → IsReachOf (Written sought) text count → IsReach sought text count
+same-reach sought text count r = record { within = r.within; viable = r.viable; longest = r.longest }
+
+pub number_front : (sought : Sought) (text : List ℕ) (r : Result Front SyntaxFault) → sought ≡ Number →
+    MatchResult r (λ f. IsFirst (IsClosedBy (Spells Arithmetic) text) f.before (tree_of f.tree)) (IsFrontFaultOf (Spells Arithmetic) (IsClosedBy (Spells Arithmetic) text) text) →
+    MatchResult r (λ f. IsFirstClosed sought text f.before (tree_of f.tree)) (IsFrontFault sought text)
+number_front sought text (Ok f) is m = subst (λ (s : Sought). IsFirstClosed s text f.before (tree_of f.tree)) (sym is) (number-first text f.before (tree_of f.tree) m)
+number_front sought text (Err (At count)) is m = subst (λ (s : Sought). IsFrontFault s text (At count)) (sym is)
+    (λ before tree closed. m.never before tree (record { closes = closed.closes; within = closed.within.expression }), same-reach Number text count m.reach)
+number_front sought text (Err OutOfMemory) is m = tt
+
+pub condition_front : (sought : Sought) (text : List ℕ) (r : Result Front SyntaxFault) → sought ≡ Condition →
+    MatchResult r (λ f. IsFirst (IsClosedBy SpellsLogic text) f.before (tree_of f.tree)) (IsFrontFaultOf SpellsLogic (IsClosedBy SpellsLogic text) text) →
+    MatchResult r (λ f. IsFirstClosed sought text f.before (tree_of f.tree)) (IsFrontFault sought text)
+condition_front sought text (Ok f) is m = subst (λ (s : Sought). IsFirstClosed s text f.before (tree_of f.tree)) (sym is) (condition-first text f.before (tree_of f.tree) m)
+condition_front sought text (Err (At count)) is m = subst (λ (s : Sought). IsFrontFault s text (At count)) (sym is)
+    (λ before tree closed. m.never before tree (record { closes = closed.closes; within = closed.within.expression }), same-reach Condition text count m.reach)
+condition_front sought text (Err OutOfMemory) is m = tt
+
+pub variable_front : (sought : Sought) (text : List ℕ) (r : Result Front SyntaxFault) → sought ≡ Variable →
+    MatchResult r (λ f. IsFirst (IsVariableClosed text) f.before (tree_of f.tree)) (IsFrontFaultOf (Spells Arithmetic) (IsVariableClosed text) text) →
+    MatchResult r (λ f. IsFirstClosed sought text f.before (tree_of f.tree)) (IsFrontFault sought text)
+variable_front sought text (Ok f) is m = subst (λ (s : Sought). IsFirstClosed s text f.before (tree_of f.tree)) (sym is) (variable-first text f.before (tree_of f.tree) m)
+variable_front sought text (Err (At count)) is m = subst (λ (s : Sought). IsFrontFault s text (At count)) (sym is)
+    (λ before tree closed. m.never before tree (record { closes = closed.closes; within = closed.within.expression; value = accepted-value tree closed.within.accepted }), same-reach Variable text count m.reach)
+variable_front sought text (Err OutOfMemory) is m = tt

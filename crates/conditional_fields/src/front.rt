@@ -5,13 +5,16 @@ ghost use Rattle.expression_grammar.specs.Answers.{IsFault};
 ghost use Rattle.expression_grammar.specs.Spelling.{IsExpression, most_parts};
 ghost use Rattle.expression_grammar.specs.Views.{tree_of};
 ghost use Rattle.conditional_fields.specs.Fronts as fronts;
-ghost use Rattle.conditional_fields.specs.Tries.{IsTried, IsFront};
+ghost use Rattle.conditional_fields.specs.Tries.{IsTried, IsFront, IsFrontFault};
 
-use crate::character::{character_count, short_count};
+use crate::character::short_count;
+pub(crate) use expression_grammar::Front;
+use expression_grammar::front::is_variable;
 use expression_grammar::laws::one_tree;
+use expression_grammar::{parse_front, parse_variable};
 use hl_base::OutOfMemory;
-use hlasm_statements::split_columns;
-use operand_grammar::{Expr, Reference, SyntaxFault, parse_arith, parse_logic};
+use logical_grammar::parse_logic_front;
+use operand_grammar::{Expr, Grammar, SyntaxFault, parse_arith, parse_logic};
 use std::alloc::Global;
 
 /// What a text is to begin with.
@@ -25,66 +28,15 @@ pub enum Sought {
     Variable,
 }
 
-/// What a text begins with, and how many characters stand before the closing parenthesis at which it ends.
-#[derive(Drop)]
-pub(crate) struct Front {
-    pub(crate) tree: Expr,
-    pub(crate) before: usize,
-}
-
-/// What is found of a text.
-#[derive(Drop)]
-pub(crate) enum Tried {
-    /// It is what is sought.
-    Is(Expr),
-    /// It is not.
-    Not,
-    /// It is not, and no longer text that begins with it is.
-    Never,
-}
-
-/// Whether an expression is the value of a variable symbol.
-fn is_variable(tree: &Expr) -> bool
-    ensures { result ≡ fronts.is_variable (tree_of tree.now) }
-{
-    match tree {
-        Expr::Variable(Reference::Value, _, _) => true,
-        Expr::Variable(Reference::Of(_), _, _)
-        | Expr::Number(_, _)
-        | Expr::Here
-        | Expr::Symbol(_, _)
-        | Expr::Signed(_, _)
-        | Expr::Pair(_, _, _)
-        | Expr::Paren(_)
-        | Expr::Not(_)
-        | Expr::Compared(_, _, _)
-        | Expr::Quoted(_)
-        | Expr::Duplicated(_, _)
-        | Expr::Substring(_, _, _)
-        | Expr::SubstringToEnd(_, _)
-        | Expr::Joined(_, _) => false,
-    }
-}
-
 impl Sought {
     /// Whether an expression is what is sought.
+    #[tactic(auto, using(crate::proofs::FrontLaws::variable_is))]
     fn accepts(self, tree: &Expr) -> bool
         ensures { result ≡ fronts.accepts self (tree_of tree.now) }
     {
         match self {
             Sought::Number | Sought::Condition => true,
             Sought::Variable => is_variable(tree),
-        }
-    }
-
-    /// How many characters there are of what ends at a closing parenthesis behind so many others, `None` where a `usize`
-    /// does not count them.
-    fn extent(self, before: usize) -> Result<usize, OutOfMemory>
-        ensures { IfOk result (λ n. n ≡ fronts.extent self before) }
-    {
-        match self {
-            Sought::Number | Sought::Condition => Ok(before),
-            Sought::Variable => before.checked_add(1).ok_or(OutOfMemory),
         }
     }
 }
@@ -100,24 +52,34 @@ fn parse(alloc: Global, sought: Sought, text: &str) -> Result<Expr, SyntaxFault>
 }
 
 /// Whether a text is what is sought.
-pub(crate) fn attempt(alloc: Global, sought: Sought, text: &str) -> Result<Tried, OutOfMemory>
+pub(crate) fn attempt(
+    alloc: Global,
+    sought: Sought,
+    text: &str,
+) -> Result<Option<Expr>, OutOfMemory>
     ensures { IfOk result (IsTried sought (chars text.now)) }
 {
     match parse(alloc, sought, text) {
         Ok(tree) => {
             one_tree();
             if sought.accepts(&tree) {
-                return Ok(Tried::Is(tree));
+                return Ok(Some(tree));
             }
-            Ok(Tried::Not)
+            Ok(None)
         }
-        Err(SyntaxFault::At(count)) => {
-            if (count as usize) < character_count(text) {
-                return Ok(Tried::Never);
-            }
-            Ok(Tried::Not)
-        }
+        Err(SyntaxFault::At(_count)) => Ok(None),
         Err(SyntaxFault::OutOfMemory) => Err(OutOfMemory),
+    }
+}
+
+/// What a text begins with, of what is sought. `At` where it begins with nothing of it: how far it goes.
+fn read_front(alloc: Global, sought: Sought, text: &str) -> Result<Front, SyntaxFault>
+    ensures { MatchResult result (λ f. fronts.IsFirstClosed sought (chars text.now) f.before (tree_of f.tree)) (IsFrontFault sought (chars text.now)) }
+{
+    match sought {
+        Sought::Number => parse_front(alloc, Grammar::Arithmetic, text),
+        Sought::Condition => parse_logic_front(alloc, text),
+        Sought::Variable => parse_variable(alloc, text),
     }
 }
 
@@ -129,19 +91,11 @@ pub(crate) fn begins_with_sought(
 ) -> Result<Option<Front>, OutOfMemory>
     ensures { IfOk result (IsFront sought (chars text.now)) }
 {
-    let mut before: usize = 0;
-    for c in text.chars() {
-        if c == ')' {
-            let (part, _behind) = split_columns(text, sought.extent(before)?);
-            match attempt(alloc, sought, part)? {
-                Tried::Is(tree) => return Ok(Some(Front { tree, before })),
-                Tried::Not => {}
-                Tried::Never => return Ok(None),
-            }
-        }
-        before = before.checked_add(1).ok_or(OutOfMemory)?;
+    match read_front(alloc, sought, text) {
+        Ok(found) => Ok(Some(found)),
+        Err(SyntaxFault::At(_)) => Ok(None),
+        Err(SyntaxFault::OutOfMemory) => Err(OutOfMemory),
     }
-    Ok(None)
 }
 
 /// How many characters of a text some expression begins with that is written as what is sought.

@@ -7,7 +7,7 @@ ghost use Rattle.conditional_fields.specs.Templates as templates;
 use crate::character::{
     begins_with, begins_with_letter, behind, character_count, head, is_nothing, letter_count,
 };
-use crate::front::{Sought, Tried, attempt, begins_with_sought, reach};
+use crate::front::{Sought, attempt, begins_with_sought, reach};
 use hl_base::{OutOfMemory, Text};
 use hlasm_statements::split_columns;
 use operand_grammar::{Expr, SyntaxFault};
@@ -100,9 +100,8 @@ fn bare(alloc: Global, text: &str, length: usize) -> Result<Option<Found>, OutOf
 {
     let (symbol, _behind) = split_columns(text, length);
     match attempt(alloc, Sought::Variable, symbol)? {
-        Tried::Is(tree) => Ok(Some(Found { tree, length })),
-        Tried::Not => Ok(None),
-        Tried::Never => Ok(None),
+        Some(tree) => Ok(Some(Found { tree, length })),
+        None => Ok(None),
     }
 }
 

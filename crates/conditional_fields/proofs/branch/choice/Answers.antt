@@ -1,7 +1,7 @@
 use Rattle.std.proofs.Common.{ℕ, List, subst}
 use Rattle.std.specs.Prelude.{Option}
 use Rattle.std.specs.Str.{chars}
-use Rattle.conditional_fields.specs.declared.front.Front.{Front}
+use Rattle.expression_grammar.specs.declared.front.Front.{Front}
 use Rattle.conditional_fields.specs.Branches.{IsReachFault}
 use Rattle.conditional_fields.specs.Fronts.{IsNeverClosed}
 use Rattle.conditional_fields.specs.Tries.{IsFront}
