@@ -2,7 +2,7 @@
 use crate::surroundings::Surroundings;
 use crate::values::{key, noted, value};
 use cond_expr::Stop;
-use conditional_asm::{Act, assign, effect, end, generate, go, limit_branches};
+use conditional_asm::{Act, assign, effect, end, generate, go, go_if, limit_branches};
 use hl_base::{Declaration, Name, Notes, OutOfMemory, SetKind, SetValue, Text};
 use hlasm_statements::read_statements;
 use std::alloc::{AllocError, Global};
@@ -97,6 +97,7 @@ fn stopped(
         "SETB" => assign(alloc, SetKind::B, label, field, among, notes),
         "SETC" => assign(alloc, SetKind::C, label, field, among, notes),
         "AGO" => go(alloc, field, among, notes),
+        "AIF" => go_if(alloc, field, among, notes),
         "ACTR" => limit_branches(alloc, field, among, notes),
         _ => written(alloc, among, operation, label, field, notes),
     }
