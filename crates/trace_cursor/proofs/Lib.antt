@@ -1,0 +1,3 @@
+pub mod WeaveLemmas
+pub mod SearchLemmas
+pub mod StepLemmas
