@@ -1,16 +1,42 @@
 #!/bin/sh
-# Compares every table of this folder, or those that are named, with what the program case_tables answers, as rt ci built it.
+# Compares every table of this folder, or those that are named, with what the programs answer, as rt ci built them. Each
+# program has the words of its tables below; a table that no program has fails.
 cd "$(dirname "$0")" || exit 1
-program=../../crates/case_tables/out/case_tables
-if [ ! -x "$program" ]; then
-    echo "tests/cases: $program is not built: run rt run in crates/case_tables, or rt ci"
-    exit 1
-fi
+
+# The program that compares a table.
+program_of() {
+    case $1 in
+        json | json_bytes | members | messages | parameters | responses | ids | bodies) echo message_cases ;;
+        frames | pieces | written_frames) echo text_cases ;;
+        statements | fields | places) echo text_cases ;;
+        changes | columns | positions | store) echo text_cases ;;
+        arithmetic_trees | ordinary_trees | character_trees | logical_trees) echo expression_cases ;;
+        numbers | truths | texts | note_texts) echo expression_cases ;;
+        declarations | branches | templates | field_ends | operations | effects) echo statement_cases ;;
+    esac
+}
+
+# Compares one table.
+compare() {
+    name=$(program_of "$1")
+    if [ -z "$name" ]; then
+        echo "$1: no program compares this table"
+        return 1
+    fi
+    program=../../crates/$name/out/$name
+    if [ ! -x "$program" ]; then
+        echo "$1: $program is not built: run rt run in crates/$name, or rt ci"
+        return 1
+    fi
+    found=$("$program" "$1" < "$1.txt")
+    status=$?
+    echo "$found" | sed "s/^/$1: /"
+    return $status
+}
+
 if [ $# -eq 0 ]; then set -- *.txt; fi
 status=0
 for file in "$@"; do
-    table=$(basename "$file" .txt)
-    if ! found=$("$program" "$table" < "$table.txt"); then status=1; fi
-    echo "$found" | sed "s/^/$table: /"
+    compare "$(basename "$file" .txt)" || status=1
 done
 exit $status

@@ -23,6 +23,3 @@ pub use branch::{Goto, Selector, ago};
 pub use declaration::declarations;
 pub use ending::ended;
 pub use template::{Piece, Template};
-
-#[cfg(test)]
-mod tests;

@@ -28,6 +28,3 @@ pub use laws::{columns_are_found_again, positions_are_found_again};
 pub use limits::MOST_DOCUMENTS;
 pub use place::{column, position};
 pub use store::{DocumentStore, documents_own_their_texts};
-
-#[cfg(test)]
-mod tests;

@@ -23,6 +23,3 @@ pub use column::split_columns;
 pub use fault::{ColumnFault, Faults};
 pub use quotes::ends_quoted;
 pub use statement::{Field, Shape, Statement, Statements, read_statements};
-
-#[cfg(test)]
-mod tests;

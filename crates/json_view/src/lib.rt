@@ -18,6 +18,3 @@ pub use members::{
     opt_object, opt_text, opt_uint,
 };
 pub use texts::{ParseFault, compact, parse};
-
-#[cfg(test)]
-mod tests;

@@ -20,6 +20,3 @@ pub use incoming::{Head, Id, LspIn, Refusal};
 pub use outgoing::{Diagnostic, Diagnostics, LspOut, Relation, Relations, Span};
 pub use reading::{is_response, read_lsp};
 pub use writing::initialize_result;
-
-#[cfg(test)]
-mod tests;

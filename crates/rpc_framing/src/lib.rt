@@ -19,6 +19,3 @@ pub use fault::FrameFault;
 pub use place::Departure;
 pub use reader::FrameReader;
 pub use writer::write_frame;
-
-#[cfg(test)]
-mod tests;

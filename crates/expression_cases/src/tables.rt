@@ -1,0 +1,89 @@
+//! The tables by their words.
+use crate::{evaluations, trees};
+use case_lines::CaseTable;
+use case_words::Surroundings;
+use hl_base::OutOfMemory;
+use operand_grammar::{parse_arith, parse_char, parse_logic, parse_ordinary};
+use std::alloc::Global;
+
+/// What a table's cases ask.
+#[derive(Clone, Copy, Drop)]
+pub enum Table {
+    ArithmeticTrees,
+    OrdinaryTrees,
+    CharacterTrees,
+    LogicalTrees,
+    Numbers,
+    Truths,
+    Texts,
+    NoteTexts,
+}
+
+/// What is answered where the fields are not those of the table.
+fn other_fields(alloc: Global) -> Result<String, OutOfMemory> {
+    Ok(String::from_str(alloc, "of other fields than the table's")?)
+}
+
+/// What is answered to one text.
+fn answer_of_text(alloc: Global, table: Table, text: &str) -> Result<String, OutOfMemory> {
+    match table {
+        Table::ArithmeticTrees => trees::answer(alloc, parse_arith(alloc, text)),
+        Table::OrdinaryTrees => trees::answer(alloc, parse_ordinary(alloc, text)),
+        Table::CharacterTrees => trees::answer(alloc, parse_char(alloc, text)),
+        Table::LogicalTrees => trees::answer(alloc, parse_logic(alloc, text)),
+        _ => answer_among(alloc, table, &mut Surroundings::nothing(), text),
+    }
+}
+
+/// What is answered to a text among what surrounds it.
+fn answer_among(
+    alloc: Global,
+    table: Table,
+    among: &mut Surroundings,
+    text: &str,
+) -> Result<String, OutOfMemory> {
+    match table {
+        Table::Numbers => evaluations::number(alloc, text, among),
+        Table::Truths => evaluations::truth(alloc, text, among),
+        Table::Texts => evaluations::text(alloc, text, among),
+        Table::NoteTexts => evaluations::note_texts(alloc, text, among),
+        _ => other_fields(alloc),
+    }
+}
+
+/// What is answered to a text among what is worded so.
+fn answer_worded(
+    alloc: Global,
+    table: Table,
+    words: &str,
+    text: &str,
+) -> Result<String, OutOfMemory> {
+    match Surroundings::read(alloc, words)? {
+        Some(mut among) => answer_among(alloc, table, &mut among, text),
+        None => other_fields(alloc),
+    }
+}
+
+impl CaseTable for Table {
+    fn named(word: &str) -> Option<Table> {
+        match word {
+            "arithmetic_trees" => Some(Table::ArithmeticTrees),
+            "ordinary_trees" => Some(Table::OrdinaryTrees),
+            "character_trees" => Some(Table::CharacterTrees),
+            "logical_trees" => Some(Table::LogicalTrees),
+            "numbers" => Some(Table::Numbers),
+            "truths" => Some(Table::Truths),
+            "texts" => Some(Table::Texts),
+            "note_texts" => Some(Table::NoteTexts),
+            _ => None,
+        }
+    }
+
+    fn answer(&self, alloc: Global, fields: &[String]) -> Result<String, OutOfMemory> {
+        match fields {
+            [text] => answer_of_text(alloc, *self, text.as_str()),
+            [words, text] => answer_worded(alloc, *self, words.as_str(), text.as_str()),
+            _ => other_fields(alloc),
+        }
+    }
+}

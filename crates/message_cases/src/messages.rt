@@ -1,0 +1,162 @@
+//! What is read, in words.
+use crate::json::{no_json, value};
+use hl_base::{Edit, OutOfMemory, Position, Text};
+use lsp_messages::{Head, Id, LspIn, Refusal, is_response, read_lsp};
+use std::alloc::{AllocError, Global};
+
+/// An id in words: a text in quotes.
+fn id(alloc: Global, id: &Id) -> Result<String, AllocError> {
+    match id {
+        Id::Number(number) => format!(in alloc; "{number}"),
+        Id::Words(words) => format!(in alloc; "'{}'", words.as_str()),
+    }
+}
+
+/// The id that is worded so.
+pub fn id_worded(alloc: Global, words: &str) -> Result<Id, OutOfMemory> {
+    match words.strip_prefix("'") {
+        Some(text) => Ok(Id::Words(Text::of(alloc, text.strip_suffix("'").unwrap_or(text))?)),
+        None => Ok(Id::Number(words.parse::<i32>().unwrap_or(0))),
+    }
+}
+
+/// A copy of the id that is worded so.
+pub fn copied(alloc: Global, words: &str) -> Result<String, OutOfMemory> {
+    let copy = id_worded(alloc, words)?.copy(alloc)?;
+    Ok(id(alloc, &copy)?)
+}
+
+/// A head in words: the method, and the id if there is one.
+fn head(alloc: Global, head: &Head) -> Result<String, AllocError> {
+    let method = head.method.as_str();
+    match &head.id {
+        None => String::from_str(alloc, method),
+        Some(it) => {
+            let it = id(alloc, it)?;
+            format!(in alloc; "{method} {it}")
+        }
+    }
+}
+
+fn place(alloc: Global, place: Option<Position>) -> Result<String, AllocError> {
+    match place {
+        None => String::from_str(alloc, "*"),
+        Some(place) => format!(in alloc; "{}.{}", place.line, place.character),
+    }
+}
+
+fn edit(alloc: Global, edit: &Edit) -> Result<String, AllocError> {
+    let (from, to) = (place(alloc, edit.from)?, place(alloc, edit.to)?);
+    format!(in alloc; " {from}-{to}'{}'", edit.text.as_str())
+}
+
+fn change(alloc: Global, uri: &Text, version: i32, edits: &[Edit]) -> Result<String, AllocError> {
+    let mut words = format!(in alloc; "change {} {version}", uri.as_str())?;
+    for one in edits {
+        words.push_str(edit(alloc, one)?.as_str())?;
+    }
+    Ok(words)
+}
+
+fn initialize(alloc: Global, request: &Id, root: &Option<Text>) -> Result<String, AllocError> {
+    let request = id(alloc, request)?;
+    let root = match root {
+        None => "-",
+        Some(root) => root.as_str(),
+    };
+    format!(in alloc; "initialize {request} {root}")
+}
+
+fn shutdown(alloc: Global, request: &Id) -> Result<String, AllocError> {
+    let request = id(alloc, request)?;
+    format!(in alloc; "shutdown {request}")
+}
+
+fn open(
+    alloc: Global,
+    uri: &Text,
+    language: &Text,
+    version: i32,
+    text: &Text,
+) -> Result<String, AllocError> {
+    let (uri, language, text) = (uri.as_str(), language.as_str(), text.as_str());
+    format!(in alloc; "open {uri} {language} {version} '{text}'")
+}
+
+/// A message in words.
+fn message(alloc: Global, message: &LspIn) -> Result<String, AllocError> {
+    match message {
+        LspIn::Initialize { id, root } => initialize(alloc, id, root),
+        LspIn::Shutdown { id } => shutdown(alloc, id),
+        LspIn::Initialized => String::from_str(alloc, "initialized"),
+        LspIn::Exit => String::from_str(alloc, "exit"),
+        LspIn::DidOpen {
+            uri,
+            language,
+            version,
+            text,
+        } => open(alloc, uri, language, *version, text),
+        LspIn::DidChange {
+            uri,
+            version,
+            edits,
+        } => change(alloc, uri, *version, edits.as_slice()),
+        LspIn::DidClose { uri } => format!(in alloc; "close {}", uri.as_str()),
+        LspIn::DidSave => String::from_str(alloc, "save"),
+        LspIn::DidChangeConfiguration => String::from_str(alloc, "configuration"),
+    }
+}
+
+fn unknown_method(alloc: Global, of: &Head) -> Result<String, AllocError> {
+    let of = head(alloc, of)?;
+    format!(in alloc; "{of}: UnknownMethod")
+}
+
+fn bad_params(alloc: Global, of: &Head, name: &Text) -> Result<String, AllocError> {
+    let of = head(alloc, of)?;
+    format!(in alloc; "{of}: BadParams({})", name.as_str())
+}
+
+/// A refusal in words.
+fn refusal(alloc: Global, refusal: &Refusal) -> Result<String, OutOfMemory> {
+    match refusal {
+        Refusal::NotRequest => Ok(String::from_str(alloc, "NotRequest")?),
+        Refusal::UnknownMethod(head) => Ok(unknown_method(alloc, head)?),
+        Refusal::BadParams(head, name) => Ok(bad_params(alloc, head, name)?),
+        Refusal::OutOfMemory => Err(OutOfMemory),
+    }
+}
+
+/// The message that a body is.
+pub fn read(alloc: Global, body: &str) -> Result<String, OutOfMemory> {
+    match value(alloc, body.as_bytes())? {
+        Some(value) => match read_lsp(alloc, &value) {
+            Ok(read) => Ok(message(alloc, &read)?),
+            Err(refused) => refusal(alloc, &refused),
+        },
+        None => no_json(alloc),
+    }
+}
+
+/// The body of a message: `initialize` is a request, any other method a notification.
+fn body(alloc: Global, method: &str, params: &str) -> Result<String, AllocError> {
+    let id = if method == "initialize" {
+        "\"id\":5,"
+    } else {
+        ""
+    };
+    format!(in alloc; "{{{id}\"jsonrpc\":\"2.0\",\"method\":\"{method}\",\"params\":{params}}}")
+}
+
+/// The message of these parameters.
+pub fn of_parameters(alloc: Global, method: &str, params: &str) -> Result<String, OutOfMemory> {
+    read(alloc, body(alloc, method, params)?.as_str())
+}
+
+/// Whether a body answers a request of ours.
+pub fn is_answer(alloc: Global, body: &str) -> Result<String, OutOfMemory> {
+    match value(alloc, body.as_bytes())? {
+        Some(value) => Ok(format!(in alloc; "{}", is_response(&value))?),
+        None => no_json(alloc),
+    }
+}

@@ -1,0 +1,78 @@
+//! The tables by their words.
+use crate::{bodies, json, members, messages};
+use case_lines::CaseTable;
+use hl_base::OutOfMemory;
+use std::alloc::Global;
+
+/// What a table's cases ask.
+#[derive(Clone, Copy, Drop)]
+pub enum Table {
+    /// Texts, read as JSON and written again.
+    Json,
+
+    /// The same of bytes.
+    JsonBytes,
+
+    /// The member `x` of a value.
+    Members,
+
+    /// Bodies, read as messages.
+    Messages,
+
+    /// Methods and parameters, read as messages.
+    Parameters,
+
+    /// Bodies that answer a request of ours, and others.
+    Responses,
+
+    /// Ids, copied.
+    Ids,
+
+    /// Messages that are written.
+    Bodies,
+}
+
+/// What is answered where the fields are not those of the table.
+fn other_fields(alloc: Global) -> Result<String, OutOfMemory> {
+    Ok(String::from_str(alloc, "of other fields than the table's")?)
+}
+
+/// What is answered to one text.
+fn answer_of_text(alloc: Global, table: Table, text: &str) -> Result<String, OutOfMemory> {
+    match table {
+        Table::Json => json::written(alloc, text.as_bytes()),
+        Table::JsonBytes => json::written_bytes(alloc, text),
+        Table::Members => members::answers(alloc, text),
+        Table::Messages => messages::read(alloc, text),
+        Table::Responses => messages::is_answer(alloc, text),
+        Table::Ids => messages::copied(alloc, text),
+        Table::Parameters | Table::Bodies => other_fields(alloc),
+    }
+}
+
+impl CaseTable for Table {
+    fn named(word: &str) -> Option<Table> {
+        match word {
+            "json" => Some(Table::Json),
+            "json_bytes" => Some(Table::JsonBytes),
+            "members" => Some(Table::Members),
+            "messages" => Some(Table::Messages),
+            "parameters" => Some(Table::Parameters),
+            "responses" => Some(Table::Responses),
+            "ids" => Some(Table::Ids),
+            "bodies" => Some(Table::Bodies),
+            _ => None,
+        }
+    }
+
+    fn answer(&self, alloc: Global, fields: &[String]) -> Result<String, OutOfMemory> {
+        match (*self, fields) {
+            (Table::Bodies, [kind, rest @ ..]) => bodies::body(alloc, kind.as_str(), rest),
+            (Table::Parameters, [method, params]) => {
+                messages::of_parameters(alloc, method.as_str(), params.as_str())
+            }
+            (table, [text]) => answer_of_text(alloc, table, text.as_str()),
+            _ => other_fields(alloc),
+        }
+    }
+}

@@ -1,0 +1,120 @@
+//! Calls of a store of documents, and what each answers.
+use crate::changes::{edits_worded, refusal};
+use document_store::{DocumentStore, MemberText, StoreFault};
+use hl_base::{Edits, OutOfMemory};
+use std::alloc::Global;
+
+/// What stands before the first blank, and what stands behind it.
+fn cut(words: &str) -> (&str, &str) {
+    words.split_once(' ').unwrap_or((words, ""))
+}
+
+/// What a call answers that only succeeds or is refused.
+fn told(alloc: Global, answer: Result<(), StoreFault>) -> Result<String, OutOfMemory> {
+    match answer {
+        Ok(()) => Ok(String::from_str(alloc, "ok")?),
+        Err(fault) => refusal(alloc, fault),
+    }
+}
+
+/// `open URI VERSION TEXT`.
+fn open(alloc: Global, store: &mut DocumentStore, words: &str) -> Result<String, OutOfMemory> {
+    let (uri, words) = cut(words);
+    let (version, text) = cut(words);
+    let version = version.parse::<i32>().unwrap_or(0);
+    told(alloc, store.open_text(alloc, uri, "hlasm", version, text))
+}
+
+/// `fill COUNT`: opens `file:///d0.hlasm` and so on.
+fn fill(alloc: Global, store: &mut DocumentStore, words: &str) -> Result<String, OutOfMemory> {
+    for number in 0..words.parse::<u32>().unwrap_or(0) {
+        let uri = format!(in alloc; "file:///d{number}.hlasm")?;
+        if let Err(fault) = store.open_text(alloc, uri.as_str(), "hlasm", 1, "x") {
+            return refusal(alloc, fault);
+        }
+    }
+    told(alloc, Ok(()))
+}
+
+/// `change URI VERSION; CHANGE; CHANGE`.
+fn change(alloc: Global, store: &mut DocumentStore, words: &str) -> Result<String, OutOfMemory> {
+    let (call, changes) = words.split_once("; ").unwrap_or((words, ""));
+    let (uri, version) = cut(call);
+    let version = version.parse::<i32>().unwrap_or(0);
+    let edits = if changes.is_empty() {
+        Edits::new(alloc)
+    } else {
+        edits_worded(alloc, changes)?
+    };
+    told(alloc, store.change(alloc, uri, version, edits.as_slice()))
+}
+
+/// `close URI`.
+fn close(alloc: Global, store: &mut DocumentStore, uri: &str) -> Result<String, OutOfMemory> {
+    told(alloc, store.close(alloc, uri))
+}
+
+/// What is present at a path.
+fn present(store: &DocumentStore, path: &str) -> Option<MemberText> {
+    store.present(store.path_id(path)?)
+}
+
+/// Whether a fact holds.
+fn truth(alloc: Global, holds: bool) -> Result<String, OutOfMemory> {
+    Ok(String::from_str(alloc, if holds { "yes" } else { "no" })?)
+}
+
+/// `same PATH; PATH`: whether one text is present at both.
+fn same(alloc: Global, store: &DocumentStore, words: &str) -> Result<String, OutOfMemory> {
+    let (one, other) = words.split_once("; ").unwrap_or((words, ""));
+    truth(alloc, present(store, one) == present(store, other))
+}
+
+/// `version NUMBER`: of the open document of that place, from 0.
+fn version(alloc: Global, store: &DocumentStore, words: &str) -> Result<String, OutOfMemory> {
+    match store.document(words.parse::<u32>().unwrap_or(0)) {
+        Some(document) => Ok(format!(in alloc; "{}", document.version)?),
+        None => Ok(String::from_str(alloc, "none")?),
+    }
+}
+
+/// What a call that changes nothing answers.
+fn asked(
+    alloc: Global,
+    store: &DocumentStore,
+    call: &str,
+    words: &str,
+) -> Result<String, OutOfMemory> {
+    match call {
+        "present" => truth(alloc, present(store, words).is_some()),
+        "number" => truth(alloc, store.path_id(words).is_some()),
+        "same" => same(alloc, store, words),
+        "version" => version(alloc, store, words),
+        _ => Ok(String::from_str(alloc, "no call")?),
+    }
+}
+
+/// What a call answers.
+fn answer(alloc: Global, store: &mut DocumentStore, line: &str) -> Result<String, OutOfMemory> {
+    let (call, words) = cut(line);
+    match call {
+        "open" => open(alloc, store, words),
+        "fill" => fill(alloc, store, words),
+        "change" => change(alloc, store, words),
+        "close" => close(alloc, store, words),
+        _ => asked(alloc, store, call, words),
+    }
+}
+
+/// What the calls answer in turn, with semicolons between them.
+pub fn answers(alloc: Global, calls: &[String]) -> Result<String, OutOfMemory> {
+    let mut store = DocumentStore::new(alloc);
+    let mut answers = String::new(alloc);
+    for call in calls {
+        if !answers.is_empty() {
+            answers.push_str("; ")?;
+        }
+        answers.push_str(answer(alloc, &mut store, call.as_str())?.as_str())?;
+    }
+    Ok(answers)
+}
