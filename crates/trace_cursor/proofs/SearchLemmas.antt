@@ -9,11 +9,10 @@ use Rattle.trace_arena.specs.Nodes.{Node, node_at, IsLive}
 use Rattle.trace_arena.specs.Points.{Point, within, last_before, weave, points}
 use Rattle.trace_arena.specs.Whole.{IsWhole}
 use Rattle.trace_arena.proofs.LinkLemmas.{linked_live}
-use Rattle.trace_cursor.specs.declared.cursor.Cursor.{Cursor}
-use Rattle.trace_cursor.specs.Places.{link_at, totals, gap_start, gap_stop, gap_before, called, Counts, Descends, Enters, Owns, StandsAt}
-use Rattle.trace_cursor.proofs.WeaveLemmas.{child_run, gap_run, gap_is, gap_none, gap_some, link_leads, befores_rise}
+use Rattle.trace_cursor.specs.Places.{link_at, totals, gap_start, gap_stop, gap_before, called, Counts, Descends, Enters, Owns, IsChild, IsOwn}
+use Rattle.trace_cursor.proofs.WeaveLemmas.{child_run, gap_run, gap_is, gap_none, gap_some, link_leads, befores_rise, at_within}
 
-within_called : {I : Type 0} (calls : List I) (o : Option I) →
+pub within_called : {I : Type 0} (calls : List I) (o : Option I) →
     option_map (within calls) (option_map (called []) o) ≡ option_map (called (calls ++ [])) o
 within_called calls (Some item) = refl
 within_called calls None = refl
@@ -30,14 +29,15 @@ within_none None = refl
 module _ {I : Type 0} (nodes : List (Node I)) (whole : IsWhole nodes)
     (woven : (x : ℕ) → points nodes x ≡ weave (points nodes) 0 (node_at nodes x).items (node_at nodes x).links)
     (counted : (x : ℕ) → length (points nodes x) ≡ (node_at nodes x).total) where
-  pub child_live : (x k : ℕ) → k < length (node_at nodes x).links → IsLive nodes (link_at (node_at nodes x).links k).child.0
+  child_live : (x k : ℕ) → k < length (node_at nodes x).links → IsLive nodes (link_at (node_at nodes x).links k).child.0
   child_live x k lt =
       linked_live nodes whole x (link_at (node_at nodes x).links k).child.0
       (link_leads (points nodes) (totals nodes) counted (node_at nodes x).items (node_at nodes x).links k lt)
 
-  pub enters : (x rest k : ℕ) → k < length (node_at nodes x).links → (link_at (node_at nodes x).links k).before ≤ rest →
+  enters : (x rest k : ℕ) → k < length (node_at nodes x).links → (link_at (node_at nodes x).links k).before ≤ rest →
       rest - (link_at (node_at nodes x).links k).before < (node_at nodes (link_at (node_at nodes x).links k).child.0).total →
       Enters nodes x rest (link_at (node_at nodes x).links k).child.0 (rest - (link_at (node_at nodes x).links k).before)
+      (link_at (node_at nodes x).links k).at
   enters x rest k lt low small =
       let links = (node_at nodes x).links in
       let items = (node_at nodes x).items in
@@ -55,10 +55,13 @@ module _ {I : Type 0} (nodes : List (Node I)) (whole : IsWhole nodes)
               ∙ child_run (points nodes) (totals nodes) counted items 0 0 (node_at nodes x).total links k (rest - (rest - l.before) + j) j
               (whole.placed x) lt (omega (arith, low)) less;
         };
+        behind = refl;
+        within_items = at_within (points nodes) (totals nodes) counted items 0 0 (node_at nodes x).total links k (whole.placed x) lt;
+        linked = link_leads (points nodes) (totals nodes) counted items links k lt;
         lower = whole.below x l.child.0 (link_leads (points nodes) (totals nodes) counted items links k lt);
       }
 
-  pub owns : (x rest count : ℕ) → Counts (node_at nodes x).links rest count → rest < (node_at nodes x).total →
+  owns : (x rest count : ℕ) → Counts (node_at nodes x).links rest count → rest < (node_at nodes x).total →
       gap_before (totals nodes) 0 (node_at nodes x).links count ≤ rest →
       Owns nodes x rest (gap_start 0 (node_at nodes x).links count + (rest - gap_before (totals nodes) 0 (node_at nodes x).links count))
       (gap_stop (length (node_at nodes x).items) (node_at nodes x).links count)
@@ -117,86 +120,101 @@ module _ {I : Type 0} (nodes : List (Node I)) (whole : IsWhole nodes)
         gap_before (totals nodes) 0 (node_at nodes x).links count ≤ rest
     read_past some past = omega (arith, (gap_read some).1, past, read_low some)
 
-    pub read_enters : 0 < count → rest - (link_at ls (count - 1)).before < (node_at nodes (link_at ls (count - 1)).child.0).total →
-        Enters nodes x rest (link_at ls (count - 1)).child.0 (rest - (link_at ls (count - 1)).before)
-    read_enters some small =
-        subst (λ ks. Enters nodes x rest (link_at ks (count - 1)).child.0 (rest - (link_at ks (count - 1)).before)) (sym same)
-        (enters x rest (count - 1) (omega (arith, some, counts.within)) (counts.last some)
-        (subst (λ ks. rest - (link_at ks (count - 1)).before < (node_at nodes (link_at ks (count - 1)).child.0).total) same small))
+    pub read_child : 0 < count → rest - (link_at ls (count - 1)).before < (node_at nodes (link_at ls (count - 1)).child.0).total →
+        IsChild (totals nodes) (node_at nodes x).links rest (link_at ls (count - 1)).child.0
+        (rest - (link_at ls (count - 1)).before) (link_at ls (count - 1)).at
+    read_child some small = record {
+      k = count - 1;
+      is_link = omega (arith, some, counts.within);
+      low = counts.last some;
+      small = small;
+      child_is = ap (λ ks. (link_at ks (count - 1)).child.0) same;
+      left_is = ap (λ ks. rest - (link_at ks (count - 1)).before) same;
+      at_is = ap (λ ks. (link_at ks (count - 1)).at) same;
+    }
 
     pub read_behind : 0 < count → gap_before (totals nodes) 0 (node_at nodes x).links count ≤ rest →
         (node_at nodes (link_at ls (count - 1)).child.0).total ≤ rest - (link_at ls (count - 1)).before
     read_behind some low = omega (arith, (gap_read some).1, low)
 
     module _ (is : List I) (alike : is ≡ (node_at nodes x).items) (stop : ℕ) (stops : stop ≡ gap_stop (length is) ls count)
-        (inside : rest < (node_at nodes x).total) (low : gap_before (totals nodes) 0 (node_at nodes x).links count ≤ rest) where
-      read_stop : gap_stop (length (node_at nodes x).items) (node_at nodes x).links count ≡ stop
+        (low : gap_before (totals nodes) 0 (node_at nodes x).links count ≤ rest) where
+      read_stop : stop ≡ gap_stop (length (node_at nodes x).items) (node_at nodes x).links count
       read_stop =
-          sym (stops ∙ ap (λ (n : List I). gap_stop (length n) ls count) alike
-          ∙ ap (λ n. gap_stop (length (node_at nodes x).items) n count) same)
+          stops ∙ ap (λ (n : List I). gap_stop (length n) ls count) alike
+          ∙ ap (λ n. gap_stop (length (node_at nodes x).items) n count) same
 
-      read_owns : (at : ℕ) → gap_start 0 (node_at nodes x).links count
-          + (rest - gap_before (totals nodes) 0 (node_at nodes x).links count) ≡ at → Owns nodes x rest at stop
-      read_owns at e =
-          subst (λ n. Owns nodes x rest n stop) e
-          (subst (λ n. Owns nodes x rest (gap_start 0 (node_at nodes x).links count
-          + (rest - gap_before (totals nodes) 0 (node_at nodes x).links count)) n) read_stop (owns x rest count counts inside low))
+      read_own : (at : ℕ) → at ≡ gap_start 0 (node_at nodes x).links count
+          + (rest - gap_before (totals nodes) 0 (node_at nodes x).links count) →
+          IsOwn (totals nodes) (node_at nodes x).links (length (node_at nodes x).items) rest at stop
+      read_own at e = record { count = count; counts = counts; behind = low; at_is = e; stop_is = read_stop }
 
-      pub own_first : count ≡ 0 → Owns nodes x rest rest stop
+      pub own_first : count ≡ 0 → IsOwn (totals nodes) (node_at nodes x).links (length (node_at nodes x).items) rest rest stop
       own_first zero_is =
           let none = gap_none (points nodes) (totals nodes) counted (node_at nodes x).items 0 0 (node_at nodes x).links in
-          read_owns rest
-          (subst (λ n. gap_start 0 (node_at nodes x).links n + (rest - gap_before (totals nodes) 0 (node_at nodes x).links n) ≡ rest)
+          read_own rest
+          (subst (λ n. rest ≡ gap_start 0 (node_at nodes x).links n + (rest - gap_before (totals nodes) 0 (node_at nodes x).links n))
           (sym zero_is) (omega (arith, none.0, none.1)))
 
       pub own_behind : (more : ℕ) → 0 < count → more ≡ (node_at nodes (link_at ls (count - 1)).child.0).total →
-          Owns nodes x rest ((link_at ls (count - 1)).at + (rest - (link_at ls (count - 1)).before - more)) stop
+          IsOwn (totals nodes) (node_at nodes x).links (length (node_at nodes x).items) rest
+          ((link_at ls (count - 1)).at + (rest - (link_at ls (count - 1)).before - more)) stop
       own_behind more some is_total =
-          read_owns ((link_at ls (count - 1)).at + (rest - (link_at ls (count - 1)).before - more))
+          read_own ((link_at ls (count - 1)).at + (rest - (link_at ls (count - 1)).before - more))
           (omega (arith, (gap_read some).0, (gap_read some).1, is_total, low))
 
-  pub descend_start : (root index : ℕ) → IsLive nodes root → index < length (points nodes root) → Descends nodes root index root index
-  descend_start root index live lt = record {
-    calls = [];
-    live = live;
-    inside = omega (arith, lt, counted root);
-    before = omega arith;
-    room = omega (arith, counted root);
-    run = λ k less.
-        let e : index - index + k ≡ k = omega arith in
-        ap (slice_get (points nodes root)) e ∙ within_none (slice_get (points nodes root) k);
-  }
+  -- what a place says of the points
+  pub child_enters : (x rest child left at : ℕ) → IsChild (totals nodes) (node_at nodes x).links rest child left at →
+      Enters nodes x rest child left at
+  child_enters x rest child left at place =
+      let l = link_at (node_at nodes x).links place.k in
+      let small : rest - l.before < totals nodes l.child.0 =
+      subst (λ n. n < totals nodes l.child.0) place.left_is (subst (λ n. left < totals nodes n) place.child_is place.small) in
+      subst (λ n. Enters nodes x rest n left at) (sym place.child_is)
+      (subst (λ n. Enters nodes x rest l.child.0 n at) (sym place.left_is)
+      (subst (Enters nodes x rest l.child.0 (rest - l.before)) (sym place.at_is) (enters x rest place.k place.is_link place.low small)))
 
-  pub descend_step : (root index node rest child left : ℕ) → Descends nodes root index node rest → Enters nodes node rest child left →
-      Descends nodes root index child left
-  descend_step root index node rest child left down into =
-      let inner = into.descends in
-      record {
-        calls = down.calls ++ inner.calls;
-        live = inner.live;
-        inside = inner.inside;
-        before = omega (arith, inner.before, down.before);
-        room = omega (arith, inner.room, down.room, inner.before, down.before, counted node);
-        run = λ k less.
-            let e : index - left + k ≡ index - rest + (rest - left + k) = omega (arith, inner.before, down.before) in
-            ap (slice_get (points nodes root)) e
-            ∙ down.run (rest - left + k) (omega (arith, inner.room, counted node, less))
-            ∙ ap (option_map (within down.calls)) (inner.run k less)
-            ∙ within_within down.calls inner.calls (slice_get (points nodes child) k);
-      }
+  pub own_owns : (x rest at stop : ℕ) → rest < (node_at nodes x).total →
+      IsOwn (totals nodes) (node_at nodes x).links (length (node_at nodes x).items) rest at stop → Owns nodes x rest at stop
+  own_owns x rest at stop inside place =
+      subst (λ n. Owns nodes x rest n stop) (sym place.at_is)
+      (subst (Owns nodes x rest (gap_start 0 (node_at nodes x).links place.count
+      + (rest - gap_before (totals nodes) 0 (node_at nodes x).links place.count))) (sym place.stop_is)
+      (owns x rest place.count place.counts inside place.behind))
 
-  pub descend_end : (c : Cursor) (rest : ℕ) → Descends nodes c.root.0 c.index c.node.0 rest →
-      Owns nodes c.node.0 rest c.at c.stop → StandsAt nodes c
-  descend_end c rest down own_run = record {
-    calls = down.calls ++ [];
-    live = down.live;
-    inside = own_run.inside;
-    ends = own_run.ends;
-    room = omega (arith, down.room, down.before, own_run.room, down.inside);
-    run = λ k less.
-        let e : c.index + k ≡ c.index - rest + (rest + k) = omega (arith, down.before) in
-        ap (slice_get (points nodes c.root.0)) e
-        ∙ down.run (rest + k) (omega (arith, own_run.room, less))
-        ∙ ap (option_map (within down.calls)) (own_run.run k less)
-        ∙ within_called down.calls (slice_get (node_at nodes c.node.0).items (c.at + k));
-  }
+  pub descend_start : (root index : ℕ) → IsLive nodes root → index < length (points nodes root) →
+      (down : Descends nodes root index root index) × (down.calls ≡ [])
+  descend_start root index live lt = (
+    record {
+      calls = [];
+      live = live;
+      inside = omega (arith, lt, counted root);
+      before = omega arith;
+      room = omega (arith, counted root);
+      run = λ k less.
+          let e : index - index + k ≡ k = omega arith in
+          ap (slice_get (points nodes root)) e ∙ within_none (slice_get (points nodes root) k);
+    },
+    refl,
+  )
+
+  pub descend_step : (root index node rest child left at : ℕ) (down : Descends nodes root index node rest)
+      (into : Enters nodes node rest child left at) →
+      (further : Descends nodes root index child left) × (further.calls ≡ down.calls ++ into.descends.calls)
+  descend_step root index node rest child left at down into =
+      let inner = into.descends in (
+        record {
+          calls = down.calls ++ inner.calls;
+          live = inner.live;
+          inside = inner.inside;
+          before = omega (arith, inner.before, down.before);
+          room = omega (arith, inner.room, down.room, inner.before, down.before, counted node);
+          run = λ k less.
+              let e : index - left + k ≡ index - rest + (rest - left + k) = omega (arith, inner.before, down.before) in
+              ap (slice_get (points nodes root)) e
+              ∙ down.run (rest - left + k) (omega (arith, inner.room, counted node, less))
+              ∙ ap (option_map (within down.calls)) (inner.run k less)
+              ∙ within_within down.calls inner.calls (slice_get (points nodes child) k);
+        },
+        refl,
+      )

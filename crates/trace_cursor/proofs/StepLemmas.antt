@@ -2,15 +2,18 @@
 use Rattle.std.proofs.Common.{◌≡◌, ◌+◌, ◌<◌, List, ap, ◌∙◌, arith}
 use Rattle.std.specs.Prelude.{slice_get}
 use Rattle.std.specs.Option.{option_map}
+use Rattle.trace_values.specs.declared.item.TraceItem.{TraceItem}
 use Rattle.trace_arena.specs.Nodes.{Node, node_at}
 use Rattle.trace_arena.specs.Points.{points}
 use Rattle.trace_cursor.specs.declared.cursor.Cursor.{Cursor}
 use Rattle.trace_cursor.specs.Places.{called, StandsAt}
 
-pub step_on : {I : Type 0} (nodes : List (Node I)) (c : Cursor) → StandsAt nodes c → c.at + 1 < c.stop →
-    StandsAt nodes (record { root = c.root; index = c.index + 1; node = c.node; at = c.at + 1; stop = c.stop })
+pub step_on : (nodes : List (Node TraceItem)) (c : Cursor) → StandsAt nodes c → c.at + 1 < c.stop →
+    StandsAt nodes (record { root = c.root; index = c.index + 1; node = c.node; at = c.at + 1; stop = c.stop; outer = c.outer })
 step_on nodes c stands more = record {
   calls = stands.calls;
+  outer = stands.outer;
+  below = stands.below;
   live = stands.live;
   inside = more;
   ends = stands.ends;

@@ -11,7 +11,7 @@ use Rattle.trace_arena.proofs.LinkLemmas.{leads_first, leads_rest}
 use Rattle.trace_arena.proofs.PointLemmas.{placed_within}
 use Rattle.trace_cursor.specs.Places.{link_at, gap_start, gap_stop, gap_before}
 
-get_left : {X : Type 0} (xs ys : List X) (k : ℕ) → k < length xs → slice_get (xs ++ ys) k ≡ slice_get xs k
+pub get_left : {X : Type 0} (xs ys : List X) (k : ℕ) → k < length xs → slice_get (xs ++ ys) k ≡ slice_get xs k
 get_left [] ys k lt = absurd (omega arith)
 get_left (x ∷ xs) ys zero lt = refl
 get_left (x ∷ xs) ys (suc k) lt = get_left xs ys k (omega arith)
@@ -36,7 +36,7 @@ get_drop (suc n) (x ∷ xs) k =
     let e : suc (n + k) ≡ suc n + k = omega arith in
     get_drop n xs k ∙ ap (slice_get (x ∷ xs)) e
 
-get_map : {X Y : Type 0} (f : X → Y) (xs : List X) (k : ℕ) → slice_get (map f xs) k ≡ option_map f (slice_get xs k)
+pub get_map : {X Y : Type 0} (f : X → Y) (xs : List X) (k : ℕ) → slice_get (map f xs) k ≡ option_map f (slice_get xs k)
 get_map f [] k = refl
 get_map f (x ∷ xs) zero = refl
 get_map f (x ∷ xs) (suc k) = get_map f xs k
@@ -112,6 +112,15 @@ module _ {I : Type 0} (f : ℕ → List (Point I)) (total : ℕ → ℕ) (long :
   befores_rise from before whole (l ∷ ls) (suc k) placed lt =
       let later = befores_rise l.at (l.before + total l.child.0) whole ls k placed.2 (omega arith) in
       (omega (arith, placed.1, later.0), later.1)
+
+  -- no link stands past the end of the items
+  pub at_within : (from before whole : ℕ) (links : List Link) (k : ℕ) → IsPlaced total from before (length items) whole links →
+      k < length links → (link_at links k).at ≤ length items
+  at_within from before whole [] k placed lt = absurd (omega arith)
+  at_within from before whole (l ∷ ls) zero placed lt =
+      placed_within total l.at (l.before + total l.child.0) (length items) whole ls placed.2
+  at_within from before whole (l ∷ ls) (suc k) placed lt =
+      at_within l.at (l.before + total l.child.0) whole ls k placed.2 (omega arith)
 
   -- the points of the child of a link
   pub child_run : (from before whole : ℕ) (links : List Link) (k rest j : ℕ) → IsPlaced total from before (length items) whole links →

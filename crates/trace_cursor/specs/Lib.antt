@@ -1,1 +1,4 @@
 pub mod Places
+pub mod Stacks
+pub mod Pasts
+pub mod Laws

@@ -2,8 +2,10 @@
 use Rattle.std.specs.Prelude.{◌≡◌, ℕ, zero, suc, ◌+◌, ◌-◌, ◌<◌, ◌≤◌, List, [], ◌∷◌, length, slice_get, slice_index_or}
 use Rattle.std.specs.Option.{option_map}
 use Rattle.trace_arena.specs.declared.node.Link.{Link}
-use Rattle.trace_arena.specs.Nodes.{Node, node_at, IsLive}
-use Rattle.trace_arena.specs.Points.{Point, within, points}
+use Rattle.trace_values.specs.declared.item.TraceItem.{TraceItem}
+use Rattle.trace_arena.specs.Nodes.{Node, node_at, IsLive, IsLinked}
+use Rattle.trace_arena.specs.Points.{Point, within, last_before, points}
+use Rattle.trace_cursor.specs.Stacks.{frames_in, counted, IsBelow}
 use Rattle.trace_cursor.specs.declared.cursor.Cursor.{Cursor}
 use Rattle.trace_cursor.specs.declared.search.Place.{Place}
 
@@ -45,9 +47,11 @@ abbrev pub called : {I : Type 0} → List I → I → Point I
 called calls item = record { calls = calls; item = item }
 
 -- The cursor stands at the point of its index: the item `at` of its node is that point's, and up to `stop` the items of
--- the node are those of the points that follow. They stand behind the same calls.
-pub record StandsAt {I : Type 0} (nodes : List (Node I)) (c : Cursor) : Type 0 where
-  pub calls : List I
+-- the node are those of the points that follow. They stand behind the same calls, whose frames it counts.
+pub record StandsAt (nodes : List (Node TraceItem)) (c : Cursor) : Type 0 where
+  pub calls : List TraceItem
+  pub outer : c.outer ≡ counted (length (frames_in calls))
+  pub below : IsBelow nodes c.root.0 c.node.0
   pub live : IsLive nodes c.node.0
   pub inside : c.at < c.stop
   pub ends : c.stop ≤ length (node_at nodes c.node.0).items
@@ -65,10 +69,19 @@ pub record Descends {I : Type 0} (nodes : List (Node I)) (root index node rest :
   pub run : (k : ℕ) → k < (node_at nodes node).total →
       slice_get (points nodes root) ((index - rest) + k) ≡ option_map (within calls) (slice_get (points nodes node) k)
 
--- the points of a child are points of the node, from `rest - left` on, behind a call
-pub record Enters {I : Type 0} (nodes : List (Node I)) (node rest child left : ℕ) : Type 0 where
+-- the points of a child are points of the node, from `rest - left` on, behind the last of so many items
+pub record Enters {I : Type 0} (nodes : List (Node I)) (node rest child left at : ℕ) : Type 0 where
   pub descends : Descends nodes node rest child left
+  pub behind : descends.calls ≡ last_before at (node_at nodes node).items
+  pub within_items : at ≤ length (node_at nodes node).items
+  pub linked : IsLinked nodes node child
   pub lower : (node_at nodes child).height < (node_at nodes node).height
+
+-- so the search has come down from the root to this node, past so many frames
+pub record Comes (nodes : List (Node TraceItem)) (root index node rest outer : ℕ) : Type 0 where
+  pub descends : Descends nodes root index node rest
+  pub below : IsBelow nodes root node
+  pub counts : outer ≡ counted (length (frames_in descends.calls))
 
 -- The point is of an item of the node itself, and up to `stop` so are those that follow.
 pub record Owns {I : Type 0} (nodes : List (Node I)) (node rest at stop : ℕ) : Type 0 where
@@ -78,6 +91,29 @@ pub record Owns {I : Type 0} (nodes : List (Node I)) (node rest at stop : ℕ) :
   pub run : (k : ℕ) → at + k < stop →
       slice_get (points nodes node) (rest + k) ≡ option_map (called []) (slice_get (node_at nodes node).items (at + k))
 
+-- the point is one of the child of link `k`: its number there, and how many items stand before the link
+pub record IsChild (total : ℕ → ℕ) (links : List Link) (rest child left at : ℕ) : Type 0 where
+  pub k : ℕ
+  pub is_link : k < length links
+  pub low : (link_at links k).before ≤ rest
+  pub small : left < total child
+  pub child_is : child ≡ (link_at links k).child.0
+  pub left_is : left ≡ rest - (link_at links k).before
+  pub at_is : at ≡ (link_at links k).at
+
+-- the point is of an item behind so many links and their points, and the items behind it go up to the next link
+pub record IsOwn (total : ℕ → ℕ) (links : List Link) (end rest at stop : ℕ) : Type 0 where
+  pub count : ℕ
+  pub counts : Counts links rest count
+  pub behind : gap_before total 0 links count ≤ rest
+  pub at_is : at ≡ gap_start 0 links count + (rest - gap_before total 0 links count)
+  pub stop_is : stop ≡ gap_stop end links count
+
+abbrev pub PlaceIs : (ℕ → ℕ) → List Link → ℕ → ℕ → Place → Type 0
+PlaceIs total links end rest (Place.Inside inner) = IsChild total links rest inner.child.0 inner.left inner.at
+PlaceIs total links end rest (Place.Own run) = IsOwn total links end rest run.at run.stop
+
+-- where a point of a node stands, by the node's links and the numbers of points
 abbrev pub IsPlace : {I : Type 0} → List (Node I) → ℕ → ℕ → Place → Type 0
-IsPlace nodes node rest (Place.Inside inner) = Enters nodes node rest inner.child.0 inner.left
-IsPlace nodes node rest (Place.Own run) = Owns nodes node rest run.at run.stop
+IsPlace nodes node rest place =
+    PlaceIs (totals nodes) (node_at nodes node).links (length (node_at nodes node).items) rest place

@@ -1,15 +1,16 @@
 //! The search for a point within one node.
-ghost use Rattle.std.specs.Prelude.{◌≡◌, ◌<◌, ◌≤◌, IfSome, None};
+ghost use Rattle.std.specs.Prelude.{◌≡◌, ◌<◌, ◌≤◌, IfSome, None, length};
 ghost use Rattle.trace_arena.specs.Nodes.{node_at, IsLive};
-ghost use Rattle.trace_cursor.specs.Places.{totals, gap_stop, gap_before, Counts, Enters, Owns, IsPlace};
+ghost use Rattle.trace_cursor.specs.Places.{totals, gap_stop, gap_before, Counts, IsChild, IsOwn, IsPlace};
 
 use trace_arena::{Link, NodeId, TraceArena, arena_is_whole};
 
-/// A child of a node, and the number of a point among those of the child.
+/// A child of a node, the number of a point among those of the child, and how many of the node's items stand before it.
 #[derive(Clone, Copy)]
 pub(crate) struct Inner {
     pub(crate) child: NodeId,
     pub(crate) left: u32,
+    pub(crate) at: usize,
 }
 
 /// Items of a node with no link between them: from `at` on, before `stop`.
@@ -46,7 +47,8 @@ fn links_before(links: &[Link], rest: u32) -> usize
 fn in_child<I: Drop>(arena: &TraceArena<I>, node: NodeId, rest: u32, count: usize) -> Option<Inner>
     requires live { IsLive arena.now.nodes node.0 }
     requires counts { Counts (node_at arena.now.nodes node.0).links rest count }
-    ensures enters { IfSome result (λ inner. Enters arena.now.nodes node.0 rest inner.child.0 inner.left) }
+    ensures child { IfSome result (λ inner. IsChild (totals arena.now.nodes) (node_at arena.now.nodes node.0).links rest
+        inner.child.0 inner.left inner.at) }
     ensures none { result ≡ None → gap_before (totals arena.now.nodes) 0 (node_at arena.now.nodes node.0).links count ≤ rest }
 {
     arena_is_whole(arena);
@@ -61,6 +63,7 @@ fn in_child<I: Drop>(arena: &TraceArena<I>, node: NodeId, rest: u32, count: usiz
     Some(Inner {
         child: link.child,
         left,
+        at: link.at,
     })
 }
 
@@ -80,7 +83,8 @@ fn own_run<I: Drop>(arena: &TraceArena<I>, node: NodeId, rest: u32, count: usize
     requires inside { rest < (node_at arena.now.nodes node.0).total }
     requires counts { Counts (node_at arena.now.nodes node.0).links rest count }
     requires behind { gap_before (totals arena.now.nodes) 0 (node_at arena.now.nodes node.0).links count ≤ rest }
-    ensures { Owns arena.now.nodes node.0 rest result.at result.stop }
+    ensures { IsOwn (totals arena.now.nodes) (node_at arena.now.nodes node.0).links (length (node_at arena.now.nodes node.0).items)
+        rest result.at result.stop }
 {
     arena_is_whole(arena);
     let links = arena.links(node);

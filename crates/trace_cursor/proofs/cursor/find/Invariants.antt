@@ -1,10 +1,10 @@
 use Rattle.trace_arena.specs.Nodes.{node_at}
-use Rattle.trace_cursor.specs.Places.{Descends}
+use Rattle.trace_cursor.specs.Places.{Comes}
 use Rattle.trace_cursor.proofs.cursor.find.Given as goal
 
--- the points of the node are points of the root
+-- the points of the node are points of the root, within so many frames
 abbrev pub invariant-loop-inner : goal.invariant-loop-inner
-invariant-loop-inner g l = Descends l.arena.nodes l.root.0 l.index l.node.0 l.rest
+invariant-loop-inner l = Comes l.arena.nodes l.root.0 l.index l.node.0 l.rest l.outer
 
 abbrev pub decreases-loop-inner : goal.decreases-loop-inner
-decreases-loop-inner g l = (node_at l.arena.nodes l.node.0).height
+decreases-loop-inner l = (node_at l.arena.nodes l.node.0).height

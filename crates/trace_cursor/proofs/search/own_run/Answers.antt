@@ -1,12 +1,12 @@
 use Rattle.std.proofs.Common.{arith}
-use Rattle.trace_cursor.proofs.SearchLemmas.{read_live, read_behind, own_first, own_behind}
+use Rattle.trace_cursor.proofs.SearchLemmas.{read_live, read_behind, own_first, own_behind, own_owns}
 use Rattle.trace_cursor.proofs.search.own_run.Goals as goal
 
 pub returns-then-count-eq0 : goal.returns-then-count-eq0
 returns-then-count-eq0 g c =
     own_first c.args.arena.now.nodes c.arena_is_whole.ensures.whole c.arena_is_whole.ensures.woven c.arena_is_whole.ensures.counted
     c.args.node.0 c.args.rest c.args.count c.links-links.result.now c.links-links.ensures c.requires.counts
-    c.items-items.result.now c.items-items.ensures c.gap_end-stop.result c.gap_end-stop.ensures c.requires.inside c.requires.behind (omega (arith, c.if-count-eq0.true))
+    c.items-items.result.now c.items-items.ensures c.gap_end-stop.result c.gap_end-stop.ensures c.requires.behind (omega (arith, c.if-count-eq0.true))
 
 pub points-requires : goal.points-requires
 points-requires g c = record {
@@ -27,11 +27,13 @@ pub overflow_add-result : goal.overflow_add-result
 overflow_add-result g c =
     let own = own_behind c.args.arena.now.nodes c.arena_is_whole.ensures.whole c.arena_is_whole.ensures.woven c.arena_is_whole.ensures.counted
     c.args.node.0 c.args.rest c.args.count c.links-links.result.now c.links-links.ensures c.requires.counts
-    c.items-items.result.now c.items-items.ensures c.gap_end-stop.result c.gap_end-stop.ensures c.requires.inside c.requires.behind c.points.result (omega (arith, c.if-count-eq0.false)) c.points.ensures.total in
-    omega (arith, own.inside, c.gap_end-stop.type_inv)
+    c.items-items.result.now c.items-items.ensures c.gap_end-stop.result c.gap_end-stop.ensures c.requires.behind c.points.result (omega (arith, c.if-count-eq0.false)) c.points.ensures.total in
+    let owns = own_owns c.args.arena.now.nodes c.arena_is_whole.ensures.whole c.arena_is_whole.ensures.woven c.arena_is_whole.ensures.counted
+    c.args.node.0 c.args.rest _ c.gap_end-stop.result c.requires.inside own in
+    omega (arith, owns.inside, c.gap_end-stop.type_inv)
 
 pub returns : goal.returns
 returns g c =
     own_behind c.args.arena.now.nodes c.arena_is_whole.ensures.whole c.arena_is_whole.ensures.woven c.arena_is_whole.ensures.counted
     c.args.node.0 c.args.rest c.args.count c.links-links.result.now c.links-links.ensures c.requires.counts
-    c.items-items.result.now c.items-items.ensures c.gap_end-stop.result c.gap_end-stop.ensures c.requires.inside c.requires.behind c.points.result (omega (arith, c.if-count-eq0.false)) c.points.ensures.total
+    c.items-items.result.now c.items-items.ensures c.gap_end-stop.result c.gap_end-stop.ensures c.requires.behind c.points.result (omega (arith, c.if-count-eq0.false)) c.points.ensures.total
