@@ -166,7 +166,7 @@ module _ (L : Language) (W : WorldModel) where
     carried_steady said (Continues known puts) x = refl
     carried_steady said (Branches label known) x =
         branched_steady (place_of L x.here.listing label) known
-        (λ fault. record { stack = x; said = said; act = Branches label known; fault = fault }) x
+        (λ fault. record { stack = x; said = said; fault = fault }) x
     carried_steady said (Enters limited entry) x = tt
     carried_steady said Returns x = tt
     carried_steady said Finishes x = tt

@@ -135,20 +135,20 @@ module _ (L : Language) (W : WorldModel) where
         RunsAt (Doing (step_of L (carried L said act x) x)) s f d (length x.below) (followed L W rec (carried L said act x) x s f d)
     s_carried said (Continues known puts) x s f d enough g =
         let y : Stack L.words = record (stepped x) { known = known } in
-        s_tells (L.item_of (record { stack = x; said = said; act = Continues known puts; fault = NoFault }))
+        s_tells (L.item_of (record { stack = x; said = said; fault = NoFault }))
         (puts_then puts (GoingOn y)) s f d (length x.below) (rec y (put_each W s puts) f d)
         (s_puts puts (GoingOn y) s f d (length x.below) (rec y (put_each W s puts) f d) (runs y (put_each W s puts) f d enough)) g
     s_carried said (Branches label known) x s f d enough g =
         s_branches (place_of L x.here.listing label) known
-        (λ fault. record { stack = x; said = said; act = Branches label known; fault = fault }) x s f d enough g
+        (λ fault. record { stack = x; said = said; fault = fault }) x s f d enough g
     s_carried said (Enters limited entry) x s f d enough g =
-        s_tries (L.item_of (record { stack = x; said = said; act = Enters limited entry; fault = NoFault }))
-        (L.item_of (record { stack = x; said = limited; act = Enters limited entry; fault = NoRoom }))
+        s_tries (L.item_of (record { stack = x; said = said; fault = NoFault }))
+        (L.item_of (record { stack = x; said = limited; fault = NoRoom }))
         entry x s f d (nat_lt (d + length x.below) deepest_depth) refl enough g
     s_carried said Returns x s f d enough g = s_back
-        (L.item_of (record { stack = x; said = said; act = Returns; fault = NoFault })) x s f d g
+        (L.item_of (record { stack = x; said = said; fault = NoFault })) x s f d g
     s_carried said Finishes x s f d enough g =
-        s_tells (L.item_of (record { stack = x; said = said; act = Finishes; fault = NoFault })) (Finishing x) s f d (length x.below)
+        s_tells (L.item_of (record { stack = x; said = said; fault = NoFault })) (Finishing x) s f d (length x.below)
         (ended_by ByEnd s)
         (λ h. m_end (expander L) W (Standing (Doing (Performing (Finishing x)))) h s f d (length x.below) refl) g
 

@@ -40,15 +40,13 @@ branched (Some n) (Some known) point x = GoesOn (point NoFault) []
 -- what an act comes to; a branch looks for its label in the innermost list
 abbrev pub carried : (L : Language) → L.words.Said → Act L.words → Stack L.words → Going L.words
 carried L said (Continues known puts) x =
-    GoesOn (record { stack = x; said = said; act = Continues known puts; fault = NoFault }) puts (record (stepped x) { known = known })
+    GoesOn (record { stack = x; said = said; fault = NoFault }) puts (record (stepped x) { known = known })
 carried L said (Branches label known) x =
-    branched (place_of L x.here.listing label) known
-    (λ fault. record { stack = x; said = said; act = Branches label known; fault = fault }) x
+    branched (place_of L x.here.listing label) known (λ fault. record { stack = x; said = said; fault = fault }) x
 carried L said (Enters limited entry) x =
-    GoesIn (record { stack = x; said = said; act = Enters limited entry; fault = NoFault })
-    (record { stack = x; said = limited; act = Enters limited entry; fault = NoRoom }) entry
-carried L said Returns x = GoesBack (record { stack = x; said = said; act = Returns; fault = NoFault })
-carried L said Finishes x = GoesOut (record { stack = x; said = said; act = Finishes; fault = NoFault })
+    GoesIn (record { stack = x; said = said; fault = NoFault }) (record { stack = x; said = limited; fault = NoRoom }) entry
+carried L said Returns x = GoesBack (record { stack = x; said = said; fault = NoFault })
+carried L said Finishes x = GoesOut (record { stack = x; said = said; fault = NoFault })
 
 -- where a call starts, with the answers to the keys of its entry
 abbrev pub first_stack : (L : Language) → L.words.Call → List Pair → Stack L.words

@@ -5,7 +5,7 @@ use Rattle.kept_values.specs.Trees.{Tree, Pair}
 use Rattle.plain_expansion.specs.Questions.{Asking}
 
 -- What the language speaks of: lists of statements, what a call knows (its parameters, its local symbols, how many branches
--- it may still take), what is said of a statement (what it generates, its notes), and calls.
+-- it may still take), what is said of a statement (what it generates, what it sets, its notes), and calls.
 pub record Vocabulary : Type 1 where
   pub Statement : Type 0
   pub Listing : Type 0
@@ -57,11 +57,10 @@ pub data Fault : Type 0 where
   NoBranchLeft : Fault
   NoRoom : Fault
 
--- A point: a processed statement, with where its call was before it, what is said of it, what it does, and what went wrong.
+-- A point: a processed statement, with where its call was before it, what is said of it, and what went wrong.
 pub record Point (V : Vocabulary) : Type 0 where
   pub stack : Stack V
   pub said : V.Said
-  pub act : Act V
   pub fault : Fault
 
 -- A language. The effect of a statement in a call that knows so much is a tree of questions to the world.
