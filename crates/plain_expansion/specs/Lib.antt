@@ -1,0 +1,9 @@
+pub mod Questions
+pub mod Language
+pub mod Expansion
+pub mod Engine
+pub mod Guard
+pub mod GuardLaws
+pub mod Marks
+pub mod Laws
+pub mod Example
