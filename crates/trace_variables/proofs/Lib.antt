@@ -1,0 +1,5 @@
+pub mod OrderLemmas
+pub mod MapLemmas
+pub mod TextLemmas
+pub mod ValueLemmas
+pub mod CallLemmas

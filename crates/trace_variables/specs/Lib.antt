@@ -1,0 +1,4 @@
+pub mod Values
+pub mod Seen
+pub mod Calls
+pub mod Shown

@@ -1,0 +1,75 @@
+//! Variable symbols as they are shown.
+ghost use Rattle.std.specs.Prelude.{◌≡◌, ◌++◌, map, string_bytes, IfOk, OnOk};
+ghost use Rattle.hl_base.specs.declared.set.SetValue.TheVariants.{A};
+ghost use Rattle.trace_variables.specs.Seen.{seen, seen_key};
+ghost use Rattle.trace_variables.specs.Shown.{is_plain, shown_name, text_of, shown};
+
+use crate::key::Key;
+use crate::values::Values;
+use hl_base::{OutOfMemory, SetValue, Text};
+use std::alloc::Global;
+use trace_values::{Variable, Variables};
+
+/// Whether a symbol is shown without a subscript: `&SYSLIST` never is.
+fn is_plain(key: &Key) -> bool
+    ensures { result ≡ is_plain (seen_key key.now) }
+{
+    key.element == 0 && key.name.as_str() != "SYSLIST"
+}
+
+/// The name as it is shown.
+fn shown_name(alloc: Global, key: &Key) -> Result<String, OutOfMemory>
+    ensures { IfOk result (λ name. string_bytes name ≡ shown_name (seen_key key.now)) }
+{
+    let name = key.name.as_str();
+    if is_plain(key) {
+        return Ok(format!(in alloc; "&{name}")?);
+    }
+    Ok(format!(in alloc; "&{name}({})", key.element)?)
+}
+
+/// A number in decimal, with a minus sign below 0.
+fn decimal(alloc: Global, number: i32) -> Result<Text, OutOfMemory>
+    ensures { IfOk result (λ text. text ≡ text_of (A number)) }
+{
+    let digits = format!(in alloc; "{number}")?;
+    Text::of(alloc, digits.as_str())
+}
+
+/// A value as text.
+fn text_of(alloc: Global, value: &SetValue) -> Result<Text, OutOfMemory>
+    ensures { IfOk result (λ text. text ≡ text_of value.now) }
+{
+    match value {
+        SetValue::A(number) => decimal(alloc, *number),
+        SetValue::B(bit) => decimal(alloc, i32::from(*bit)),
+        SetValue::C(text) => text.copy(alloc),
+    }
+}
+
+/// A value under its key, as it is shown.
+fn shown(alloc: Global, key: &Key, value: &SetValue, global: bool) -> Result<Variable, OutOfMemory>
+    ensures { IfOk result (λ variable. variable ≡ shown global (seen_key key.now, value.now)) }
+{
+    let name = shown_name(alloc, key)?;
+    Ok(Variable {
+        name: Text::of(alloc, name.as_str())?,
+        value: text_of(alloc, value)?,
+        global,
+    })
+}
+
+/// Adds values as they are shown, in their order.
+pub(crate) fn show_all(
+    alloc: Global,
+    rows: &mut Variables,
+    values: &Values,
+    global: bool,
+) -> Result<(), OutOfMemory>
+    ensures { OnOk result (rows.new ≡ rows.old ++ map (shown global) (seen values.now)) }
+{
+    for (key, value) in values {
+        rows.push(shown(alloc, key, value, global)?)?;
+    }
+    Ok(())
+}
