@@ -1,0 +1,4 @@
+pub mod Traces
+pub mod Outcomes
+pub mod Moments
+pub mod Laws
