@@ -4,3 +4,4 @@ pub mod Ways
 pub mod Steps
 pub mod Nested
 pub mod Stands
+pub mod PutLists

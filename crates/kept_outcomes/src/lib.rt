@@ -9,7 +9,9 @@
 #![tactic(auto)]
 
 mod laws;
+mod summary;
 
 pub use laws::{
     moves_lead, nested_calls_join, outcomes_stand, points_are_items, runs_are_outcomes,
 };
+pub use summary::CallSummary;
