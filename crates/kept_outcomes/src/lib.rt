@@ -5,7 +5,7 @@
 //! plain run of the call is that run (module `laws`): so an outcome that was kept may be taken in its place. A call under
 //! way is a moment (`specs/Moments`), and each move makes the next one of it.
 //!
-//! It knows nothing of memory, of how outcomes are found, and of what an item says.
+//! It knows nothing of how outcomes are found, and of what an item says.
 #![tactic(auto)]
 
 mod laws;
