@@ -1,0 +1,29 @@
+use Rattle.std.proofs.Common.{◌≡◌, sym, ap, ◌∙◌, Some}
+use Rattle.std.specs.Prelude.{option_map}
+use Rattle.plain_expansion.specs.Language.{Point, Fault, NoFault}
+use Rattle.plain_expansion.specs.Expansion.{branched}
+use Rattle.plain_expansion.specs.Engine.{Doing, Telling, GoingOn, puts_then, step_of}
+use Rattle.expansion_step.specs.Meaning.{meaning, pairs_by, stack_by, point_by}
+use Rattle.expansion_step.proofs.Steps.{takes-at}
+use Rattle.expansion_step.proofs.expander.Expander.branch.Goals as goal
+
+pub returns : goal.returns
+returns g c =
+    let L = g.X.CodedLanguage.language in
+    let m = meaning g.X.CodedLanguage.reads g.X.CodedLanguage.call_of g.X.Call.Kept.code g.X.Key.Kept.code g.X.Value.Kept.code in
+    let reads = g.X.CodedLanguage.reads in
+    let old = c.args.stack.now in
+    let x = record old { known = c.in-Some-known.known; here = record old.here { position = c.in-Some.position } } in
+    let points : Fault → Point L.words = λ fault. point_by m old c.args.said fault in
+    let told : Doing (Telling (reads.item c.in_ok-item-3.item) (puts_then (pairs_by m c.new-2.result.items) (GoingOn (stack_by m x))))
+    ≡ Doing (Telling (L.item_of (points NoFault)) (GoingOn (stack_by m x))) =
+    ap (λ z. Doing (Telling (reads.item c.in_ok-item-3.item) (puts_then (pairs_by m z) (GoingOn (stack_by m x))))) c.new-2.ensures.items
+    ∙ ap (λ z. Doing (Telling z (GoingOn (stack_by m x)))) c.in_ok-item-3.ensures in
+    let goes : Doing (step_of L (branched c.args.place (option_map reads.known c.args.known) points (stack_by m old))
+    (stack_by m old)) ≡ Doing (Telling (L.item_of (points NoFault)) (GoingOn (stack_by m x))) =
+    ap (λ p. Doing (step_of L (branched p (option_map reads.known c.args.known) points (stack_by m old)) (stack_by m old))) c.in-Some.is
+    ∙ ap (λ k. Doing (step_of L (branched (Some c.in-Some.position) (option_map reads.known k) points (stack_by m old))
+    (stack_by m old))) c.in-Some-known.is in
+    takes-at m (Doing (Telling (reads.item c.in_ok-item-3.item) (puts_then (pairs_by m c.new-2.result.items) (GoingOn (stack_by m x)))))
+    (Doing (step_of L (branched c.args.place (option_map reads.known c.args.known) points (stack_by m old)) (stack_by m old))) x
+    c.tell-2.result (told ∙ sym goes) (c.tell-2.ensures x)

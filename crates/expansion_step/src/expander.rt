@@ -1,0 +1,65 @@
+//! The machine that expands.
+ghost use Rattle.std.specs.Prelude.{◌≡◌, IfOk, map, [], drop};
+ghost use Rattle.asking_core.specs.Actions.{move_of, told_of};
+ghost use Rattle.plain_expansion.specs.Engine.{expander};
+ghost use Rattle.expansion_step.specs.Meaning.{meaning};
+ghost use Rattle.expansion_step.specs.Places.{place_by};
+
+use crate::phase::Phase;
+use crate::{CodedLanguage, Local};
+use asking_core::{Action, Given};
+use hl_base::OutOfMemory;
+use kept_values::Kept;
+use std::alloc::Global;
+use std::mem;
+
+/// The machine that expands a language that is given in code.
+pub struct Expander<X: CodedLanguage> {
+    pub(crate) language: X,
+}
+
+impl<X: CodedLanguage> Expander<X> {
+    /// The machine of a language.
+    pub fn new(language: X) -> Expander<X> {
+        Expander { language }
+    }
+
+    /// Where a call starts.
+    pub fn begin(
+        &self,
+        alloc: Global,
+        call: &X::Call,
+    ) -> Result<Local<X::Listing, X::Known, X::Call, X::Key, X::Value, X::Item>, OutOfMemory>
+        ensures { IfOk result (λ l. let m = meaning X.reads X.call_of X.Call.code X.Key.code X.Value.code in place_by m l ≡ (expander X.language).start (X.call_of (X.Call.code call.now))) }
+    {
+        let keys = self.language.entry_keys(alloc, call)?;
+        let answers = Vec::new(alloc);
+        let stack = self.first_stack(alloc, call, answers.as_slice())?;
+        if keys.as_slice().len() == 0 {
+            return Ok(Local {
+                stack,
+                phase: Phase::Ready,
+            });
+        }
+        Ok(Local {
+            stack,
+            phase: Phase::Opens(call.copy(alloc)?, keys, answers),
+        })
+    }
+
+    /// What a call does next, and the place behind it. Where there is no memory, the call is lost.
+    pub fn step(
+        &self,
+        alloc: Global,
+        local: &mut Local<X::Listing, X::Known, X::Call, X::Key, X::Value, X::Item>,
+        given: Given<X::Value>,
+    ) -> Result<Action<X::Key, X::Value, X::Call, X::Item>, OutOfMemory>
+        ensures action { IfOk result (λ a. let m = meaning X.reads X.call_of X.Call.code X.Key.code X.Value.code in move_of X.Key.code X.Value.code X.Call.code X.call_of X.reads.item a ≡ (expander X.language).move_at (place_by m local.old) (told_of X.Value.code given)) }
+        ensures place { IfOk result (λ _. let m = meaning X.reads X.call_of X.Call.code X.Key.code X.Value.code in place_by m local.new ≡ (expander X.language).after (place_by m local.old) (told_of X.Value.code given)) }
+    {
+        let phase = mem::replace(&mut local.phase, Phase::Ready);
+        let taken = self.advance(alloc, &mut local.stack, phase, given)?;
+        local.phase = taken.phase;
+        Ok(taken.action)
+    }
+}

@@ -1,0 +1,469 @@
+//! One action of a call.
+ghost use Rattle.std.specs.Prelude.{◌≡◌, ◌+◌, ℕ, Option, Some, None, List, [], ◌∷◌, ◌++◌, map, reverse, IfOk, OnOk, option_map, option_copied, slice_get};
+ghost use Rattle.asking_core.specs.Actions.{told_of};
+ghost use Rattle.plain_expansion.specs.Language.{Stack as StackOf};
+ghost use Rattle.plain_expansion.specs.Expansion.{stepped, copying, statement_at, branched, first_stack as first_stack_of, outermost as outermost_of};
+ghost use Rattle.plain_expansion.specs.Engine.{GoingOn, Performing, Telling, Doing, opened, heard, with_answer, step_by, step_of, tried, roomy_step, puts_then};
+ghost use Rattle.expansion_step.specs.Meaning.{meaning, call_by, pairs_by, stack_by, entry_by, effect_by, point_by};
+ghost use Rattle.expansion_step.specs.Places.{onward_by, todo_by, counted_first, keys_left, hearing, placing, deciding, phase_by};
+ghost use Rattle.expansion_step.specs.Takes.{Takes};
+
+use crate::phase::{Onward, Phase, Taken, Todo};
+use crate::{Act, CodedLanguage, Entry, Expander, Fault, Level, Performed, Stack};
+use asking_core::{Action, Given, Noted};
+use hl_base::OutOfMemory;
+use kept_values::Kept;
+use std::alloc::Global;
+use std::mem;
+
+impl<X: CodedLanguage> Expander<X> {
+    /// Goes to the next statement of the innermost list. Places that do not fit their type count as want of memory.
+    fn step_on(&self, stack: &mut Stack<X::Listing, X::Known>) -> Result<(), OutOfMemory>
+        ensures { OnOk result (let m = meaning X.reads X.call_of X.Call.code X.Key.code X.Value.code in stack_by m stack.new ≡ stepped (stack_by m stack.old)) }
+    {
+        let Some(position) = stack.here.position.checked_add(1) else {
+            return Err(OutOfMemory);
+        };
+        stack.here.position = position;
+        Ok(())
+    }
+
+    /// Goes into a list that the statement copies.
+    fn copy_into(
+        &self,
+        stack: &mut Stack<X::Listing, X::Known>,
+        listing: X::Listing,
+    ) -> Result<(), OutOfMemory>
+        ensures { OnOk result (let m = meaning X.reads X.call_of X.Call.code X.Key.code X.Value.code in stack_by m stack.new ≡ copying (X.reads.listing listing) (stack_by m stack.old)) }
+    {
+        let Some(position) = stack.here.position.checked_add(1) else {
+            return Err(OutOfMemory);
+        };
+        let inner = Level {
+            listing,
+            position: 0,
+        };
+        let mut outer = mem::replace(&mut stack.here, inner);
+        outer.position = position;
+        stack.below.push(outer)?;
+        Ok(())
+    }
+
+    /// Where a call starts, with the answers to the keys of its entry.
+    pub(crate) fn first_stack(
+        &self,
+        alloc: Global,
+        call: &X::Call,
+        answers: &[Noted<X::Key, X::Value>],
+    ) -> Result<Stack<X::Listing, X::Known>, OutOfMemory>
+        ensures { IfOk result (λ x. let m = meaning X.reads X.call_of X.Call.code X.Key.code X.Value.code in stack_by m x ≡ first_stack_of X.language (X.call_of (X.Call.code call.now)) (pairs_by m answers.now)) }
+    {
+        Ok(Stack {
+            is_open_code: self.language.is_open_code(call),
+            known: self.language.bind(alloc, call, answers)?,
+            here: Level {
+                listing: self.language.listing(alloc, call)?,
+                position: 0,
+            },
+            below: Vec::new(alloc),
+        })
+    }
+
+    /// Goes on from a place: with the statement that is there, or out of the list.
+    fn go_on(
+        &self,
+        alloc: Global,
+        stack: &mut Stack<X::Listing, X::Known>,
+    ) -> Taken<X::Listing, X::Call, X::Key, X::Value, X::Item>
+        ensures { let m = meaning X.reads X.call_of X.Call.code X.Key.code X.Value.code in Takes m (Doing (Performing (GoingOn (stack_by m stack.old)))) stack.new result }
+    {
+        if self.language.has_statement(&stack.here) {
+            let phase = if stack.is_open_code {
+                Phase::Placed
+            } else {
+                Phase::Decides(Vec::new(alloc))
+            };
+            return Taken {
+                action: Action::Count,
+                phase,
+            };
+        }
+        match stack.below.pop() {
+            Some(level) => {
+                stack.here = level;
+                Taken {
+                    action: Action::Rise,
+                    phase: Phase::Ready,
+                }
+            }
+            None => Taken {
+                action: Action::Leave,
+                phase: Phase::Ready,
+            },
+        }
+    }
+
+    /// The key at a place of a list.
+    fn key_at<'a>(keys: &'a [X::Key], place: usize) -> Option<&'a X::Key>
+        ensures { option_copied result ≡ slice_get keys.now place }
+    {
+        if place < keys.len() {
+            return Some(&keys[place]);
+        }
+        None
+    }
+
+    /// Asks the next key of the entry, or begins with the first statement.
+    pub(crate) fn open(
+        &self,
+        alloc: Global,
+        stack: &mut Stack<X::Listing, X::Known>,
+        call: X::Call,
+        keys: Vec<X::Key>,
+        answers: Vec<Noted<X::Key, X::Value>>,
+    ) -> Result<Taken<X::Listing, X::Call, X::Key, X::Value, X::Item>, OutOfMemory>
+        ensures { IfOk result (let m = meaning X.reads X.call_of X.Call.code X.Key.code X.Value.code in Takes m (opened X.language (call_by m call) (keys_left m keys.items answers.items) (pairs_by m answers.items)) stack.new) }
+    {
+        let place = answers.as_slice().len();
+        let Some(key) = Self::key_at(keys.as_slice(), place) else {
+            *stack = self.first_stack(alloc, &call, answers.as_slice())?;
+            return Ok(self.go_on(alloc, stack));
+        };
+        let asked = key.copy(alloc)?;
+        Ok(Taken {
+            action: Action::Ask(asked),
+            phase: Phase::Hears(call, keys, answers),
+        })
+    }
+
+    /// The answers to the keys of an entry, with the one that was given.
+    fn hear(
+        alloc: Global,
+        keys: &[X::Key],
+        mut answers: Vec<Noted<X::Key, X::Value>>,
+        given: Given<X::Value>,
+    ) -> Result<Vec<Noted<X::Key, X::Value>>, OutOfMemory>
+        ensures { IfOk result (λ now. (c : X.Call) → let m = meaning X.reads X.call_of X.Call.code X.Key.code X.Value.code in opened X.language (call_by m c) (keys_left m keys.now now.items) (pairs_by m now.items) ≡ heard X.language (hearing m c (keys_left m keys.now answers.items) (pairs_by m answers.items)) (told_of X.Value.code given)) }
+    {
+        let Given::Answer(value) = given else {
+            return Ok(answers);
+        };
+        let place = answers.as_slice().len();
+        let Some(key) = Self::key_at(keys, place) else {
+            return Ok(answers);
+        };
+        let key = key.copy(alloc)?;
+        answers.push(Noted { key, value })?;
+        Ok(answers)
+    }
+
+    /// The answers to the keys of a statement, with the one that was given.
+    fn hear_key(
+        mut answers: Vec<Noted<X::Key, X::Value>>,
+        key: X::Key,
+        given: Given<X::Value>,
+    ) -> Result<Vec<Noted<X::Key, X::Value>>, OutOfMemory>
+        ensures { IfOk result (λ now. let m = meaning X.reads X.call_of X.Call.code X.Key.code X.Value.code in pairs_by m now.items ≡ with_answer X.language (told_of X.Value.code given) (X.Key.code key) (pairs_by m answers.items)) }
+    {
+        let Given::Answer(value) = given else {
+            return Ok(answers);
+        };
+        answers.push(Noted { key, value })?;
+        Ok(answers)
+    }
+
+    /// Nothing is left to do but this.
+    fn nothing_but(alloc: Global, onward: Onward<X::Call>) -> Todo<X::Call, X::Key, X::Value>
+        ensures { let m = meaning X.reads X.call_of X.Call.code X.Key.code X.Value.code in (x : StackOf X.language.words) → todo_by m result x ≡ onward_by m onward x }
+    {
+        Todo {
+            counts: false,
+            puts: Vec::new(alloc),
+            onward,
+        }
+    }
+
+    /// Tells a point, with what is left to do.
+    fn tell(
+        item: X::Item,
+        counts: bool,
+        mut puts: Vec<Noted<X::Key, X::Value>>,
+        onward: Onward<X::Call>,
+    ) -> Taken<X::Listing, X::Call, X::Key, X::Value, X::Item>
+        ensures { let m = meaning X.reads X.call_of X.Call.code X.Key.code X.Value.code in (x : Stack X.Listing X.Known) → Takes m (Doing (Telling (X.reads.item item) (counted_first m counts (puts_then (pairs_by m puts.items) (onward_by m onward (stack_by m x)))))) x result }
+    {
+        puts.reverse();
+        Taken {
+            action: Action::Emit(item),
+            phase: Phase::Does(Todo {
+                counts,
+                puts,
+                onward,
+            }),
+        }
+    }
+
+    /// Goes to a label, if it is somewhere and a branch is left.
+    fn branch(
+        &self,
+        alloc: Global,
+        stack: &mut Stack<X::Listing, X::Known>,
+        said: X::Said,
+        place: Option<u32>,
+        known: Option<X::Known>,
+    ) -> Result<Taken<X::Listing, X::Call, X::Key, X::Value, X::Item>, OutOfMemory>
+        ensures { IfOk result (let m = meaning X.reads X.call_of X.Call.code X.Key.code X.Value.code in Takes m (Doing (step_of X.language (branched place (option_map X.reads.known known) (λ fault. point_by m stack.old said fault) (stack_by m stack.old)) (stack_by m stack.old))) stack.new) }
+    {
+        let Some(position) = place else {
+            let item = self.language.item(alloc, stack, said, Fault::NoLabel)?;
+            self.step_on(stack)?;
+            return Ok(Self::tell(item, false, Vec::new(alloc), Onward::On));
+        };
+        let Some(known) = known else {
+            let item = self.language.item(alloc, stack, said, Fault::NoBranchLeft)?;
+            return Ok(Self::tell(item, false, Vec::new(alloc), Onward::Leave));
+        };
+        let item = self.language.item(alloc, stack, said, Fault::NoFault)?;
+        stack.known = known;
+        stack.here.position = position;
+        Ok(Self::tell(item, false, Vec::new(alloc), Onward::On))
+    }
+
+    /// Does what a statement does, up to its point.
+    fn carry(
+        &self,
+        alloc: Global,
+        stack: &mut Stack<X::Listing, X::Known>,
+        said: X::Said,
+        act: Act<X::Listing, X::Label, X::Known, X::Said, X::Call, X::Key, X::Value>,
+    ) -> Result<Taken<X::Listing, X::Call, X::Key, X::Value, X::Item>, OutOfMemory>
+        ensures { IfOk result (let m = meaning X.reads X.call_of X.Call.code X.Key.code X.Value.code in Takes m (Doing (step_by X.language (effect_by m said act) (stack_by m stack.old))) stack.new) }
+    {
+        match act {
+            Act::Continues(known, puts) => {
+                let item = self.language.item(alloc, stack, said, Fault::NoFault)?;
+                self.step_on(stack)?;
+                stack.known = known;
+                Ok(Self::tell(item, false, puts, Onward::On))
+            }
+            Act::Branches(label, known) => {
+                let place = self.language.place_of(&stack.here.listing, &label);
+                self.branch(alloc, stack, said, place, known)
+            }
+            Act::Enters(limited, entry) => {
+                let item = self.language.item(alloc, stack, said, Fault::NoFault)?;
+                let limited = self.language.item(alloc, stack, limited, Fault::NoRoom)?;
+                Ok(Taken {
+                    action: Action::Deepen,
+                    phase: Phase::Tried(limited, item, entry),
+                })
+            }
+            Act::Returns => {
+                let item = self.language.item(alloc, stack, said, Fault::NoFault)?;
+                Ok(Self::tell(item, false, Vec::new(alloc), Onward::Leave))
+            }
+            Act::Finishes => {
+                let item = self.language.item(alloc, stack, said, Fault::NoFault)?;
+                Ok(Self::tell(item, false, Vec::new(alloc), Onward::Finish))
+            }
+        }
+    }
+
+    /// Follows the questions of a statement as far as the answers lead.
+    fn decide(
+        &self,
+        alloc: Global,
+        stack: &mut Stack<X::Listing, X::Known>,
+        answers: Vec<Noted<X::Key, X::Value>>,
+    ) -> Result<Taken<X::Listing, X::Call, X::Key, X::Value, X::Item>, OutOfMemory>
+        ensures { IfOk result (let m = meaning X.reads X.call_of X.Call.code X.Key.code X.Value.code in Takes m (deciding m (statement_at X.language (stack_by m stack.old).here) (stack_by m stack.old) (pairs_by m answers.items)) stack.new) }
+    {
+        let language = &self.language;
+        match language.perform(alloc, &stack.here, &stack.known, answers.as_slice())? {
+            Performed::Nothing => Ok(self.go_on(alloc, stack)),
+            Performed::Wants(key) => {
+                let asked = key.copy(alloc)?;
+                Ok(Taken {
+                    action: Action::Ask(asked),
+                    phase: Phase::Waits(answers, key),
+                })
+            }
+            Performed::Does(said, act) => self.carry(alloc, stack, said, act),
+        }
+    }
+
+    /// Does the next thing that is left of a statement.
+    fn do_next(
+        &self,
+        alloc: Global,
+        stack: &mut Stack<X::Listing, X::Known>,
+        mut todo: Todo<X::Call, X::Key, X::Value>,
+    ) -> Taken<X::Listing, X::Call, X::Key, X::Value, X::Item>
+        ensures { let m = meaning X.reads X.call_of X.Call.code X.Key.code X.Value.code in Takes m (Doing (Performing (todo_by m todo (stack_by m stack.old)))) stack.new result }
+    {
+        if todo.counts {
+            todo.counts = false;
+            return Taken {
+                action: Action::Bump,
+                phase: Phase::Does(todo),
+            };
+        }
+        if let Some(put) = todo.puts.pop() {
+            return Taken {
+                action: Action::Put(put.key, put.value),
+                phase: Phase::Does(todo),
+            };
+        }
+        self.go_onward(alloc, stack, todo.onward)
+    }
+
+    /// Goes on once nothing is left to put.
+    fn go_onward(
+        &self,
+        alloc: Global,
+        stack: &mut Stack<X::Listing, X::Known>,
+        onward: Onward<X::Call>,
+    ) -> Taken<X::Listing, X::Call, X::Key, X::Value, X::Item>
+        ensures { let m = meaning X.reads X.call_of X.Call.code X.Key.code X.Value.code in Takes m (Doing (Performing (onward_by m onward (stack_by m stack.old)))) stack.new result }
+    {
+        match onward {
+            Onward::On => self.go_on(alloc, stack),
+            Onward::Enter(call) => Taken {
+                action: Action::Enter(call),
+                phase: Phase::Inside,
+            },
+            Onward::Leave => Taken {
+                action: Action::Leave,
+                phase: Phase::Does(Self::nothing_but(alloc, Onward::Leave)),
+            },
+            Onward::Finish => Taken {
+                action: Action::End,
+                phase: Phase::Does(Self::nothing_but(alloc, Onward::Finish)),
+            },
+        }
+    }
+
+    /// Enters what a statement enters: a frame that was tried has room.
+    fn enter(
+        &self,
+        alloc: Global,
+        stack: &mut Stack<X::Listing, X::Known>,
+        item: X::Item,
+        entry: Entry<X::Listing, X::Call, X::Key, X::Value>,
+    ) -> Result<Taken<X::Listing, X::Call, X::Key, X::Value, X::Item>, OutOfMemory>
+        ensures { IfOk result (let m = meaning X.reads X.call_of X.Call.code X.Key.code X.Value.code in Takes m (Doing (roomy_step (X.reads.item item) (entry_by m entry) (stack_by m stack.old))) stack.new) }
+    {
+        match entry {
+            Entry::Nowhere => {
+                self.step_on(stack)?;
+                Ok(Taken {
+                    action: Action::Rise,
+                    phase: Phase::Tells(item, Self::nothing_but(alloc, Onward::On)),
+                })
+            }
+            Entry::Calling(call, mut puts) => {
+                puts.reverse();
+                Ok(Taken {
+                    action: Action::Rise,
+                    phase: Phase::Tells(
+                        item,
+                        Todo {
+                            counts: true,
+                            puts,
+                            onward: Onward::Enter(call),
+                        },
+                    ),
+                })
+            }
+            Entry::Copying(listing) => {
+                self.copy_into(stack, listing)?;
+                Ok(Self::tell(item, false, Vec::new(alloc), Onward::On))
+            }
+        }
+    }
+
+    /// Goes on after a frame was tried.
+    fn enter_or_pass(
+        &self,
+        alloc: Global,
+        stack: &mut Stack<X::Listing, X::Known>,
+        limited: X::Item,
+        item: X::Item,
+        entry: Entry<X::Listing, X::Call, X::Key, X::Value>,
+        given: Given<X::Value>,
+    ) -> Result<Taken<X::Listing, X::Call, X::Key, X::Value, X::Item>, OutOfMemory>
+        ensures { IfOk result (let m = meaning X.reads X.call_of X.Call.code X.Key.code X.Value.code in Takes m (Doing (tried X.language (told_of X.Value.code given) (X.reads.item limited) (X.reads.item item) (entry_by m entry) (stack_by m stack.old))) stack.new) }
+    {
+        if let Given::TooDeep = given {
+            self.step_on(stack)?;
+            return Ok(Self::tell(limited, false, Vec::new(alloc), Onward::On));
+        }
+        self.enter(alloc, stack, item, entry)
+    }
+
+    /// The number of the outermost statement.
+    fn outermost(stack: &Stack<X::Listing, X::Known>) -> u32
+        ensures { let m = meaning X.reads X.call_of X.Call.code X.Key.code X.Value.code in result ≡ outermost_of (stack_by m stack.now).here (stack_by m stack.now).below }
+    {
+        match stack.below.as_slice().first() {
+            Some(level) => level.position,
+            None => stack.here.position,
+        }
+    }
+
+    /// Tells the world of the outermost statement.
+    fn place(
+        &self,
+        alloc: Global,
+        stack: &mut Stack<X::Listing, X::Known>,
+    ) -> Taken<X::Listing, X::Call, X::Key, X::Value, X::Item>
+        ensures { let m = meaning X.reads X.call_of X.Call.code X.Key.code X.Value.code in Takes m (placing m (statement_at X.language (stack_by m stack.old).here) (stack_by m stack.old)) stack.new result }
+    {
+        if !self.language.has_statement(&stack.here) {
+            return self.go_on(alloc, stack);
+        }
+        let position = Self::outermost(stack);
+        Taken {
+            action: Action::At(position),
+            phase: Phase::Decides(Vec::new(alloc)),
+        }
+    }
+
+    /// The next action.
+    pub(crate) fn advance(
+        &self,
+        alloc: Global,
+        stack: &mut Stack<X::Listing, X::Known>,
+        phase: Phase<X::Listing, X::Call, X::Key, X::Value, X::Item>,
+        given: Given<X::Value>,
+    ) -> Result<Taken<X::Listing, X::Call, X::Key, X::Value, X::Item>, OutOfMemory>
+        ensures { IfOk result (let m = meaning X.reads X.call_of X.Call.code X.Key.code X.Value.code in Takes m (heard X.language (phase_by m (stack_by m stack.old) phase) (told_of X.Value.code given)) stack.new) }
+    {
+        match phase {
+            Phase::Opens(call, keys, answers) => self.open(alloc, stack, call, keys, answers),
+            Phase::Hears(call, keys, answers) => {
+                let answers = Self::hear(alloc, keys.as_slice(), answers, given)?;
+                self.open(alloc, stack, call, keys, answers)
+            }
+            Phase::Ready => Ok(self.go_on(alloc, stack)),
+            Phase::Placed => Ok(self.place(alloc, stack)),
+            Phase::Decides(answers) => self.decide(alloc, stack, answers),
+            Phase::Waits(answers, key) => {
+                let answers = Self::hear_key(answers, key, given)?;
+                self.decide(alloc, stack, answers)
+            }
+            Phase::Tells(item, todo) => Ok(Taken {
+                action: Action::Emit(item),
+                phase: Phase::Does(todo),
+            }),
+            Phase::Does(todo) => Ok(self.do_next(alloc, stack, todo)),
+            Phase::Tried(limited, item, entry) => {
+                self.enter_or_pass(alloc, stack, limited, item, entry, given)
+            }
+            Phase::Inside => {
+                self.step_on(stack)?;
+                Ok(self.go_on(alloc, stack))
+            }
+        }
+    }
+}
