@@ -1,10 +1,12 @@
 #!/usr/bin/env python3
-"""hlasm-lint with the built program: what it lists, its status, and what it says where a file or the server fails.
+"""hlasm-lint with the built program: what it lists, its status, and what it says when a file or the server fails.
 
 Usage: lint.py [--server PATH]
 """
 import argparse
+import json
 import os
+import pty
 import re
 import subprocess
 import sys
@@ -29,6 +31,9 @@ def marked(text):
 
 
 BAD_MARGIN = marked("A        LR    1,2") + "  B\n"
+
+# Two errors in the first statement, and a warning.
+FAULTY = marked("*") + marked("  *") + marked("") * 8 + "\n"
 
 # What one file lists: its name, its text, and the reports behind FILE:
 LISTED = [
@@ -58,11 +63,11 @@ FAILING = [
     ("exec '{server}' serv", "ended with status 7"),
     ("'{server}' serve < /dev/null", "ended with status 2"),
     ("dd bs=1 count=400 2> /dev/null | '{server}' serve", "ended with status 2"),
-    ("read line; echo Hello", "no message"),
-    ("read line; printf 'Content-Type: x\\r\\n\\r\\n{{}}'", "no length"),
+    ("read line; echo Hello", "not a message"),
+    ("read line; printf 'Content-Type: x\\r\\n\\r\\n{{}}'", "without a length"),
     ("read line; printf 'Content-Length: 99999999999999999999\\r\\n\\r\\n{{}}'", "hopeless"),
-    ("read line; printf 'Content-Length: 2\\r\\n\\r\\n[]'", "no object"),
-    ("read line; printf 'Content-Length: 1\\r\\n\\r\\n{{'", "no JSON"),
+    ("read line; printf 'Content-Length: 2\\r\\n\\r\\n[]'", "not an object"),
+    ("read line; printf 'Content-Length: 1\\r\\n\\r\\n{{'", "not JSON"),
     ("read line; printf 'Content-Length: 38\\r\\n\\r\\n{{\"id\":1,\"jsonrpc\":\"2.0\",\"error\":null }}'", "unknown form"),
     ("sleep 1000", "did not answer within 5 seconds"),
     ("'{server}' serve; sleep 1000", "did not end within 5 seconds"),
@@ -89,6 +94,15 @@ class Lint(unittest.TestCase):
         with open(path, "wb") as file:
             file.write(content if isinstance(content, bytes) else content.encode("utf-8"))
         return name
+
+    def folder_of(self, top, *names):
+        """A folder with files of these names, each with faults of three codes."""
+        for name in names:
+            path = os.path.join(self.folder, top, name)
+            os.makedirs(os.path.dirname(path), exist_ok=True)
+            with open(path, "w", encoding="utf-8") as file:
+                file.write(FAULTY)
+        return top
 
     def script(self, name, line):
         self.file(name, f"#!/bin/sh\n{line}\n")
@@ -145,8 +159,8 @@ class Lint(unittest.TestCase):
         largest = self.file("largest.hlasm", (END + ("*" * 70 + "\n") * 59_100)[: 4 * 1024 * 1024])
         cases = [
             ("absent.hlasm", "absent.hlasm: cannot be read: No such file or directory"),
-            (".", ".: cannot be read: Is a directory"),
-            (self.file("ebcdic.hlasm", "* AÜ".encode("cp500")), "ebcdic.hlasm: is not UTF-8 (byte 3); convert it first, as by iconv -f IBM-1047 -t UTF-8"),
+            (self.folder_of("nothing", ".hidden/a.hlasm", "notes.txt"), "nothing: has no file .hlasm, .asm, .mac, .cpy"),
+            (self.file("ebcdic.hlasm", "* AÜ".encode("cp500")), "ebcdic.hlasm: is not UTF-8 (byte 3); if it is EBCDIC, name its code page, as in --encoding IBM-1047"),
             (self.file("large.hlasm", " " * (4 * 1024 * 1024 + 1)), "large.hlasm: is above 4 MiB"),
             (self.file("escapes.hlasm", "\x01" * 3_000_000), "escapes.hlasm: too many characters that JSON escapes: the message would be above 16 MiB"),
         ]
@@ -171,7 +185,10 @@ class Lint(unittest.TestCase):
 
     def test_the_words(self):
         name = self.file("good.hlasm", END)
-        for words in ([], ["--root", "absent", name], ["--root", name, name], ["--unknown", name], ["--timeout", "0", name]):
+        wrong = ([], ["--root", "absent", name], ["--root", name, name], ["--unknown", name], ["--timeout", "0", name],
+                 ["--only", "H1", name], ["--ignore", "", name], ["--encoding", "EBCDIC", name], ["--encoding", "base64", name],
+                 ["--json", "--sarif", name])
+        for words in wrong:
             with self.subTest(words):
                 status, lines, said = lint(*words, folder=self.folder)
                 self.assertEqual((2, []), (status, lines))
@@ -183,6 +200,119 @@ class Lint(unittest.TestCase):
                 self.assertIn(f'"rootUri":"file://{os.path.realpath(root)}"', file.read())
         said = lint("--verbose", name, folder=self.folder)[2]
         self.assertEqual(f"hlasm-lint: 1 of 1 files checked by {server}: errors 0, others 0\n", said)
+        with open(os.path.join(TOP, "VERSION"), encoding="utf-8") as file:
+            self.assertEqual((0, [f"hlasm-lint {file.read().strip()}"], ""), lint("--version", folder=self.folder))
+
+    def test_a_folder_stands_for_the_files_below_it(self):
+        self.folder_of("src", "z.hlasm", "B.ASM", "lib/a.mac", "lib/deep/a.cpy", ".git/a.hlasm", "lib/notes.txt", "lib/MEMBER")
+        wanted = [f"src/{name}" for name in ("B.ASM", "z.hlasm", "lib/a.mac", "lib/deep/a.cpy")]
+        self.assertEqual(wanted, self.files_listed("src"))
+        self.assertEqual(wanted, self.files_listed("./src/"))
+        self.assertEqual([f"{self.folder}/{name}" for name in wanted], self.files_listed(f"{self.folder}/src"))
+        self.assertEqual([*wanted, "src/lib/MEMBER"], self.files_listed("src", "src/lib/MEMBER"))
+
+    def files_listed(self, *words):
+        lines = lint(*words, "--only", "H001", folder=self.folder)[1]
+        return [line.partition(":")[0] for line in lines]
+
+    def test_a_member_of_a_library_needs_no_end(self):
+        self.folder_of(".", "a.hlasm", "lib/b.hlasm", "lib/below/c.hlasm", "copy/d.hlasm")
+        groups = {"pgroups": [{"name": "G", "libs": ["lib/", 7, {"path": "./copy"}, {"optional": True}]}, 1, {"libs": 2}]}
+        wanted = ["H001", "H002", "H003"]
+        for settings, codes in (json.dumps(groups), wanted[:2]), ("{", wanted), ("[]", wanted), ('{"pgroups": 1}', wanted):
+            os.makedirs(os.path.join(self.folder, ".hlasmplugin"), exist_ok=True)
+            self.file(".hlasmplugin/proc_grps.json", settings)
+            for name, found in ("a.hlasm", wanted), ("lib/b.hlasm", codes), ("lib/below/c.hlasm", wanted), ("copy/d.hlasm", codes):
+                with self.subTest((settings, name)):
+                    self.assertEqual(found, self.codes_listed(name))
+
+    def codes_listed(self, *words):
+        return [line[-5:-1] for line in lint(*words, folder=self.folder)[1]]
+
+    def test_codes_that_are_chosen(self):
+        name = self.file("faulty.hlasm", FAULTY)
+        for words, codes, status in (
+            ([], ["H001", "H002", "H003"], 1),
+            (["--ignore", "H001"], ["H002", "H003"], 1),
+            (["--ignore", "h001", "--ignore", "H002"], ["H003"], 0),
+            (["--only", "H001", "--only", "H003"], ["H001", "H003"], 1),
+            (["--only", "H003", "--warnings-as-errors"], ["H003"], 1),
+            (["--only", "H001", "--only", "H003", "--ignore", "H001"], ["H003"], 0),
+            (["--only", "MNOTE", "--warnings-as-errors"], [], 0),
+        ):
+            with self.subTest(words):
+                self.assertEqual(codes, self.codes_listed(*words, name))
+                self.assertEqual(status, lint(*words, name, folder=self.folder)[0])
+
+    def test_a_log_in_the_form_sarif(self):
+        self.folder_of("src", "größe a.hlasm")
+        status, lines, said = lint("--sarif", "src", "absent.hlasm", folder=self.folder)
+        self.assertEqual(2, status)
+        log = json.loads("\n".join(lines))
+        run = log["runs"][0]
+        self.assertEqual(("2.1.0", "unicodeCodePoints"), (log["version"], run["columnKind"]))
+        self.assertEqual(["H001", "H002", "H003"], [rule["id"] for rule in run["tool"]["driver"]["rules"]])
+        self.assertEqual(["H001", "H002", "H003"], [it["ruleId"] for it in run["results"]])
+        self.assertEqual(["error", "error", "warning"], [it["level"] for it in run["results"]])
+        self.assertEqual({
+            "artifactLocation": {"uri": "src/gr%C3%B6%C3%9Fe%20a.hlasm"},
+            "region": {"startLine": 1, "startColumn": 1, "endLine": 1, "endColumn": 72},
+        }, run["results"][0]["locations"][0]["physicalLocation"])
+        self.assertEqual({"text": "columns 1 to 15 of a continuation line are not blank"}, run["results"][0]["message"])
+        done = run["invocations"][0]
+        self.assertEqual((False, ["absent.hlasm: cannot be read: No such file or directory"]),
+                         (done["executionSuccessful"], [it["message"]["text"] for it in done["toolExecutionNotifications"]]))
+        clean = json.loads("".join(lint("--sarif", self.file("clean.hlasm", END), folder=self.folder)[1]))["runs"][0]
+        self.assertEqual(([], True), (clean["results"], clean["invocations"][0]["executionSuccessful"]))
+
+    def test_files_of_the_host(self):
+        """Code pages, line ends and records, in which a blank is X'40' and a character in column 72 continues."""
+        lines = [BAD_MARGIN.split("\n")[0], "  B", END[:-1]]
+        ended = "".join(line + "\n" for line in lines).encode("cp037")
+        for name, encoding, data in (
+            ("lf", "IBM-037", ended),
+            ("nel", "cp1047", ended.replace(b"\x25", b"\x15")),
+            ("crnel", "1047", ended.replace(b"\x25", b"\x0d\x15")),
+            ("records", "IBM1047", "".join(line.ljust(80) for line in lines).encode("cp037")),
+            ("german", "ibm-273", ended),
+            ("latin", "latin-1", "".join(line + "\n" for line in lines).encode("latin-1") + b"* \xe4 \x85\n"),
+        ):
+            with self.subTest(name):
+                self.assertEqual((1, [f"{name}:1:1: {MARGIN}"], ""), lint("--encoding", encoding, self.file(name, data), folder=self.folder))
+        bad = self.file("bad", b"\xe4\n")
+        self.assertEqual((2, [], "hlasm-lint: bad: is not ascii (byte 1)\n"), lint("--encoding", "ascii", bad, folder=self.folder))
+        large = self.file("large", b"\x51" * 3_000_000)
+        self.assertEqual((2, [], "hlasm-lint: large: is above 4 MiB in UTF-8\n"), lint("--encoding", "IBM-037", large, folder=self.folder))
+
+    def test_code_page_1047(self):
+        """The characters in which it differs from page 037, as IBM's table of 1047 has them."""
+        name = self.file("page", b"\x5c" * 71 + b"\x15\x4a\x5a\x4f\xad\xbd\x5f\xb0\xba\xbb\xc0\xd0\xe0\x15")
+        program = self.script("heard", f"tee '{self.folder}/heard.txt' | '{server}' serve")
+        lint("--encoding", "IBM-1047", name, folder=self.folder, program=program)
+        with open(os.path.join(self.folder, "heard.txt"), encoding="utf-8") as file:
+            self.assertIn("*" * 71 + r"\n¢!|[]^¬Ý¨{}\\\n", file.read())
+
+    def test_a_terminal_is_told_how_far_the_work_is(self):
+        names = [self.file(f"{number}.hlasm", END) for number in range(21)]
+        self.assertEqual(b"", self.shown_on_a_terminal(*names[:20]))
+        shown = self.shown_on_a_terminal(*names)
+        self.assertIn(b"\r\x1b[Khlasm-lint: 0 of 21 files", shown)
+        self.assertIn(b"20 of 21 files", shown)
+        self.assertTrue(shown.endswith(b"\r\x1b[K"), "the line is not wiped away")
+        self.assertEqual("", lint(*names, folder=self.folder)[2])
+
+    def shown_on_a_terminal(self, *words):
+        """Standard error, as a terminal gets it."""
+        here, there = pty.openpty()
+        with open(here, "rb", buffering=0) as terminal:
+            subprocess.run([sys.executable, LINT, "--server", server, *words], cwd=self.folder, stdin=subprocess.DEVNULL,
+                           stdout=subprocess.DEVNULL, stderr=there, timeout=300, check=True)
+            os.write(there, b"!")
+            os.close(there)
+            shown = b""
+            while not shown.endswith(b"!"):
+                shown += terminal.read(4096)
+        return shown[:-1]
 
 
 if __name__ == "__main__":
