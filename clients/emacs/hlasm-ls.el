@@ -4,17 +4,18 @@
 
 ;;; Commentary:
 
-;; A mode for files of the IBM High Level Assembler, and the server for them:
+;; The server for files in `hlasm-mode', which comes with it:
 ;;
 ;;     (add-to-list 'load-path "/path/to/clients/emacs")
 ;;     (require 'hlasm-ls)
 ;;     (add-hook 'hlasm-mode-hook #'eglot-ensure)
 ;;
-;; Where hlasm_ls is not on the PATH, customize `hlasm-ls-command'.
+;; If hlasm_ls is not on the PATH, customize `hlasm-ls-command'.
 
 ;;; Code:
 
 (require 'eglot)
+(require 'hlasm-mode)
 (require 'json)
 (require 'project)
 
@@ -34,26 +35,15 @@
 (defconst hlasm-ls--not-answered
   '(:hoverProvider :definitionProvider :referencesProvider :documentSymbolProvider))
 
-;;;###autoload
-(define-derived-mode hlasm-mode prog-mode "HLASM"
-  "A mode for files of the IBM High Level Assembler."
-  (setq-local comment-start "*")
-  (setq-local comment-start-skip "^\\.?\\*+[ \t]*")
-  (setq-local comment-end "")
-  (setq-local comment-column 0)
-  (setq-local indent-tabs-mode nil)
-  ;; Column 72 continues a line, and Emacs counts columns from 0.
-  (setq-local fill-column 71)
-  (setq-local tab-stop-list '(9 15))
-  (setq-local indent-line-function #'tab-to-tab-stop)
-  ;; The name was misspelt in early versions of eglot.
+;; The name was misspelt in early versions of eglot.
+(defun hlasm-ls--ask-nothing ()
+  "Let eglot ask nothing in this buffer that the server does not answer."
   (set (make-local-variable (if (boundp 'eglot-ignored-server-capabilities)
                                 'eglot-ignored-server-capabilities
                               'eglot-ignored-server-capabilites))
        hlasm-ls--not-answered))
 
-;;;###autoload
-(add-to-list 'auto-mode-alist '("\\.\\(?:hlasm\\|asm\\|mac\\|cpy\\)\\'" . hlasm-mode))
+(add-hook 'hlasm-mode-hook #'hlasm-ls--ask-nothing)
 
 (add-to-list 'eglot-server-programs '(hlasm-mode . (lambda (&rest _) hlasm-ls-command)))
 

@@ -157,6 +157,7 @@ local function files()
     local entry = { name = name, filetype = vim.bo[buffer].filetype }
     if entry.filetype == 'hlasm' then
       assert(vim.wo.colorcolumn == '72', name .. ': the settings of the filetype are not there')
+      assert(vim.bo.expandtab and vim.bo.varsofttabstop == '9,6,8' and not vim.wo.wrap, name .. ': typed otherwise')
       local uri = vim.uri_from_bufnr(buffer)
       await(name, function()
         return published[uri]

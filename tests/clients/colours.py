@@ -1,0 +1,151 @@
+#!/usr/bin/env python3
+"""The colours of HLASM in each editor that is there: Vim, Neovim, Emacs, VS Code (its grammar, by node) and Kate (by the program
+kate-syntax-highlighter). colours/example.hlasm has each sort of statement, and colours/example.txt a letter for each of its
+characters, worked out from the rules: N name, O operation, P operand, Q quoted text, V variable symbol, R remarks, C comment,
+M a mark in column 72, S what stands behind, E text before column 16 of a continuation line. Also, each editor knows the
+operations that are built in. If no editor is there it ends with 77: skipped.
+"""
+import html
+import json
+import os
+import re
+import shutil
+import subprocess
+import sys
+import tempfile
+
+HERE = os.path.join(os.path.dirname(os.path.realpath(__file__)), "colours")
+CLIENTS = os.path.normpath(os.path.join(HERE, "../../../clients"))
+TABLES = os.path.normpath(os.path.join(HERE, "../../../crates/instruction_table/specs"))
+SKIPPED = 77
+
+
+def read(path):
+    with open(path, encoding="utf-8") as file:
+        return file.read()
+
+
+def run(words, room, **more):
+    """Runs a program in the folder of the example, with a home of its own. What it printed."""
+    environment = dict(os.environ, HOME=room, HLASM_TEST_RECORD=f"{room}/record", XDG_DATA_HOME=f"{room}/data",
+                       XDG_CONFIG_HOME=f"{room}/config", QT_QPA_PLATFORM="offscreen")
+    ran = subprocess.run(words, cwd=HERE, env=environment, capture_output=True, timeout=120, encoding="utf-8", errors="replace", **more)
+    if ran.returncode != 0:
+        sys.exit(f"colours.py: {words[0]} ended with {ran.returncode}: {ran.stdout}{ran.stderr}")
+    return ran.stdout
+
+
+def of_vim(name, room):
+    quiet = ["--clean", "--headless"] if name == "nvim" else ["-u", "NONE", "-N", "-es"]
+    run([name, *quiet, "-n", "-i", "NONE", "--cmd", "let g:loaded_hlasm_ls = 1", "--cmd", f"set runtimepath^={CLIENTS}/neovim",
+         "-c", "filetype plugin on | syntax on", "-c", "edit example.hlasm", "-S", "vim.vim", "-c", "qall!"], room)
+    return read(f"{room}/record")
+
+
+def of_emacs(name, room):
+    run([name, "-Q", "--batch", "-L", f"{CLIENTS}/emacs", "-l", "emacs.el"], room)
+    return read(f"{room}/record")
+
+
+def of_node(name, room):
+    with open(os.path.join(HERE, "example.hlasm"), encoding="utf-8") as example:
+        return run([name, "vscode.js", f"{CLIENTS}/vscode/syntaxes/hlasm.tmLanguage.json"], room, stdin=example)
+
+
+# Kate's styles, and their letters. Each gets a colour of its own, #0000NN, NN being the letter.
+STYLES = {"Normal": "P", "Function": "N", "Keyword": "O", "Preprocessor": "O", "Extension": "O", "Variable": "V", "String": "Q",
+          "Comment": "C", "Warning": "M", "Error": "E", "Information": "S"}
+
+
+def of_kate(name, room):
+    for path, made in (("syntax/hlasm.xml", read(f"{CLIENTS}/kate/hlasm.xml")), ("themes/letters.theme", json.dumps(theme()))):
+        path = f"{room}/data/org.kde.syntax-highlighting/{path}"
+        os.makedirs(os.path.dirname(path), exist_ok=True)
+        with open(path, "w", encoding="utf-8") as file:
+            file.write(made)
+    page = run([name, "-s", "HLASM", "-t", "Letters", "example.hlasm"], room)
+    rows = re.search("<pre>\n?(.*)</pre>", page, re.DOTALL)[1]
+    return "".join(letters_of_page(rows))
+
+
+def theme():
+    styles = {name: {"text-color": f"#0000{ord(letter):02x}"} for name, letter in STYLES.items()}
+    return {"metadata": {"name": "Letters", "revision": 1}, "text-styles": styles, "editor-colors": {"BackgroundColor": "#ffffff"}}
+
+
+def letters_of_page(rows):
+    """The letters by the colours of a page."""
+    letter = "P"
+    for tag, text in re.findall("(<[^>]*>)|([^<]+)", rows):
+        if tag:
+            colour = re.search("[^-]color:#0000([0-9a-f]{2})", tag)
+            letter = chr(int(colour[1], 16)) if colour else "P"
+        else:
+            yield "".join(it if it.isspace() else letter for it in html.unescape(text))
+
+
+# Each editor: the program, what it says of the example, and letters that are one there, since two things have one face.
+EDITORS = [("vim", of_vim, ""), ("nvim", of_vim, ""), ("emacs", of_emacs, "RC"), ("node", of_node, ""),
+           ("kate-syntax-highlighter", of_kate, "RC")]
+
+
+def faults_of_colours(name, letters, same):
+    """Where an editor colours the example in another way."""
+    wanted = read(os.path.join(HERE, "example.txt"))
+    if same:
+        wanted = wanted.replace(*same)
+    lines = read(os.path.join(HERE, "example.hlasm")).splitlines()
+    found = [row.rstrip() for row in letters.splitlines()]
+    if len(found) != len(lines):
+        yield f"{name}: {len(found)} lines, not {len(lines)}"
+    for line, row, right in zip(lines, found, wanted.splitlines()):
+        if row != right:
+            yield f"{name}:\n  {line}\n  {row}\n  {right}, by the rules"
+
+
+def operations():
+    """The operations that are built in and decide how operands go on, by the definitions of the crate that has the table."""
+    machine = re.findall(r'of_format \w+ \(words \(codes "([A-Z ]+)"\)\)', read_all(TABLES))
+    rest = dict(re.findall(r'^(conditional|ordinary|both|silent) = words \(codes "([A-Z ]+)"\)', read_all(TABLES), re.MULTILINE))
+    return {name for names in (*machine, *rest.values()) for name in names.split()}
+
+
+def read_all(folder):
+    return "\n".join(read(os.path.join(folder, name)) for name in sorted(os.listdir(folder)))
+
+
+def faults_of_lists():
+    """Which files of colours know other operations than are built in."""
+    wanted = operations()
+    lists = {
+        "neovim/syntax/hlasm.vim": r"(?m)(?:\\\||^ +\\)([A-Z]+)(?=\\\||$)",
+        "emacs/hlasm-mode.el": r"\b([A-Z]+)\b",
+        "vscode/syntaxes/hlasm.tmLanguage.json": r"(?<=[:|])([A-Z]+)(?=[|)])",
+        "kate/hlasm.xml": "<item>([A-Z]+)</item>",
+    }
+    for path, form in lists.items():
+        text = read(os.path.join(CLIENTS, path))
+        if path.endswith(".el"):
+            text = " ".join(re.findall(r'\(split-string "([A-Z\s]+)"\)', text))
+        found = set(re.findall(form, text))
+        if found != wanted:
+            yield f"{path}: operations missing {sorted(wanted - found)}, and too many {sorted(found - wanted)}"
+
+
+def main():
+    faults, seen = list(faults_of_lists()), []
+    if len(operations()) < 200:
+        faults.append(f"the tables of operations have {len(operations())} names only")
+    for name, letters_of, same in EDITORS:
+        if shutil.which(name):
+            seen.append(name)
+            with tempfile.TemporaryDirectory(prefix="hlasm-colours-") as room:
+                faults += faults_of_colours(name, letters_of(name, room), same)
+    for fault in faults:
+        print(f"FAIL {fault}")
+    print(f"colours.py: {', '.join(seen) or 'no editor is there'}: {len(faults)} faults")
+    return 1 if faults else 0 if seen else SKIPPED
+
+
+if __name__ == "__main__":
+    sys.exit(main())
