@@ -1,5 +1,5 @@
 use Rattle.std.proofs.Common.{◌<◌, ℕ, slice_index_or}
-use Rattle.io_edge.proofs.tests.is_positive.Given as goal
+use Rattle.io_cases.proofs.words.is_positive.Given as goal
 
 -- the sizes so far are positive
 abbrev pub invariant-loop-size : goal.invariant-loop-size
