@@ -1,11 +1,12 @@
 //! What a run leaves beside its points.
 ghost use Rattle.std.specs.Prelude.{◌≡◌, ◌+◌, ◌<◌, ◌^◌, false, OnOk, OnErr};
+ghost use Rattle.asking_core.specs.Worlds.{moved};
 ghost use Rattle.kept_values.specs.Trees.{Pair};
 ghost use Rattle.asking_core.specs.Places.{pairs_of};
 ghost use Rattle.kept_outcomes.specs.Outcomes.{blank_summary};
-ghost use Rattle.kept_outcomes.specs.Moments.{reading, putting, counting_call, taking_unit, deepening, finding_no_room, telling_at};
+ghost use Rattle.kept_outcomes.specs.Moments.{reading, putting, counting_call, taking_unit, deepening, finding_no_room, telling_at, reading_child, putting_child, joining_kept, joined};
 
-use asking_core::{Footprint, Noted};
+use asking_core::{AskMachine, Footprint, Noted, World, carry};
 use hl_base::OutOfMemory;
 use kept_values::Kept;
 use std::alloc::Global;
@@ -183,5 +184,92 @@ impl<K: Kept, V: Kept> CallSummary<K, V> {
         ensures { self.new ≡ telling_at self.old }
     {
         self.at_told = true;
+    }
+
+    /// What a nested call left is joined, where so many frames stand open in its caller.
+    pub fn join<M: AskMachine<Key = K, Value = V>>(
+        &mut self,
+        machine: &M,
+        alloc: Global,
+        child: &CallSummary<K, V>,
+        frames: u32,
+    ) -> Result<(), OutOfMemory>
+        requires units { self.old.units + child.now.units < 2 ^ 32 }
+        requires levels { frames + 1 + child.now.levels < 2 ^ 32 }
+        ensures { OnOk result (self.new ≡ joined M.rebased frames self.old child.now) }
+    {
+        self.join_kept(machine, alloc, child)?;
+        self.units += child.units;
+        self.levels = self.levels.max(frames + 1 + child.levels);
+        self.no_room = self.no_room || child.no_room;
+        self.at_told = self.at_told || child.at_told;
+        Ok(())
+    }
+
+    /// What a nested call has to do with the world is joined, unless an outermost statement came.
+    fn join_kept<M: AskMachine<Key = K, Value = V>>(
+        &mut self,
+        machine: &M,
+        alloc: Global,
+        child: &CallSummary<K, V>,
+    ) -> Result<(), OutOfMemory>
+        ensures { OnOk result (self.new ≡ joining_kept M.rebased self.old child.now) }
+    {
+        if self.at_told || child.at_told {
+            return Ok(());
+        }
+        self.join_read(machine, alloc, child)?;
+        self.join_puts(alloc, child)?;
+        let Some(calls) = self.calls.checked_add(child.calls) else {
+            return Err(OutOfMemory);
+        };
+        self.calls = calls;
+        Ok(())
+    }
+
+    /// What a nested call read is read by its caller too, unless the caller had put it.
+    fn join_read<M: AskMachine<Key = K, Value = V>>(
+        &mut self,
+        machine: &M,
+        alloc: Global,
+        child: &CallSummary<K, V>,
+    ) -> Result<(), OutOfMemory>
+        ensures { OnOk result (self.new ≡ reading_child M.rebased self.old child.now) }
+    {
+        let carried = carry(machine, alloc, &child.read, &self.written, self.calls)?;
+        self.read.merge_child(alloc, &carried)?;
+        Ok(())
+    }
+
+    /// What a nested call put is put by its caller too.
+    fn join_puts(&mut self, alloc: Global, child: &CallSummary<K, V>) -> Result<(), OutOfMemory>
+        requires kept { self.old.at_told ≡ false }
+        ensures { OnOk result (self.new ≡ putting_child self.old child.now) }
+    {
+        let puts = child.puts.as_slice();
+        for put in puts {
+            let put = Noted {
+                key: put.key.copy(alloc)?,
+                value: put.value.copy(alloc)?,
+            };
+            self.push_put(alloc, put)?;
+        }
+        Ok(())
+    }
+
+    /// Puts and counts in a world what was put and counted. Where there is no memory, the first of the puts are made.
+    pub fn replay<W: World<Key = K, Value = V>>(
+        &self,
+        alloc: Global,
+        world: &mut W,
+    ) -> Result<(), OutOfMemory>
+        ensures { OnOk result (W.state world.new ≡ moved W.model (W.state world.old) self.now.puts self.now.calls) }
+    {
+        let puts = self.puts.as_slice();
+        for put in puts {
+            world.put(alloc, put.key.copy(alloc)?, put.value.copy(alloc)?)?;
+        }
+        world.bump(self.calls);
+        Ok(())
     }
 }
