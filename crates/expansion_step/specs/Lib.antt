@@ -1,3 +1,4 @@
 pub mod Meaning
 pub mod Places
 pub mod Takes
+pub mod Watch

@@ -25,7 +25,7 @@ impl<X: CodedLanguage> Expander<X> {
     }
 
     /// Where a call starts.
-    pub fn begin(
+    pub fn begin_unwatched(
         &self,
         alloc: Global,
         call: &X::Call,
@@ -48,7 +48,7 @@ impl<X: CodedLanguage> Expander<X> {
     }
 
     /// What a call does next, and the place behind it. Where there is no memory, the call is lost.
-    pub fn step(
+    pub fn step_unwatched(
         &self,
         alloc: Global,
         local: &mut Local<X::Listing, X::Known, X::Call, X::Key, X::Value, X::Item>,

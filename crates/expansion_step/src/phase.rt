@@ -42,6 +42,13 @@ pub struct Local<T, N, C, K, V, I> {
     pub(crate) phase: Phase<T, C, K, V, I>,
 }
 
+/// The same, with how many actions the call may still take before its next unit of fuel.
+#[derive(Drop)]
+pub struct Watched<T, N, C, K, V, I> {
+    pub(crate) local: Local<T, N, C, K, V, I>,
+    pub(crate) left: u32,
+}
+
 /// What is done next, and how far the call is then.
 #[derive(Drop)]
 pub(crate) struct Taken<T, C, K, V, I> {
