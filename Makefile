@@ -1,10 +1,12 @@
 # make run: proves and builds the program, and lists what it reports of a first example.
 # make demo: proves and builds the program, and shows the stored session: what an editor sends and what it is answered.
-# make install: puts the program and hlasm-lint into PREFIX/bin, which is your own ~/.local/bin if you name no PREFIX.
+# make install: puts the program and hlasm-lint into PREFIX/bin, which is your own ~/.local/bin if you name no PREFIX, and says whether that is on your PATH.
+# make dist: makes dist/hlasm_ls-VERSION-linux-x86_64.tar.gz, which needs no kit where it is unpacked. The version is that of the file VERSION.
 # make test: the gate: proves every crate and its tests from nothing, tries at most six edits that must fail of each crate, runs everything.
 # make edits: tries every edit that must fail, outside the gate.
+# make bench: runs all measurements, on a machine with nothing else to do, and writes bench/README.md.
 # All want the command rt of the kit on the PATH, and Python 3.
-.PHONY: run demo install test edits build
+.PHONY: run demo install dist test edits bench build
 
 PREFIX = $(HOME)/.local
 
@@ -24,14 +26,19 @@ demo: build
 	@echo; echo 'hlasm_ls serve answers:'; $(program)/out/hlasm_ls serve < $(program)/stdin | $(show)
 
 install: build
-	install -d $(DESTDIR)$(PREFIX)/bin
-	install -m 755 $(program)/out/hlasm_ls $(lint) $(DESTDIR)$(PREFIX)/bin
+	@tools/install.sh $(DESTDIR)$(PREFIX)/bin $(PREFIX)/bin
+
+dist: build
+	tools/dist.sh
 
 test:
 	tools/test.sh
 
 edits:
 	tools/edits.sh
+
+bench:
+	bench/all.py
 
 # Only what the program stands on, side by side; with no change since, it only says so.
 build:

@@ -89,6 +89,18 @@ EDITORS = [("vim", of_vim, ""), ("nvim", of_vim, ""), ("emacs", of_emacs, "RC"),
            ("kate-syntax-highlighter", of_kate, "RC")]
 
 
+# What some of them have to say of themselves; a small Vim has no colours, and an old node cannot read the grammar.
+NEEDED = {"vim": (["vim", "--version"], r"\+syntax"), "node": (["node", "--version"], r"v(?:1[6-9]|[2-9]\d)")}
+
+
+def is_there(name):
+    """Whether an editor is there, and can do what is wanted of it."""
+    if not shutil.which(name) or name not in NEEDED:
+        return bool(shutil.which(name))
+    words, needed = NEEDED[name]
+    return re.search(needed, subprocess.run(words, capture_output=True, encoding="utf-8").stdout) is not None
+
+
 def faults_of_colours(name, letters, same):
     """Where an editor colours the example in another way."""
     wanted = read(os.path.join(HERE, "example.txt"))
@@ -137,13 +149,13 @@ def main():
     if len(operations()) < 200:
         faults.append(f"the tables of operations have {len(operations())} names only")
     for name, letters_of, same in EDITORS:
-        if shutil.which(name):
+        if is_there(name):
             seen.append(name)
             with tempfile.TemporaryDirectory(prefix="hlasm-colours-") as room:
                 faults += faults_of_colours(name, letters_of(name, room), same)
     for fault in faults:
         print(f"FAIL {fault}")
-    print(f"colours.py: {', '.join(seen) or 'no editor is there'}: {len(faults)} faults")
+    print(f"colours.py: {', '.join(seen) or 'skipped, no editor is there'}: {len(faults)} faults")
     return 1 if faults else 0 if seen else SKIPPED
 
 

@@ -123,13 +123,21 @@ class Lint(unittest.TestCase):
                 self.assertIn(listed, file.read(), page)
 
     def test_the_examples_of_the_user_page(self):
-        """Each example has a ruler above it and no line end behind it, and below it what is listed."""
+        """Each code has examples that give exactly it: a ruler above, no line end behind, and below it what is listed."""
         with open(os.path.join(TOP, "docs/USER.md"), encoding="utf-8") as file:
-            examples = re.findall(r"```hlasm\n.*\n([^`]*)\n```\n```text\n([^`]*)```\n", file.read())
-        self.assertEqual(5, len(examples))
-        for text, listed in examples:
-            with self.subTest(listed):
-                self.assertEqual(listed.splitlines(), lint(self.file("example.hlasm", text), folder=self.folder)[1])
+            sections = re.split(r"\n(?=##)", file.read())
+        heads = [re.match(r"### (\w+) \((\w+)\): (.*)\n", section) for section in sections]
+        for head, section in [it for it in zip(heads, sections) if it[0]]:
+            code, severity, says = head.groups()
+            examples = re.findall(r"```hlasm\n.*\n([^`]*)\n```\n```text\n(.*)\n```\n", section)
+            self.assertNotEqual([], examples, code)
+            for text, listed in examples:
+                with self.subTest(listed):
+                    self.assertRegex(listed, rf"^example.hlasm:\d+:\d+: {severity}: {re.escape(says)} \[{code}\]$")
+                    self.assertEqual([listed], lint(self.file("example.hlasm", text), folder=self.folder)[1])
+        with open(os.path.join(TOP, "README.md"), encoding="utf-8") as file:
+            table = re.findall(r"^\| `(H\d+)` \| (\w+) \| ", file.read(), re.MULTILINE)
+        self.assertEqual(table, [head.groups()[:2] for head in heads if head])
 
     def test_what_is_listed(self):
         for name, text, reports in LISTED:

@@ -6,17 +6,17 @@ if exists('b:current_syntax')
 endif
 syntax case ignore
 
-" Statements are read from where one begins; none is longer than this.
-syntax sync minlines=200
+" How far above the screen reading begins, so that a statement that is continued is read from its first line.
+syntax sync minlines=100
 
 " A mark in column 72, what stands behind it, and the columns of the next line up to 15, which have to be blank.
-syntax region hlasmContinued contained extend matchgroup=hlasmMark start=/\%(^.\{71}\)\@300<=\S/ matchgroup=NONE end=/^\%([ \t]\{15}\|[ \t]\{,14}$\)/ matchgroup=hlasmMargin end=/^\%([ \t]\{15}\|[ \t]\{,14}$\)\@!.\{1,15}/ contains=hlasmBehindMark
-syntax match hlasmUnread /\%(^.\{71}\)\@300<=[ \t].\+$/
+syntax region hlasmContinued contained extend matchgroup=hlasmMark start=/\%>71c\%(^.\{71}\)\@300<=\S/ matchgroup=NONE end=/^\%([ \t]\{15}\|[ \t]\{,14}$\)/ matchgroup=hlasmMargin end=/^\%([ \t]\{15}\|[ \t]\{,14}$\)\@!.\{1,15}/ contains=hlasmBehindMark
+syntax match hlasmUnread /\%>71c\%(^.\{71}\)\@300<=[ \t].\+$/
 syntax match hlasmBehindMark contained /.\+$/
 
 " A statement, and a comment.
-syntax region hlasmStatement keepend start=/^/ end=/\%(^.\{71}\)\@300<=[ \t]\@=/ end=/$/ contains=hlasmName,hlasmNoName,hlasmContinued
-syntax region hlasmComment start=/^\.\=\*/ end=/\%(^.\{71}\)\@300<=[ \t]\@=/ end=/$/ contains=hlasmContinued,@Spell
+syntax region hlasmStatement keepend start=/^/ end=/\%>71c\%(^.\{71}\)\@300<=[ \t]\@=/ end=/$/ contains=hlasmName,hlasmNoName,hlasmContinued
+syntax region hlasmComment start=/^\.\=\*/ end=/\%>71c\%(^.\{71}\)\@300<=[ \t]\@=/ end=/$/ contains=hlasmContinued,@Spell
 
 " Name and operation. The operation decides how operands go on: those of machine instructions and of the assembler's own
 " operations up to the first blank; those of macro calls and conditional assembly may have remarks behind each comma; and
@@ -56,19 +56,19 @@ syntax match hlasmCondition contained nextgroup=hlasmGroupedOperands /\%<72v\%(
 " The three sorts of operand fields. A blank ends them outside quotes; in the last two not behind a comma, where the rest
 " of a line that is continued is remarks and the operands go on in the next line; in the last not within parentheses.
 syntax cluster hlasmInOperands contains=hlasmContinued,hlasmAttribute,hlasmString,hlasmVariable
-syntax region hlasmOperands contained start=/[ \t]\+\%<72v\S\@=/ end=/[^ \t]\@1<=[ \t]\@=/ end=/\%(^[ \t]\{15}\)\@15<=[ \t]\@=/ end=/\%(^.\{71}\)\@300<=[ \t]\@=/ end=/$/ contains=@hlasmInOperands nextgroup=hlasmRemarks
-syntax region hlasmFreeOperands contained start=/[ \t]\+\%<72v\S\@=/ end=/[^ \t,]\@1<=[ \t]\@=/ end=/,\@1<=[ \t]\@=\%(.*\%(^.\{71}\)\@300<=\S\)\@!/ end=/\%(^[ \t]\{15}\)\@15<=[ \t]\@=\%(.*\%(^.\{71}\)\@300<=\S\)\@!/ end=/\%(^.\{71}\)\@300<=[ \t]\@=/ end=/$/ contains=@hlasmInOperands,hlasmCommaRemarks nextgroup=hlasmRemarks
-syntax region hlasmGroupedOperands contained start=/[ \t]\+\%<72v\S\@=/ end=/[^ \t,]\@1<=[ \t]\@=/ end=/,\@1<=[ \t]\@=\%(.*\%(^.\{71}\)\@300<=\S\)\@!/ end=/\%(^[ \t]\{15}\)\@15<=[ \t]\@=\%(.*\%(^.\{71}\)\@300<=\S\)\@!/ end=/\%(^.\{71}\)\@300<=[ \t]\@=/ end=/$/ contains=@hlasmInOperands,hlasmCommaRemarks,hlasmGroup nextgroup=hlasmRemarks
-syntax region hlasmGroup contained start=/(/ end=/)/ end=/\%(^.\{71}\)\@300<=[ \t]\@=/ end=/$/ contains=@hlasmInOperands,hlasmGroup
+syntax region hlasmOperands contained start=/[ \t]\+\%<72v\S\@=/ end=/[^ \t]\@1<=[ \t]\@=/ end=/\%(^[ \t]\{15}\)\@15<=[ \t]\@=/ end=/\%>71c\%(^.\{71}\)\@300<=[ \t]\@=/ end=/$/ contains=@hlasmInOperands nextgroup=hlasmRemarks
+syntax region hlasmFreeOperands contained start=/[ \t]\+\%<72v\S\@=/ end=/[^ \t,]\@1<=[ \t]\@=/ end=/,\@1<=[ \t]\@=\%(.*\%>71c\%(^.\{71}\)\@300<=\S\)\@!/ end=/\%(^[ \t]\{15}\)\@15<=[ \t]\@=\%(.*\%>71c\%(^.\{71}\)\@300<=\S\)\@!/ end=/\%>71c\%(^.\{71}\)\@300<=[ \t]\@=/ end=/$/ contains=@hlasmInOperands,hlasmCommaRemarks nextgroup=hlasmRemarks
+syntax region hlasmGroupedOperands contained start=/[ \t]\+\%<72v\S\@=/ end=/[^ \t,]\@1<=[ \t]\@=/ end=/,\@1<=[ \t]\@=\%(.*\%>71c\%(^.\{71}\)\@300<=\S\)\@!/ end=/\%(^[ \t]\{15}\)\@15<=[ \t]\@=\%(.*\%>71c\%(^.\{71}\)\@300<=\S\)\@!/ end=/\%>71c\%(^.\{71}\)\@300<=[ \t]\@=/ end=/$/ contains=@hlasmInOperands,hlasmCommaRemarks,hlasmGroup nextgroup=hlasmRemarks
+syntax region hlasmGroup contained start=/(/ end=/)/ end=/\%>71c\%(^.\{71}\)\@300<=[ \t]\@=/ end=/$/ contains=@hlasmInOperands,hlasmGroup
 
 " Within operands: an attribute, whose apostrophe opens no text, texts, and variable symbols.
 syntax match hlasmAttribute contained /[A-Z0-9$#@_&]\@1<![DIKLNOST]'[A-Z$#@_&=]\@=/
-syntax region hlasmString contained start=/'/ end=/'/ end=/\%(^.\{71}\)\@300<=[ \t]\@=/ end=/$/ contains=hlasmContinued,hlasmVariable
+syntax region hlasmString contained start=/'/ end=/'/ end=/\%>71c\%(^.\{71}\)\@300<=[ \t]\@=/ end=/$/ contains=hlasmContinued,hlasmVariable
 syntax match hlasmVariable contained /&[A-Z$#@_][A-Z0-9$#@_]*/
 
 " Remarks: behind a comma up to column 71, and behind all operands.
-syntax match hlasmCommaRemarks contained /\%(,\@1<=\|\%(^[ \t]\{15}\)\@15<=\)[ \t].*\%(^.\{71}\)\@300<=\S\@=/
-syntax region hlasmRemarks contained start=/\%<72v[ \t]/ end=/\%(^.\{71}\)\@300<=[ \t]\@=/ end=/$/ contains=hlasmContinued,@Spell
+syntax match hlasmCommaRemarks contained /\%(,\@1<=\|\%(^[ \t]\{15}\)\@15<=\)[ \t].*\%>71c\%(^.\{71}\)\@300<=\S\@=/
+syntax region hlasmRemarks contained start=/\%<72v[ \t]/ end=/\%>71c\%(^.\{71}\)\@300<=[ \t]\@=/ end=/$/ contains=hlasmContinued,@Spell
 
 highlight default link hlasmName Identifier
 highlight default link hlasmMachine Statement

@@ -1,0 +1,158 @@
+#!/usr/bin/env python3
+"""Runs all measurements, one after the other, and writes their figures into README.md of this folder, each with its peer and its
+goal. What each printed is kept in out/. The gate is measured by gate.sh, which takes as long as the gate itself.
+
+Usage: all.py [--busy] [--again]
+"""
+import argparse
+import datetime
+import os
+import platform
+import re
+import subprocess
+import sys
+import time
+
+HERE = os.path.dirname(os.path.realpath(__file__))
+PAGE = os.path.join(HERE, "README.md")
+BEGIN, END = "<!-- figures, written by make bench -->\n", "<!-- end of the figures -->\n"
+SCRIPTS = ["statements.sh", "expressions.sh", "edits.sh", "session.sh"]
+# More than so much of the processors' time in use: the figures would be those of a busy machine.
+MOST_BUSY = 0.05
+
+
+class Row:
+    """A figure of a measurement: where it stands in what was printed, what is beside it, and what it is to be."""
+
+    def __init__(self, script, what, figure, unit, peer=None, beside=None, most=None, nth=0):
+        self.script, self.what, self.figure, self.unit = script, what, figure, unit
+        self.peer, self.beside, self.most, self.nth = peer, beside, most, nth
+
+    def found(self, pattern, printed):
+        numbers = re.findall(pattern, printed)
+        return float(numbers[self.nth]) if len(numbers) > self.nth else None
+
+    def text(self, printed):
+        """The row of the table, and whether its goal is met or it has none."""
+        figure = self.found(self.figure, printed)
+        if figure is None:
+            return f"| {self.what} | not measured | | | no |", False
+        beside = self.found(self.beside, printed) if self.beside else None
+        times = figure / beside if beside else figure
+        peer = f"{self.peer}: {beside:g} {self.unit}" if beside else self.peer or ""
+        goal = "" if self.most is None else f"at most {self.most:g} times {self.peer}" if beside else f"at most {self.most:g}"
+        met = "" if self.most is None else "yes" if times <= self.most else "no"
+        ratio = f", {times:.2f} times" if beside else ""
+        return f"| {self.what} | {figure:g} {self.unit}{ratio} | {peer} | {goal} | {met} |", met != "no"
+
+
+def expressions(what, kind, nth):
+    """The rows of one sort of expressions."""
+    return [
+        Row("expressions.sh", f"a million characters of {what}", rf"(?m)^{kind}: \d+ bytes in ([\d.]+) ms", "ms", "a pass over the characters",
+            rf"the characters of these {kind}: \d+ bytes in ([\d.]+) ms"),
+        Row("expressions.sh", f"the time of twice the text of {what}", r"twice the text: ([\d.]+)", "times", most=2.2, nth=nth),
+    ]
+
+
+ROWS = [
+    Row("statements.sh", "the statements of 4 MiB", r"(?m)^statements: \d+ bytes in ([\d.]+) ms", "ms", "finding the line ends",
+        r"(?m)^lines: \d+ bytes in ([\d.]+) ms", most=3),
+    Row("statements.sh", "the time of twice the text", r"twice the text: ([\d.]+)", "times", most=2.2),
+    *expressions("arithmetic expressions", "expressions", 0),
+    *expressions("character expressions", "texts", 1),
+    *expressions("logical expressions", "truths", 2),
+    Row("edits.sh", "an edit of one character in 4 MiB", r"(?m)^edits: .* ([\d.]+) ms each", "ms", "a copy of the text",
+        r"(?m)^copies: .* ([\d.]+) ms each", most=6),
+    Row("session.sh", "500 keystrokes in 10,000 lines", r"served in (\d+) ms", "ms", "Python, which only reads their JSON",
+        r"its start included, in (\d+) ms"),
+    Row("session.sh", "instructions of a keystroke with its list", r"(\d+) instructions a keystroke", "instructions"),
+    Row("session.sh", "memory of 1,000 edits", r"(?m)^1000 edits.* (\d+) kB", "kB", "10 edits", r"(?m)^10 edits.* (\d+) kB", most=1.1),
+    Row("session.sh", "a keystroke with 20 open programs", r"one of 20 open programs.*: ([\d.]+) ms", "ms", "with one",
+        r"one of 1 open programs.*: ([\d.]+) ms", most=1.1),
+    Row("session.sh", "10,000 changes in one message, downwards", r"downwards.* (\d+) copies", "copies of the text", most=100),
+    Row("session.sh", "10,000 changes in one message, upwards", r"upwards.* (\d+) copies", "copies of the text", most=100),
+]
+
+
+def processor_times():
+    """The time of all processors so far, and what of it was in use."""
+    with open("/proc/stat", encoding="ascii") as file:
+        times = [int(word) for word in file.readline().split()[1:9]]
+    return sum(times), sum(times) - times[3] - times[4]
+
+
+def busy_share():
+    """Which part of the processors' time was in use within two seconds."""
+    before = processor_times()
+    time.sleep(2)
+    after = processor_times()
+    return (after[1] - before[1]) / max(1, after[0] - before[0])
+
+
+def run(script):
+    """Runs a measurement, keeps what it printed, and says whether it ended well."""
+    print(f"bench: {script}", flush=True)
+    ran = subprocess.run([os.path.join(HERE, script)], stdout=subprocess.PIPE, encoding="utf-8", errors="replace")
+    os.makedirs(f"{HERE}/out", exist_ok=True)
+    with open(f"{HERE}/out/{script}.txt", "w", encoding="utf-8") as file:
+        file.write(ran.stdout)
+    print(ran.stdout, end="", flush=True)
+    return ran.returncode == 0
+
+
+def printed_by(script):
+    try:
+        with open(f"{HERE}/out/{script}.txt", encoding="utf-8") as file:
+            return file.read()
+    except OSError:
+        return ""
+
+
+def processor():
+    """The name of this machine's processors."""
+    with open("/proc/cpuinfo", encoding="utf-8") as file:
+        names = re.findall(r"model name\s*:\s*(.*)", file.read())
+    return f"{len(names)} of {names[0]}" if names else platform.machine()
+
+
+def figures(busy):
+    """The part of the page that has the figures, and how many goals are not met."""
+    rows = [row.text(printed_by(row.script)) for row in ROWS]
+    note = ", while it was busy" if busy else ""
+    day = datetime.date.today().isoformat()
+    lines = [f"Measured on {day}, on a machine with processors {processor()}{note}.", "",
+             "| What | Figure | Peer | Goal | Met |", "|---|---|---|---|---|", *(text for text, _ in rows)]
+    return "\n".join(lines) + "\n", sum(not met for _, met in rows)
+
+
+def write_page(found):
+    """Puts the figures into the page, at its end if it has none yet."""
+    with open(PAGE, encoding="utf-8") as file:
+        page = file.read()
+    if BEGIN not in page:
+        page += f"\n# Figures\n\n{BEGIN}{END}"
+    before, rest = page.split(BEGIN)
+    with open(PAGE, "w", encoding="utf-8") as file:
+        file.write(before + BEGIN + found + END + rest.split(END)[1])
+
+
+def main():
+    parser = argparse.ArgumentParser(description=__doc__.partition("\n\n")[0])
+    parser.add_argument("--busy", action="store_true", help="measure although the machine is busy; the page says so")
+    parser.add_argument("--again", action="store_true", help="measure nothing: write the page from what was printed last")
+    words = parser.parse_args()
+    busy = not words.again and busy_share() > MOST_BUSY
+    if busy and not words.busy:
+        sys.exit("bench: this machine is busy; end what runs, or measure all the same with bench/all.py --busy")
+    failed = [] if words.again else [script for script in SCRIPTS if not run(script)]
+    found, unmet = figures(busy)
+    write_page(found)
+    print(f"bench: {len(ROWS)} figures in {os.path.relpath(PAGE)}, {unmet} goals not met or not measured")
+    if failed:
+        print(f"bench: these ended badly: {', '.join(failed)}", file=sys.stderr)
+    return 1 if failed else 0
+
+
+if __name__ == "__main__":
+    sys.exit(main())
