@@ -14,6 +14,7 @@ program_of() {
         arithmetic_trees | ordinary_trees | character_trees | logical_trees) echo expression_cases ;;
         numbers | truths | texts | note_texts) echo expression_cases ;;
         declarations | branches | templates | field_ends | operations | effects) echo statement_cases ;;
+        expansions) echo expansion_cases ;;
     esac
 }
 

@@ -14,6 +14,7 @@ use std::alloc::Global;
 use std::mem;
 
 /// The machine that expands a language that is given in code.
+#[derive(Drop)]
 pub struct Expander<X: CodedLanguage> {
     pub(crate) language: X,
 }

@@ -1,0 +1,20 @@
+//! Runs the machine of `expansion_step` on calls of the small language of `example_language`, over its world in memory, and
+//! compares what comes of it: `expansion_cases expansions` reads the cases from standard input, prints each whose answer
+//! differs, and at the end `N passed, M failed`.
+//!
+//! tests/cases/README.md says what the table reads. What the crates promise stands on their own functions; here is only how
+//! actions are carried out, and how what comes of it is written down.
+#![tactic(auto)]
+
+mod reading;
+mod running;
+mod tables;
+mod writing;
+
+use case_lines::compare_tables;
+use std::process::ExitCode;
+use tables::Table;
+
+fn main(rt: HostRuntime) -> ExitCode {
+    compare_tables::<Table>(&rt)
+}
