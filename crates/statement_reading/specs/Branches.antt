@@ -1,6 +1,6 @@
 -- How the operands of AGO and AIF are read (HLASM Language Reference SC26-4940, "AGO instruction", "Computed AGO
 -- instruction", "AIF instruction"). The law `laws::branches` says that they are read as they are written.
-use Rattle.std.specs.Prelude.{ℕ, ◌+◌, ◌==◌, List, [], ◌∷◌, drop, slice_index, Result, Ok, Err, if◌then◌else◌}
+use Rattle.std.specs.Prelude.{ℕ, ◌+◌, ◌⊎◌, ◌==◌, List, [], ◌∷◌, drop, slice_index, Result, Ok, Err, if◌then◌else◌}
 use Rattle.expression_grammar.specs.declared.character.Grammar.TheVariants.{Arithmetic}
 use Rattle.expression_grammar.specs.Readings.{Front, read_front, read_variable}
 use Rattle.expression_grammar.specs.Trees.{Tree}
@@ -9,6 +9,7 @@ use Rattle.operand_list.specs.Split.{operands_of}
 use Rattle.conditional_fields.specs.declared.front.Sought.{Sought}
 use Rattle.conditional_fields.specs.declared.front.Sought.TheVariants.{Number, Condition, Variable}
 use Rattle.conditional_fields.specs.Answers.{each, some}
+use Rattle.conditional_fields.specs.Branches.{IsChoice, IsInnerFault, IsLabelFault}
 use Rattle.conditional_fields.specs.Sequences.{sequence}
 
 -- a number, or a condition, and the sequence symbol behind it
@@ -35,6 +36,11 @@ behind_front operand (Err at) = Err (at + 1)
 -- a number, or a condition, in parentheses and a sequence symbol
 abbrev pub choice : Sought → List ℕ → Result Choice ℕ
 choice sought operand = behind_front operand (front sought (drop 1 operand))
+
+-- what is read of such an operand stands there, or it goes wrong there
+abbrev pub IsChosen : Sought → List ℕ → Result Choice ℕ → Type 0
+IsChosen sought operand (Ok choice) = IsChoice sought operand choice.tree choice.label
+IsChosen sought operand (Err at) = IsInnerFault sought operand at ⊎ IsLabelFault sought operand at
 
 -- where AGO branches to: a sequence symbol, or by a number the first or one of the others
 pub data Branch : Type 0 where

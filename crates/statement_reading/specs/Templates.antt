@@ -1,7 +1,8 @@
 -- How a field with variable symbols is read (HLASM Language Reference SC26-4940, "Variable symbols", "Concatenating symbols
 -- and characters"): from left to right, as many plain characters as there are, or a variable symbol, behind which one period
 -- vanishes. The law `laws::templates` says that a field is read as it is written.
-use Rattle.std.specs.Prelude.{ℕ, zero, suc, ◌+◌, ◌-◌, ◌==◌, Bool, false, List, [], ◌∷◌, length, take, drop, list_any, Option, Some, None, Result, Ok, Err}
+use Rattle.std.specs.Prelude.{ℕ, zero, suc, ◌+◌, ◌-◌, ◌==◌, Bool, false, List, [], ◌∷◌, length, take, drop, Option, Some, None, Result, Ok, Err}
+use Rattle.std.specs.List.{list_any}
 use Rattle.expression_grammar.specs.Trees.{Tree}
 use Rattle.conditional_fields.specs.Templates.{behind_symbol, plain_length}
 use Rattle.statement_reading.specs.Symbols.{Found, symbol, reach}

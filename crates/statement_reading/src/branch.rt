@@ -8,8 +8,6 @@ use conditional_fields::branch::choice;
 use conditional_fields::character::begins_with;
 use conditional_fields::front::Sought;
 use conditional_fields::{Goto, Selector, ago};
-use expression_grammar::laws::fronts;
-use logical_grammar::laws::logic_fronts;
 use operand_grammar::SyntaxFault;
 use std::alloc::Global;
 
@@ -17,8 +15,6 @@ use std::alloc::Global;
 pub(crate) fn read_branch(alloc: Global, field: &str) -> Result<Goto, SyntaxFault>
     ensures { Says branch_of (branches.goto (chars field.now)) result }
 {
-    fronts();
-    logic_fronts();
     ago(alloc, field)
 }
 
@@ -27,8 +23,6 @@ pub(crate) fn read_pair(alloc: Global, operand: &str) -> Result<Selector, Syntax
     ensures { Says choice_of (branches.pair (chars operand.now)) result }
 {
     if begins_with(operand, '(') {
-        fronts();
-        logic_fronts();
         return choice(alloc, Sought::Condition, operand);
     }
     Err(SyntaxFault::At(0))

@@ -1,5 +1,5 @@
 //! Entries with variable symbols.
-ghost use Rattle.std.specs.Prelude.{◌≡◌, ◌==◌, list_any, IfOk};
+ghost use Rattle.std.specs.Prelude.{◌≡◌, IfOk};
 ghost use Rattle.std.specs.Str.{chars};
 ghost use Rattle.statement_reading.specs.Answers.{Says};
 ghost use Rattle.statement_reading.specs.Symbols as symbols;
@@ -9,7 +9,6 @@ ghost use Rattle.statement_reading.specs.Views.{found_of, parts_of};
 use conditional_fields::Template;
 use conditional_fields::front::{Sought, reach};
 use conditional_fields::template::{Found, symbol};
-use expression_grammar::laws::{reading, variable_fronts};
 use hl_base::OutOfMemory;
 use operand_grammar::SyntaxFault;
 use std::alloc::Global;
@@ -18,8 +17,6 @@ use std::alloc::Global;
 pub(crate) fn read_symbol(alloc: Global, text: &str) -> Result<Option<Found>, OutOfMemory>
     ensures { IfOk result (λ found. found_of found ≡ symbols.symbol (chars text.now)) }
 {
-    reading();
-    variable_fronts();
     symbol(alloc, text)
 }
 
@@ -27,7 +24,6 @@ pub(crate) fn read_symbol(alloc: Global, text: &str) -> Result<Option<Found>, Ou
 pub(crate) fn symbol_length(alloc: Global, text: &str) -> Result<u32, OutOfMemory>
     ensures { IfOk result (λ count. count ≡ symbols.reach (chars text.now)) }
 {
-    reading();
     reach(alloc, Sought::Variable, text)
 }
 
@@ -35,8 +31,6 @@ pub(crate) fn symbol_length(alloc: Global, text: &str) -> Result<u32, OutOfMemor
 pub(crate) fn read_template(alloc: Global, field: &str) -> Result<Template, SyntaxFault>
     ensures { Says parts_of (templates.template (chars field.now)) result }
 {
-    reading();
-    variable_fronts();
     Template::read(alloc, field)
 }
 

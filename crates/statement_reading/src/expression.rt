@@ -7,9 +7,6 @@ ghost use Rattle.logical_grammar.specs.LogicReadings.{read_logic};
 ghost use Rattle.character_grammar.specs.TextReadings.{read_text};
 ghost use Rattle.statement_reading.specs.Answers.{Says};
 
-use character_grammar::laws::text_reading;
-use expression_grammar::laws::reading;
-use logical_grammar::laws::logic_reading;
 use operand_grammar::{Expr, SyntaxFault, parse_arith, parse_char, parse_logic};
 use std::alloc::Global;
 
@@ -17,7 +14,6 @@ use std::alloc::Global;
 pub(crate) fn read_number(alloc: Global, text: &str) -> Result<Expr, SyntaxFault>
     ensures { Says tree_of (read Arithmetic (chars text.now)) result }
 {
-    reading();
     parse_arith(alloc, text)
 }
 
@@ -25,7 +21,6 @@ pub(crate) fn read_number(alloc: Global, text: &str) -> Result<Expr, SyntaxFault
 pub(crate) fn read_condition(alloc: Global, text: &str) -> Result<Expr, SyntaxFault>
     ensures { Says tree_of (read_logic (chars text.now)) result }
 {
-    logic_reading();
     parse_logic(alloc, text)
 }
 
@@ -33,6 +28,5 @@ pub(crate) fn read_condition(alloc: Global, text: &str) -> Result<Expr, SyntaxFa
 pub(crate) fn read_characters(alloc: Global, text: &str) -> Result<Expr, SyntaxFault>
     ensures { Says tree_of (read_text (chars text.now)) result }
 {
-    text_reading();
     parse_char(alloc, text)
 }

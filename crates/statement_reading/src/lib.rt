@@ -16,6 +16,7 @@ mod declaration;
 mod entry;
 mod expression;
 mod fields;
+pub mod laws;
 mod message;
 mod setting;
 mod statement;
