@@ -249,6 +249,7 @@ The value says whether that changed it."
   (setq-local comment-start-skip "^\\.?\\*+[ \t]*")
   (setq-local comment-end "")
   (setq-local comment-padding nil)
+  (setq-local comment-style 'plain)
   (setq-local comment-column 0)
   (setq-local indent-tabs-mode nil)
   (setq-local truncate-lines t)

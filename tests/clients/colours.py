@@ -29,6 +29,7 @@ def run(words, room, **more):
     """Runs a program in the folder of the example, with a home of its own. What it printed."""
     environment = dict(os.environ, HOME=room, HLASM_TEST_RECORD=f"{room}/record", XDG_DATA_HOME=f"{room}/data",
                        XDG_CONFIG_HOME=f"{room}/config", QT_QPA_PLATFORM="offscreen")
+    more.setdefault("stdin", subprocess.DEVNULL)
     ran = subprocess.run(words, cwd=HERE, env=environment, capture_output=True, timeout=120, encoding="utf-8", errors="replace", **more)
     if ran.returncode != 0:
         sys.exit(f"colours.py: {words[0]} ended with {ran.returncode}: {ran.stdout}{ran.stderr}")

@@ -147,6 +147,10 @@ local function edits()
   end
   step('the file read again', function() vim.cmd('edit!') end)
   step('END typed once more', function() keys('Go         END<Esc>') end)
+  step('lines made comments', function() vim.cmd('1,3HlasmComment') end)
+  local now = table.concat(vim.api.nvim_buf_get_lines(0, 0, 3, true), '|')
+  assert(now:match('^%*%*  A file with faults|%*A        CSECT|%*         LR'), now)
+  step('lines that are no comments any more', function() vim.cmd('1,3HlasmComment') end)
 end
 
 -- Each file beside the first: whether it counts as HLASM, and what is published for it.

@@ -52,6 +52,8 @@ CODES = {
     "all undone": ["H001", "H001", "H003"],
     "the file read again": ["H001", "H001", "H003"],
     "END typed once more": ["H001", "H001"],
+    "lines made comments": ["H001"],
+    "lines that are no comments any more": ["H001", "H001"],
 }
 
 GROUPS = {"pgroups": [{"name": "G", "libs": ["lib/", {"path": "../shared"}, 7]}, {"libs": [{"path": "{room}/far"}]}, 1]}
