@@ -4,7 +4,7 @@ use Rattle.std.specs.Prelude.{◌==◌, ◌⊎◌, Result, Ok, Err, slice_index}
 use Rattle.expression_grammar.specs.declared.character.Grammar.TheVariants.{Arithmetic}
 use Rattle.expression_grammar.specs.declared.fault.SyntaxFault.{SyntaxFault}
 use Rattle.expression_grammar.specs.declared.fault.SyntaxFault.TheVariants.{At, OutOfMemory}
-use Rattle.expression_grammar.specs.Fronts.{IsClosed, IsFirst, IsNoFront}
+use Rattle.expression_grammar.specs.Fronts.{IsClosed}
 use Rattle.expression_grammar.specs.Readings.{Front, read_front}
 use Rattle.expression_grammar.specs.Spelling.{Spells}
 use Rattle.expression_grammar.specs.Trees.{Tree}
@@ -27,7 +27,7 @@ use Rattle.conditional_fields.specs.Branches.{IsAmong, IsChoice, IsChoiceRead, I
 use Rattle.conditional_fields.specs.Fronts.{IsFirstClosed, IsNeverClosed, IsReach}
 use Rattle.conditional_fields.specs.Sequences.{sequence}
 use Rattle.statement_reading.specs.Answers.{Says}
-use Rattle.statement_reading.specs.Branches.{Choice, Branch, IsChosen, behind_front, choice, computed, front, goto, labelled, pair, plain, with_others}
+use Rattle.statement_reading.specs.Branches.{IsChosen, behind_front, choice, computed, front, goto, labelled, pair, plain, with_others}
 use Rattle.statement_reading.specs.Views.{branch_of, choice_of}
 
 -- what is read at the front of a text stands there

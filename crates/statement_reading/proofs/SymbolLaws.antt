@@ -1,7 +1,6 @@
 -- The variable symbol that a text begins with, as it is written and as it is read.
-use Rattle.std.proofs.Common.{◌≡◌, ◌∙◌, ◌+◌, ◌<◌, ℕ, Bool, true, false, List, length, take, refl, sym, ap, subst, arith, if◌then◌else◌}
+use Rattle.std.proofs.Common.{◌≡◌, ◌∙◌, ◌+◌, ◌<◌, ℕ, Bool, true, false, List, length, take, refl, sym, ap, subst, arith}
 use Rattle.std.specs.Prelude.{Option, Some, None, Result, Ok, Err}
-use Rattle.std.proofs.lemmas.Bool.{true≢false}
 use Rattle.expression_grammar.specs.declared.character.Grammar.TheVariants.{Arithmetic}
 use Rattle.expression_grammar.specs.declared.tree.Reference.TheVariants.{Value}
 use Rattle.expression_grammar.specs.Fronts.{IsFirst, IsVariableClosed}

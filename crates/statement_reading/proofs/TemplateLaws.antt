@@ -1,11 +1,10 @@
 -- Fields with variable symbols, as they are written and as they are read.
-use Rattle.std.proofs.Common.{◌≡◌, ◌∙◌, ◌+◌, ◌-◌, ◌<◌, ◌≤◌, ℕ, zero, suc, Bool, true, false, List, [], ◌∷◌, ◌++◌, length, take, drop, refl, sym, ap, subst, arith, append-nil, if◌then◌else◌}
+use Rattle.std.proofs.Common.{◌≡◌, ◌∙◌, ◌+◌, ◌-◌, ◌<◌, ◌≤◌, ℕ, zero, suc, Bool, true, false, List, [], ◌∷◌, length, take, drop, refl, sym, ap, subst, arith, append-nil, if◌then◌else◌}
 use Rattle.std.specs.Prelude.{◌==◌, ◌||◌, Option, Some, None, Result, Ok, Err, MatchResult, map, slice_index}
 use Rattle.std.proofs.Math.ListN.{drop_of_length-le}
 use Rattle.std.proofs.Math.Seq.{take-length}
 use Rattle.std.proofs.lemmas.Bool.{true≢false}
 use Rattle.std.proofs.lemmas.List.{length-drop}
-use Rattle.expression_grammar.specs.declared.character.Grammar.TheVariants.{Arithmetic}
 use Rattle.expression_grammar.specs.declared.fault.SyntaxFault.{SyntaxFault}
 use Rattle.expression_grammar.specs.declared.fault.SyntaxFault.TheVariants.{At, OutOfMemory}
 use Rattle.expression_grammar.specs.Reading.{accept}
@@ -16,7 +15,7 @@ use Rattle.conditional_fields.specs.declared.template.Piece.TheVariants.{Plain, 
 use Rattle.conditional_fields.specs.declared.template.Template.{Template}
 use Rattle.conditional_fields.specs.Answers.{behind_these}
 use Rattle.conditional_fields.specs.Readings.{IsFault}
-use Rattle.conditional_fields.specs.Templates.{IsPiece, IsSymbol, IsSymbolWith, IsTemplate, IsUnreadable, Reads, behind_symbol, has_subscripts, plain_length}
+use Rattle.conditional_fields.specs.Templates.{IsPiece, IsSymbolWith, IsTemplate, IsUnreadable, Reads, behind_symbol, has_subscripts, plain_length}
 use Rattle.conditional_fields.proofs.AnswerLaws.{behind-nothing}
 use Rattle.statement_reading.specs.Answers.{Says}
 use Rattle.statement_reading.specs.Symbols.{Found, reach, symbol}
