@@ -1,0 +1,66 @@
+-- What the fields of a statement say for a task (this project): a function of their texts.
+use Rattle.std.specs.Prelude.{ℕ, List, Result, Ok, Err, encode_utf8_all}
+use Rattle.hl_base.specs.Symbols.{symbol_of}
+use Rattle.hl_base.specs.declared.set.Declaration.{Declaration}
+use Rattle.hl_base.specs.declared.set.SetKind.{SetKind}
+use Rattle.expression_grammar.specs.declared.character.Grammar.TheVariants.{Arithmetic}
+use Rattle.expression_grammar.specs.Readings.{read}
+use Rattle.expression_grammar.specs.Trees.{Tree}
+use Rattle.conditional_fields.specs.Declarations.{declarations}
+use Rattle.conditional_fields.specs.Sequences.{named_or, symbol_reach}
+use Rattle.statement_reading.specs.declared.task.Task.{Task}
+use Rattle.statement_reading.specs.declared.task.Task.TheVariants as task
+use Rattle.statement_reading.specs.Branches.{Branch, Choice, goto, choices}
+use Rattle.statement_reading.specs.Fields.{Fields, fields}
+use Rattle.statement_reading.specs.Messages.{Message, message}
+use Rattle.statement_reading.specs.Settings.{Setting, setting}
+
+-- what the fields of a statement say for a task; or that they cannot be read, and up to where they can
+pub data Body : Type 0 where
+  unread : (at : ℕ) → Body
+  limits : (count : Tree) → Body
+  goes : (branch : Branch) → Body
+  goes_if : (pairs : List Choice) → Body
+  declares : (list : List Declaration) → Body
+  assigns : (kind : SetKind) (setting : Setting) → Body
+  copies : (member : List ℕ) → Body
+  says : (message : Message) → Body
+  generates : (fields : Fields) → Body
+  ends : (fields : Fields) → Body
+  ends_unread : (at : ℕ) → Body
+  defines : Body
+  leaves : Body
+  nothing : Body
+  leaves_out : Body
+  calls : Body
+
+-- what was read, or that it cannot be
+abbrev pub or_unread : {V : Type 0} → (V → Body) → Result V ℕ → Body
+or_unread make (Ok value) = make value
+or_unread make (Err at) = unread at
+
+-- END ends whatever its fields are
+abbrev pub ending : Result Fields ℕ → Body
+ending (Ok fields) = ends fields
+ending (Err at) = ends_unread at
+
+-- the member of a COPY
+abbrev pub member : List ℕ → Result (List ℕ) ℕ
+member field = named_or (symbol_reach field) (symbol_of (encode_utf8_all field))
+
+-- what name entry and operands say for a task
+abbrev pub body : Task → (label operands : List ℕ) → Body
+body task.LimitBranches label operands = or_unread limits (read Arithmetic operands)
+body task.Go label operands = or_unread goes (goto operands)
+body task.GoIf label operands = or_unread goes_if (choices operands)
+body (task.Declare kind global) label operands = or_unread declares (declarations kind global operands)
+body (task.Assign kind) label operands = or_unread (λ one. assigns kind one) (setting kind label operands)
+body task.Define label operands = defines
+body task.Leave label operands = leaves
+body task.Copy label operands = or_unread copies (member operands)
+body task.Say label operands = or_unread says (message operands)
+body task.Nothing label operands = nothing
+body task.Generate label operands = or_unread generates (fields label operands)
+body task.End label operands = ending (fields label operands)
+body task.LeaveOut label operands = leaves_out
+body task.Call label operands = calls

@@ -1,0 +1,11 @@
+pub mod Answers
+pub mod Symbols
+pub mod Templates
+pub mod Branches
+pub mod Settings
+pub mod Messages
+pub mod Fields
+pub mod Tasks
+pub mod Bodies
+pub mod Readings
+pub mod Views

@@ -1,0 +1,185 @@
+//! What the fields of a statement say for a task.
+ghost use Rattle.std.specs.Prelude.{◌≡◌, IfOk, List, ℕ};
+ghost use Rattle.std.specs.Str.{chars};
+ghost use Rattle.expression_grammar.specs.declared.character.Grammar.TheVariants.{Arithmetic};
+ghost use Rattle.expression_grammar.specs.Readings.{read};
+ghost use Rattle.conditional_fields.specs.Declarations as declared;
+ghost use Rattle.statement_reading.specs.Bodies as bodies;
+ghost use Rattle.statement_reading.specs.Branches as branches;
+ghost use Rattle.statement_reading.specs.Fields as entries;
+ghost use Rattle.statement_reading.specs.Messages as messages;
+ghost use Rattle.statement_reading.specs.Settings as settings;
+ghost use Rattle.statement_reading.specs.Views.{body_of};
+
+use crate::branch::read_branch;
+use crate::condition::{Choices, read_choices};
+use crate::declaration::{read_declarations, read_member};
+use crate::expression::read_number;
+use crate::fields::{Fields, read_fields};
+use crate::message::{Message, read_message};
+use crate::setting::{Setting, read_setting};
+use crate::task::Task;
+use conditional_fields::Goto;
+use hl_base::{Declarations, Name, OutOfMemory, SetKind};
+use operand_grammar::{Expr, SyntaxFault};
+use std::alloc::Global;
+
+/// What the fields of a statement say for a task.
+#[derive(Drop)]
+pub enum Body {
+    /// They cannot be read, and up to this character they can.
+    Unread(u32),
+    /// ACTR: so many branches.
+    Limits(Expr),
+    /// AGO.
+    Goes(Goto),
+    /// AIF.
+    GoesIf(Choices),
+    /// GBLA, GBLB, GBLC, LCLA, LCLB, LCLC.
+    Declares(Declarations),
+    /// SETA, SETB, SETC.
+    Assigns(SetKind, Setting),
+    /// COPY.
+    Copies(Name),
+    /// MNOTE.
+    Says(Message),
+    Generates(Fields),
+    /// END.
+    Ends(Fields),
+    /// END, whose fields cannot be read.
+    EndsUnread(u32),
+    /// MACRO.
+    Defines,
+    /// MEND, MEXIT.
+    Leaves,
+    Nothing,
+    LeavesOut,
+    Calls,
+}
+
+/// ACTR.
+fn limits(alloc: Global, operands: &str) -> Result<Body, OutOfMemory>
+    ensures { IfOk result (λ b. body_of b ≡ bodies.or_unread bodies.limits (read Arithmetic (chars operands.now))) }
+{
+    match read_number(alloc, operands) {
+        Ok(count) => Ok(Body::Limits(count)),
+        Err(SyntaxFault::At(at)) => Ok(Body::Unread(at)),
+        Err(SyntaxFault::OutOfMemory) => Err(OutOfMemory),
+    }
+}
+
+/// AGO.
+fn goes(alloc: Global, operands: &str) -> Result<Body, OutOfMemory>
+    ensures { IfOk result (λ b. body_of b ≡ bodies.or_unread bodies.goes (branches.goto (chars operands.now))) }
+{
+    match read_branch(alloc, operands) {
+        Ok(goto) => Ok(Body::Goes(goto)),
+        Err(SyntaxFault::At(at)) => Ok(Body::Unread(at)),
+        Err(SyntaxFault::OutOfMemory) => Err(OutOfMemory),
+    }
+}
+
+/// AIF.
+fn goes_if(alloc: Global, operands: &str) -> Result<Body, OutOfMemory>
+    ensures { IfOk result (λ b. body_of b ≡ bodies.or_unread bodies.goes_if (branches.choices (chars operands.now))) }
+{
+    match read_choices(alloc, operands) {
+        Ok(choices) => Ok(Body::GoesIf(choices)),
+        Err(SyntaxFault::At(at)) => Ok(Body::Unread(at)),
+        Err(SyntaxFault::OutOfMemory) => Err(OutOfMemory),
+    }
+}
+
+/// GBLA, GBLB, GBLC, LCLA, LCLB, LCLC.
+fn declares(alloc: Global, kind: SetKind, global: bool, operands: &str) -> Result<Body, OutOfMemory>
+    ensures { IfOk result (λ b. body_of b ≡ bodies.or_unread bodies.declares (declared.declarations kind global (chars operands.now))) }
+{
+    match read_declarations(alloc, kind, global, operands) {
+        Ok(list) => Ok(Body::Declares(list)),
+        Err(SyntaxFault::At(at)) => Ok(Body::Unread(at)),
+        Err(SyntaxFault::OutOfMemory) => Err(OutOfMemory),
+    }
+}
+
+/// SETA, SETB, SETC.
+fn assigns(alloc: Global, kind: SetKind, label: &str, operands: &str) -> Result<Body, OutOfMemory>
+    ensures { IfOk result (λ b. body_of b ≡ bodies.or_unread (λ one. bodies.assigns kind one) (settings.setting kind (chars label.now) (chars operands.now))) }
+{
+    match read_setting(alloc, kind, label, operands) {
+        Ok(setting) => Ok(Body::Assigns(kind, setting)),
+        Err(SyntaxFault::At(at)) => Ok(Body::Unread(at)),
+        Err(SyntaxFault::OutOfMemory) => Err(OutOfMemory),
+    }
+}
+
+/// COPY.
+fn copies(operands: &str) -> Result<Body, OutOfMemory>
+    ensures { IfOk result (λ b. body_of b ≡ bodies.or_unread bodies.copies (bodies.member (chars operands.now))) }
+{
+    match read_member(operands) {
+        Ok(name) => Ok(Body::Copies(name)),
+        Err(SyntaxFault::At(at)) => Ok(Body::Unread(at)),
+        Err(SyntaxFault::OutOfMemory) => Err(OutOfMemory),
+    }
+}
+
+/// MNOTE.
+fn says(alloc: Global, operands: &str) -> Result<Body, OutOfMemory>
+    ensures { IfOk result (λ b. body_of b ≡ bodies.or_unread bodies.says (messages.message (chars operands.now))) }
+{
+    match read_message(alloc, operands) {
+        Ok(message) => Ok(Body::Says(message)),
+        Err(SyntaxFault::At(at)) => Ok(Body::Unread(at)),
+        Err(SyntaxFault::OutOfMemory) => Err(OutOfMemory),
+    }
+}
+
+/// A generated statement.
+fn generates(alloc: Global, label: &str, operands: &str) -> Result<Body, OutOfMemory>
+    ensures { IfOk result (λ b. body_of b ≡ bodies.or_unread bodies.generates (entries.fields (chars label.now) (chars operands.now))) }
+{
+    match read_fields(alloc, label, operands) {
+        Ok(fields) => Ok(Body::Generates(fields)),
+        Err(SyntaxFault::At(at)) => Ok(Body::Unread(at)),
+        Err(SyntaxFault::OutOfMemory) => Err(OutOfMemory),
+    }
+}
+
+/// END.
+fn ends(alloc: Global, label: &str, operands: &str) -> Result<Body, OutOfMemory>
+    ensures { IfOk result (λ b. body_of b ≡ bodies.ending (entries.fields (chars label.now) (chars operands.now))) }
+{
+    match read_fields(alloc, label, operands) {
+        Ok(fields) => Ok(Body::Ends(fields)),
+        Err(SyntaxFault::At(at)) => Ok(Body::EndsUnread(at)),
+        Err(SyntaxFault::OutOfMemory) => Err(OutOfMemory),
+    }
+}
+
+/// Reads what name entry and operands say for a task: only what the task needs of them. Fields that cannot be read have a
+/// body too.
+pub fn read_body(
+    alloc: Global,
+    task: Task,
+    label: &str,
+    operands: &str,
+) -> Result<Body, OutOfMemory>
+    ensures { IfOk result (λ b. body_of b ≡ bodies.body task (chars label.now) (chars operands.now)) }
+{
+    match task {
+        Task::LimitBranches => limits(alloc, operands),
+        Task::Go => goes(alloc, operands),
+        Task::GoIf => goes_if(alloc, operands),
+        Task::Declare(kind, global) => declares(alloc, kind, global, operands),
+        Task::Assign(kind) => assigns(alloc, kind, label, operands),
+        Task::Define => Ok(Body::Defines),
+        Task::Leave => Ok(Body::Leaves),
+        Task::Copy => copies(operands),
+        Task::Say => says(alloc, operands),
+        Task::Nothing => Ok(Body::Nothing),
+        Task::Generate => generates(alloc, label, operands),
+        Task::End => ends(alloc, label, operands),
+        Task::LeaveOut => Ok(Body::LeavesOut),
+        Task::Call => Ok(Body::Calls),
+    }
+}

@@ -1,0 +1,118 @@
+//! What a statement does, by its operation.
+ghost use Rattle.std.specs.Prelude.{◌≡◌};
+ghost use Rattle.statement_reading.specs.Tasks as tasks;
+
+use hl_base::{Name, SetKind};
+use instruction_table::Operation;
+
+/// What a statement does where no macro definition has the name of its operation.
+#[derive(Clone, Copy, Debug, PartialEq, Eq)]
+pub enum Task {
+    LimitBranches,
+    Go,
+    GoIf,
+    /// Of this type, and whether the symbols are global.
+    Declare(SetKind, bool),
+    Assign(SetKind),
+    Define,
+    Leave,
+    Copy,
+    Say,
+    Nothing,
+    Generate,
+    End,
+    LeaveOut,
+    Call,
+}
+
+/// What an operation of conditional assembly does.
+fn conditional(name: &str) -> Task
+    ensures { result ≡ tasks.conditional name.now }
+{
+    match name {
+        "ACTR" => Task::LimitBranches,
+        "AGO" => Task::Go,
+        "AIF" => Task::GoIf,
+        "GBLA" => Task::Declare(SetKind::A, true),
+        "GBLB" => Task::Declare(SetKind::B, true),
+        "GBLC" => Task::Declare(SetKind::C, true),
+        "LCLA" => Task::Declare(SetKind::A, false),
+        "LCLB" => Task::Declare(SetKind::B, false),
+        "LCLC" => Task::Declare(SetKind::C, false),
+        "MACRO" => Task::Define,
+        "MEND" => Task::Leave,
+        "MEXIT" => Task::Leave,
+        "SETA" => Task::Assign(SetKind::A),
+        "SETB" => Task::Assign(SetKind::B),
+        "SETC" => Task::Assign(SetKind::C),
+        _ => Task::Nothing,
+    }
+}
+
+/// What a statement with this operation does, which means so much.
+pub fn task_of(op: &Name, meaning: Operation) -> Task
+    ensures { result ≡ tasks.task op.now meaning }
+{
+    let name = op.text();
+    match meaning {
+        Operation::Conditional => conditional(name),
+        Operation::Ordinary => ordinary(name),
+        Operation::Both => both(name),
+        Operation::Silent => Task::Nothing,
+        Operation::LeftOut => Task::LeaveOut,
+        Operation::Machine(_) => Task::Generate,
+        Operation::Unknown => Task::Call,
+    }
+}
+
+/// What an ordinary assembler operation does.
+fn ordinary(name: &str) -> Task
+    ensures { result ≡ tasks.ordinary name.now }
+{
+    match name {
+        "END" => Task::End,
+        _ => Task::Generate,
+    }
+}
+
+/// What COPY or MNOTE does.
+fn both(name: &str) -> Task
+    ensures { result ≡ tasks.both name.now }
+{
+    match name {
+        "COPY" => Task::Copy,
+        _ => Task::Say,
+    }
+}
+
+/// Whether no macro definition replaces an operation.
+pub fn is_lasting(meaning: Operation) -> bool
+    ensures { result ≡ tasks.is_lasting meaning }
+{
+    match meaning {
+        Operation::Conditional | Operation::Ordinary | Operation::Both => true,
+        Operation::Silent | Operation::LeftOut | Operation::Machine(_) | Operation::Unknown =>
+            false,
+    }
+}
+
+/// Whether a statement is generated.
+pub fn is_generated(task: Task) -> bool
+    ensures { result ≡ tasks.is_generated task }
+{
+    match task {
+        Task::Generate | Task::End => true,
+        Task::LimitBranches
+        | Task::Go
+        | Task::GoIf
+        | Task::Declare(_, _)
+        | Task::Assign(_)
+        | Task::Define
+        | Task::Leave
+        | Task::Copy
+        | Task::Say
+        | Task::Nothing
+        | Task::LeaveOut
+        | Task::Call => false,
+    }
+}
