@@ -18,14 +18,14 @@ use operand_grammar::{Expr, SyntaxFault, parse_arith};
 use std::alloc::Global;
 
 /// A branch to the label of this number, counted from 1, the first being apart.
-fn chosen(number: i32, first: Name, others: &[Name]) -> Act
-    ensures { result ≡ branching.chosen number (first ∷ others.now) }
+fn chosen(number: i32, first: &Name, others: &[Name]) -> Act
+    ensures { result ≡ branching.chosen number (first.now ∷ others.now) }
 {
     if number < 1 {
         return Act::Next;
     }
     if number == 1 {
-        return Act::Branch(first);
+        return Act::Branch(first.copy());
     }
     match others.get((number - 2) as usize) {
         Some(label) => Act::Branch(label.copy()),
@@ -34,13 +34,18 @@ fn chosen(number: i32, first: Name, others: &[Name]) -> Act
 }
 
 /// Where an AGO that is read branches to.
-fn going<Q: Lookups>(alloc: Global, goto: Goto, q: &mut Q, notes: &mut Notes) -> Result<Act, Stop>
+pub fn going<Q: Lookups>(
+    alloc: Global,
+    goto: &Goto,
+    q: &mut Q,
+    notes: &mut Notes,
+) -> Result<Act, Stop>
     ensures told { Q.told q.new ≡ Q.told q.old }
-    ensures tells { Tells (branching.going goto (Q.told q.old)) notes.old notes.new result }
+    ensures tells { Tells (branching.going goto.now (Q.told q.old)) notes.old notes.new result }
 {
     match goto {
-        Goto::To(label) => Ok(Act::Branch(label)),
-        Goto::Among(tree, first, others) => match number(alloc, &tree, q, notes) {
+        Goto::To(label) => Ok(Act::Branch(label.copy())),
+        Goto::Among(tree, first, others) => match number(alloc, tree, q, notes) {
             Ok(n) => Ok(chosen(n, first, others.as_slice())),
             Err(stop) => Err(stop),
         },
@@ -53,7 +58,7 @@ pub fn go<Q: Lookups>(alloc: Global, field: &str, q: &mut Q, notes: &mut Notes) 
     ensures tells { branching.Goes (chars field.now) (Q.told q.old) notes.old notes.new result }
 {
     match ago(alloc, field) {
-        Ok(goto) => match going(alloc, goto, q, notes) {
+        Ok(goto) => match going(alloc, &goto, q, notes) {
             Ok(act) => Ok(act),
             Err(stop) => Err(stop),
         },
@@ -73,7 +78,7 @@ fn from_0_on(number: i32) -> i32
 }
 
 /// So many branches are left.
-fn counting<Q: Lookups>(
+pub fn counting<Q: Lookups>(
     alloc: Global,
     tree: &Expr,
     q: &mut Q,

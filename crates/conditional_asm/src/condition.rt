@@ -86,7 +86,7 @@ fn holding<Q: Lookups>(
 }
 
 /// A branch by the first pair whose condition holds.
-fn choosing<Q: Lookups>(
+pub fn choosing<Q: Lookups>(
     alloc: Global,
     pairs: &[Selector],
     q: &mut Q,

@@ -49,19 +49,20 @@ fn checked_line(alloc: Global, line: Line, notes: &mut Notes) -> Result<Line, St
 }
 
 /// The line of an operation, with the values of the variable symbols of its fields.
-fn lined<Q: Lookups>(
+pub fn lined<Q: Lookups>(
     alloc: Global,
-    op: Text,
+    op: &Text,
     fields: &Fields,
     q: &mut Q,
     notes: &mut Notes,
 ) -> Result<Line, Stop>
     ensures told { Q.told q.new ≡ Q.told q.old }
-    ensures tells { Tells (generating.lined op fields.now (Q.told q.old)) notes.old notes.new result }
+    ensures tells { Tells (generating.lined op.now fields.now (Q.told q.old)) notes.old notes.new result }
 {
     let label = substitute(alloc, &fields.label, q, notes)?;
     let text = substitute(alloc, &fields.operands, q, notes)?;
     let operands = ended(alloc, text.as_str())?;
+    let op = op.copy(alloc)?;
     let line = Line {
         label,
         op,
@@ -84,7 +85,7 @@ pub fn generate<Q: Lookups>(
     ensures tells { generating.Generates (chars label.now) op (chars operands.now) (Q.told q.old) notes.old notes.new result }
 {
     match read_fields(alloc, label, operands) {
-        Ok(fields) => match lined(alloc, op, &fields, q, notes) {
+        Ok(fields) => match lined(alloc, &op, &fields, q, notes) {
             Ok(line) => Ok(Act::Generate(line)),
             Err(stop) => Err(stop),
         },
@@ -109,7 +110,7 @@ pub fn end<Q: Lookups>(
     ensures tells { generating.Ends (chars label.now) op (chars operands.now) (Q.told q.old) notes.old notes.new result }
 {
     match read_fields(alloc, label, operands) {
-        Ok(fields) => match lined(alloc, op, &fields, q, notes) {
+        Ok(fields) => match lined(alloc, &op, &fields, q, notes) {
             Ok(_line) => Ok(Act::End),
             Err(stop) => Err(stop),
         },

@@ -171,19 +171,18 @@ fn worded<Q: Lookups>(
     }
 }
 
-/// The severity first, and then the message.
-fn saying<Q: Lookups>(
+/// What an MNOTE that is read does: the severity first, and then the message.
+pub fn saying<Q: Lookups>(
     alloc: Global,
-    severity: &Option<Expr>,
-    tree: &Expr,
+    message: &Message,
     q: &mut Q,
     notes: &mut Notes,
 ) -> Result<Act, Stop>
     ensures told { Q.told q.new ≡ Q.told q.old }
-    ensures tells { Tells (messages.saying severity.now (tree_of tree.now) (Q.told q.old)) notes.old notes.new result }
+    ensures tells { Tells (messages.saying message.now.severity (tree_of message.now.text) (Q.told q.old)) notes.old notes.new result }
 {
-    match weighing(alloc, severity, q, notes) {
-        Ok(weight) => worded(alloc, weight, tree, q, notes),
+    match weighing(alloc, &message.severity, q, notes) {
+        Ok(weight) => worded(alloc, weight, &message.text, q, notes),
         Err(stop) => Err(stop),
     }
 }
@@ -207,7 +206,7 @@ pub fn say<Q: Lookups>(
     ensures tells { messages.Says (chars field.now) (Q.told q.old) notes.old notes.new result }
 {
     match read(alloc, field) {
-        Ok(message) => match saying(alloc, &message.severity, &message.text, q, notes) {
+        Ok(message) => match saying(alloc, &message, q, notes) {
             Ok(act) => Ok(act),
             Err(stop) => Err(stop),
         },

@@ -177,21 +177,20 @@ fn set_to(tree: &Expr, at: &Numbers, value: SetValue) -> Act
     }
 }
 
-/// The subscripts first, and then the value.
-fn assigned<Q: Lookups>(
+/// What SETA, SETB or SETC that is read does: the subscripts first, and then the value.
+pub fn assigning<Q: Lookups>(
     alloc: Global,
     kind: SetKind,
-    target: &Expr,
-    value: &Expr,
+    setting: &Setting,
     q: &mut Q,
     notes: &mut Notes,
 ) -> Result<Act, Stop>
     ensures told { Q.told q.new ≡ Q.told q.old }
-    ensures tells { Tells (settings.assigning kind (tree_of target.now) (tree_of value.now) (Q.told q.old)) notes.old notes.new result }
+    ensures tells { Tells (settings.assigning kind (tree_of setting.now.target) (tree_of setting.now.value) (Q.told q.old)) notes.old notes.new result }
 {
-    let at = subscripts_of(alloc, target, q, notes)?;
-    let value = value_of(alloc, kind, value, q, notes)?;
-    Ok(set_to(target, &at, value))
+    let at = subscripts_of(alloc, &setting.target, q, notes)?;
+    let value = value_of(alloc, kind, &setting.value, q, notes)?;
+    Ok(set_to(&setting.target, &at, value))
 }
 
 /// What SETA, SETB or SETC does, by the type of its SET symbol. The operand of SETB is a logical expression, whose
@@ -208,7 +207,7 @@ pub fn assign<Q: Lookups>(
     ensures tells { settings.Assigns kind (chars label.now) (chars field.now) (Q.told q.old) notes.old notes.new result }
 {
     match read_setting(alloc, kind, label, field) {
-        Ok(read) => match assigned(alloc, kind, &read.target, &read.value, q, notes) {
+        Ok(read) => match assigning(alloc, kind, &read, q, notes) {
             Ok(act) => Ok(act),
             Err(stop) => Err(stop),
         },
