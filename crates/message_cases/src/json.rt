@@ -18,10 +18,15 @@ pub fn no_json(alloc: Global) -> Result<String, OutOfMemory> {
     Ok(String::from_str(alloc, "no JSON")?)
 }
 
+/// What is written of a value.
+pub fn written_value(alloc: Global, value: &Value) -> Result<String, OutOfMemory> {
+    Ok(String::from_utf8_lossy(alloc, compact(alloc, value)?.as_slice())?)
+}
+
 /// What is written of what is read.
 pub fn written(alloc: Global, bytes: &[u8]) -> Result<String, OutOfMemory> {
     match value(alloc, bytes)? {
-        Some(value) => Ok(String::from_utf8_lossy(alloc, compact(alloc, &value)?.as_slice())?),
+        Some(value) => written_value(alloc, &value),
         None => no_json(alloc),
     }
 }

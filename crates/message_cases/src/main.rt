@@ -1,4 +1,4 @@
-//! Compares tables of cases with what `json_view` and `lsp_messages` answer: `message_cases TABLE` reads the cases of one
+//! Compares tables of cases with what `json_view`, `lsp_messages` and `dap_messages` answer: `message_cases TABLE` reads the cases of one
 //! table from standard input, prints each whose answer differs, and at the end `N passed, M failed`.
 //!
 //! tests/cases/README.md says what each table reads. What the crates promise stands on their own functions; here is only
@@ -6,6 +6,8 @@
 #![tactic(auto)]
 
 mod bodies;
+mod debug_bodies;
+mod debug_requests;
 mod json;
 mod members;
 mod messages;

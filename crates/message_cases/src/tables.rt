@@ -1,5 +1,5 @@
 //! The tables by their words.
-use crate::{bodies, json, members, messages};
+use crate::{bodies, debug_bodies, debug_requests, json, members, messages};
 use case_lines::CaseTable;
 use hl_base::OutOfMemory;
 use std::alloc::Global;
@@ -30,6 +30,15 @@ pub enum Table {
 
     /// Messages that are written.
     Bodies,
+
+    /// Values, read as debug requests.
+    DebugRequests,
+
+    /// Commands and arguments, read as debug requests.
+    DebugArguments,
+
+    /// Debug messages that are written.
+    DebugBodies,
 }
 
 /// What is answered where the fields are not those of the table.
@@ -46,7 +55,10 @@ fn answer_of_text(alloc: Global, table: Table, text: &str) -> Result<String, Out
         Table::Messages => messages::read(alloc, text),
         Table::Responses => messages::is_answer(alloc, text),
         Table::Ids => messages::copied(alloc, text),
-        Table::Parameters | Table::Bodies => other_fields(alloc),
+        Table::DebugRequests => debug_requests::read(alloc, text),
+        Table::Parameters | Table::Bodies | Table::DebugArguments | Table::DebugBodies => {
+            other_fields(alloc)
+        }
     }
 }
 
@@ -61,6 +73,9 @@ impl CaseTable for Table {
             "responses" => Some(Table::Responses),
             "ids" => Some(Table::Ids),
             "bodies" => Some(Table::Bodies),
+            "debug_requests" => Some(Table::DebugRequests),
+            "debug_arguments" => Some(Table::DebugArguments),
+            "debug_bodies" => Some(Table::DebugBodies),
             _ => None,
         }
     }
@@ -70,6 +85,12 @@ impl CaseTable for Table {
             (Table::Bodies, [kind, rest @ ..]) => bodies::body(alloc, kind.as_str(), rest),
             (Table::Parameters, [method, params]) => {
                 messages::of_parameters(alloc, method.as_str(), params.as_str())
+            }
+            (Table::DebugBodies, [kind, rest @ ..]) => {
+                debug_bodies::text(alloc, kind.as_str(), rest)
+            }
+            (Table::DebugArguments, [command, arguments]) => {
+                debug_requests::of_arguments(alloc, command.as_str(), arguments.as_str())
             }
             (table, [text]) => answer_of_text(alloc, table, text.as_str()),
             _ => other_fields(alloc),
