@@ -1,11 +1,11 @@
 -- Completeness follows from the headline and the causes.
-use Rattle.std.proofs.Common.{◌≡◌, ℕ, List, [], ◌++◌, length, drop, Option, Some, None, inl, inr, refl, sym, ap, ◌∙◌, subst}
+use Rattle.std.proofs.Common.{◌≡◌, ℕ, Bool, List, [], ◌++◌, length, drop, Option, Some, None, inl, inr, refl, sym, ap, ◌∙◌, subst}
 use Rattle.std.proofs.Math.Seq.{drop-append_seam}
 use Rattle.io_edge.specs.Told.{Gives, Gains, HasRisen}
 use Rattle.hlasm_server.specs.declared.status.Status.{Status}
 use Rattle.hlasm_server.specs.declared.status.Status.TheVariants.{Done, NoShutdown, InputEnded, OutOfMemory, ReadFault, WriteFault, BadFrame, BadWords, InputTooLong}
-use Rattle.session_core.specs.State.{start}
 use Rattle.session_core.specs.Step.{written}
+use Rattle.hlasm_server.specs.Hearing.{beginning_with}
 use Rattle.hlasm_server.specs.Headline.{Whole, IsPlainRun, HasStatusCause, Completes}
 use Rattle.hlasm_server.proofs.OutputLaws.{one_out}
 
@@ -18,25 +18,29 @@ left_now before (Some rest) taken bytes gives told =
     ap Some (sym (drop-append_seam taken rest) ∙ ap (drop (length taken)) (sym is))
 
 -- a run whose answer is whole is the plain one of that input
-whole_completes : (status : Status) (l0 l1 h0 h1 : Option (List ℕ)) (plain : IsPlainRun [] [] l0 l1 h0 h1 status)
-    → ((bytes : List ℕ) → l0 ≡ Some bytes → Whole [] [] bytes status (length plain.taken) plain.output) → Completes [] [] l0 l1 h0 h1 status
-whole_completes status l0 l1 h0 h1 plain answer bytes replies wanted count told out =
-    let whole = answer bytes told in
-    let same = one_out start 0 [] [] bytes whole.replies replies status wanted (length plain.taken) count whole.out out in
-    inr (
-      same.1,
-      subst (λ n. l1 ≡ Some (drop n bytes)) same.2 (left_now l0 l1 plain.taken bytes plain.read told),
-      subst (λ z. Gains h0 z h1) (whole.all ∙ ap written same.0) plain.wrote,
-    )
+whole_completes : (status : Status) (w0 w1 : Option (List Bool)) (l0 l1 h0 h1 : Option (List ℕ)) (plain : IsPlainRun [] w0 w1 l0 l1 h0 h1 status)
+    → ((bytes : List ℕ) → l0 ≡ Some bytes → Whole plain.waits [] bytes status (length plain.taken) plain.output) → Completes [] w0 w1 l0 l1 h0 h1 status
+whole_completes status w0 w1 l0 l1 h0 h1 plain answer = (
+  plain.waits,
+  plain.asked,
+  λ bytes replies wanted count told out.
+      let whole = answer bytes told in
+      let same = one_out (beginning_with plain.waits) 0 [] bytes whole.replies replies status wanted (length plain.taken) count whole.out out in
+      inr (
+        same.1,
+        subst (λ n. l1 ≡ Some (drop n bytes)) same.2 (left_now l0 l1 plain.taken bytes plain.read told),
+        subst (λ z. Gains h0 z h1) (whole.all ∙ ap written same.0) plain.wrote,
+      ),
+)
 
-pub completes : (status : Status) (l0 l1 h0 h1 : Option (List ℕ)) (f0 f1 k0 k1 : ℕ) → IsPlainRun [] [] l0 l1 h0 h1 status → HasStatusCause status f0 f1 k0 k1
-    → (HasRisen f0 f1 → ⊥) → (HasRisen k0 k1 → ⊥) → Completes [] [] l0 l1 h0 h1 status
-completes Done l0 l1 h0 h1 f0 f1 k0 k1 plain cause no_read no_write = whole_completes Done l0 l1 h0 h1 plain plain.answer
-completes NoShutdown l0 l1 h0 h1 f0 f1 k0 k1 plain cause no_read no_write = whole_completes NoShutdown l0 l1 h0 h1 plain plain.answer
-completes InputEnded l0 l1 h0 h1 f0 f1 k0 k1 plain cause no_read no_write = whole_completes InputEnded l0 l1 h0 h1 plain plain.answer
-completes (BadFrame at) l0 l1 h0 h1 f0 f1 k0 k1 plain cause no_read no_write = whole_completes (BadFrame at) l0 l1 h0 h1 plain plain.answer
-completes InputTooLong l0 l1 h0 h1 f0 f1 k0 k1 plain cause no_read no_write = whole_completes InputTooLong l0 l1 h0 h1 plain plain.answer
-completes OutOfMemory l0 l1 h0 h1 f0 f1 k0 k1 plain cause no_read no_write = λ bytes replies wanted count told out. inl refl
-completes ReadFault l0 l1 h0 h1 f0 f1 k0 k1 plain cause no_read no_write = absurd (no_read cause)
-completes WriteFault l0 l1 h0 h1 f0 f1 k0 k1 plain cause no_read no_write = absurd (no_write cause)
-completes BadWords l0 l1 h0 h1 f0 f1 k0 k1 plain cause no_read no_write = λ bytes replies wanted count told out. absurd (plain.answer bytes told)
+pub completes : (status : Status) (w0 w1 : Option (List Bool)) (l0 l1 h0 h1 : Option (List ℕ)) (f0 f1 k0 k1 : ℕ) → IsPlainRun [] w0 w1 l0 l1 h0 h1 status → HasStatusCause status f0 f1 k0 k1
+    → (HasRisen f0 f1 → ⊥) → (HasRisen k0 k1 → ⊥) → Completes [] w0 w1 l0 l1 h0 h1 status
+completes Done w0 w1 l0 l1 h0 h1 f0 f1 k0 k1 plain cause no_read no_write = whole_completes Done w0 w1 l0 l1 h0 h1 plain plain.answer
+completes NoShutdown w0 w1 l0 l1 h0 h1 f0 f1 k0 k1 plain cause no_read no_write = whole_completes NoShutdown w0 w1 l0 l1 h0 h1 plain plain.answer
+completes InputEnded w0 w1 l0 l1 h0 h1 f0 f1 k0 k1 plain cause no_read no_write = whole_completes InputEnded w0 w1 l0 l1 h0 h1 plain plain.answer
+completes (BadFrame at) w0 w1 l0 l1 h0 h1 f0 f1 k0 k1 plain cause no_read no_write = whole_completes (BadFrame at) w0 w1 l0 l1 h0 h1 plain plain.answer
+completes InputTooLong w0 w1 l0 l1 h0 h1 f0 f1 k0 k1 plain cause no_read no_write = whole_completes InputTooLong w0 w1 l0 l1 h0 h1 plain plain.answer
+completes OutOfMemory w0 w1 l0 l1 h0 h1 f0 f1 k0 k1 plain cause no_read no_write = (plain.waits, plain.asked, λ bytes replies wanted count told out. inl refl)
+completes ReadFault w0 w1 l0 l1 h0 h1 f0 f1 k0 k1 plain cause no_read no_write = absurd (no_read cause)
+completes WriteFault w0 w1 l0 l1 h0 h1 f0 f1 k0 k1 plain cause no_read no_write = absurd (no_write cause)
+completes BadWords w0 w1 l0 l1 h0 h1 f0 f1 k0 k1 plain cause no_read no_write = (plain.waits, plain.asked, λ bytes replies wanted count told out. absurd (plain.answer bytes told))

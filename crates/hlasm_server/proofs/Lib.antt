@@ -3,3 +3,4 @@ pub mod HeadlineLaws
 pub mod OutputLaws
 pub mod SendingLaws
 pub mod ServeLaws
+pub mod WaitingLaws

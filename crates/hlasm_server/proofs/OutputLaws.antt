@@ -6,8 +6,7 @@ use Rattle.io_edge.specs.LibraryCall.{LibraryCall}
 use Rattle.rpc_framing.specs.Frames.{IsFrame, IsFrames, IsPartial, IsBadStart}
 use Rattle.hlasm_server.specs.declared.status.Status.{Status}
 use Rattle.hlasm_server.specs.declared.status.Status.TheVariants.{Done, NoShutdown, InputEnded, OutOfMemory, ReadFault, WriteFault, BadFrame, BadWords, InputTooLong}
-use Rattle.session_core.specs.State.{State}
-use Rattle.hlasm_server.specs.Hearing.{Heard, Goes, Ends, hear}
+use Rattle.hlasm_server.specs.Hearing.{Running, Heard, Goes, Ends, hear}
 use Rattle.hlasm_server.specs.Output.{Leads, Meets, most_input, EndsAt, Out}
 use Rattle.rpc_framing.proofs.Lists.{take-past}
 use Rattle.rpc_framing.proofs.FrameLaws.{IsFrame-unique, IsPartial-no_frame, IsPartial-take, BeginsFrames-IsPartial, IsBadStart-unique, HasNoFrame-IsBadStart}
@@ -66,18 +65,18 @@ parts bytes = elim (each_stream bytes) [
 -- ---- one answer
 
 -- two meetings of one frame are one
-one_meeting : (s : State) (tail : List ℕ) (a b : Heard) (m n : ℕ) → Meets s tail a m → Meets s tail b n → (a ≡ b) × (m ≡ n)
+one_meeting : (s : Running) (tail : List ℕ) (a b : Heard) (m n : ℕ) → Meets s tail a m → Meets s tail b n → (a ≡ b) × (m ≡ n)
 one_meeting s tail a b m n p q =
     let same = IsFrame-unique p.bytes q.bytes p.body q.body p.rest q.rest p.is_frame q.is_frame (sym p.whole ∙ q.whole) in
     (sym p.effect ∙ ap (hear s) same.1 ∙ q.effect, p.place ∙ ap length same.0 ∙ sym q.place)
 
-partial_meets_nothing : (s : State) (tail : List ℕ) (a : Heard) (m : ℕ) → Meets s tail a m → IsPartial tail → ⊥
+partial_meets_nothing : (s : Running) (tail : List ℕ) (a : Heard) (m : ℕ) → Meets s tail a m → IsPartial tail → ⊥
 partial_meets_nothing s tail a m p q = partial_has_no_frame p.bytes p.body p.rest p.is_frame (subst IsPartial p.whole q)
 
-bad_meets_nothing : (s : State) (tail : List ℕ) (a : Heard) (m at : ℕ) → Meets s tail a m → IsBadStart tail at → ⊥
+bad_meets_nothing : (s : Running) (tail : List ℕ) (a : Heard) (m at : ℕ) → Meets s tail a m → IsBadStart tail at → ⊥
 bad_meets_nothing s tail a m at p q = bad_has_no_frame p.bytes p.body p.rest at p.is_frame (subst (λ t. IsBadStart t at) p.whole q)
 
-taken_meets_nothing : (s : State) (tail : List ℕ) (a : Heard) (m k : ℕ) → Meets s tail a m → m ≤ k → IsPartial (take k tail) → ⊥
+taken_meets_nothing : (s : Running) (tail : List ℕ) (a : Heard) (m k : ℕ) → Meets s tail a m → m ≤ k → IsPartial (take k tail) → ⊥
 taken_meets_nothing s tail a m k p le partial =
     let place = p.place in
     taken_has_no_frame p.bytes p.body p.rest k p.is_frame (omega arith) (subst (λ t. IsPartial (take k t)) p.whole partial)
@@ -90,17 +89,17 @@ brings (Ends false) = NoShutdown
 
 -- Why a session ends where it stands open: by the next frame, by the input's end, by a bad start, or by the most that
 -- is taken.
-data Cause (s : State) (before : ℕ) (tail : List ℕ) (status : Status) (taken : ℕ) : Type 0 where
+data Cause (s : Running) (before : ℕ) (tail : List ℕ) (status : Status) (taken : ℕ) : Type 0 where
   by_frame : (closed : Bool) → Meets s tail (Ends closed) taken → status ≡ brings (Ends closed) → Cause s before tail status taken
   by_end : IsPartial tail → taken ≡ length tail → before + taken < most_input → status ≡ InputEnded → Cause s before tail status taken
   by_bad : IsBadStart tail taken → status ≡ BadFrame (before + taken) → Cause s before tail status taken
   by_limit : IsPartial (take taken tail) → taken ≤ length tail → before + taken ≡ most_input → status ≡ InputTooLong → Cause s before tail status taken
 
-pub ends_by_frame : (closed : Bool) (s : State) (before : ℕ) (tail : List ℕ) (taken : ℕ) → Meets s tail (Ends closed) taken → EndsAt s before tail (brings (Ends closed)) taken
+pub ends_by_frame : (closed : Bool) (s : Running) (before : ℕ) (tail : List ℕ) (taken : ℕ) → Meets s tail (Ends closed) taken → EndsAt s before tail (brings (Ends closed)) taken
 ends_by_frame true s before tail taken met = met
 ends_by_frame false s before tail taken met = met
 
-cause_of : (s : State) (before : ℕ) (tail : List ℕ) (status : Status) (taken : ℕ) → EndsAt s before tail status taken → Cause s before tail status taken
+cause_of : (s : Running) (before : ℕ) (tail : List ℕ) (status : Status) (taken : ℕ) → EndsAt s before tail status taken → Cause s before tail status taken
 cause_of s before tail Done taken e = by_frame true e refl
 cause_of s before tail NoShutdown taken e = by_frame false e refl
 cause_of s before tail InputEnded taken e = by_end e.0 e.1 e.2 refl
@@ -112,7 +111,7 @@ cause_of s before tail WriteFault taken e = absurd e
 cause_of s before tail BadWords taken e = absurd e
 
 -- where the session stands open, the next thing that happens is one
-one_cause : (s : State) (before : ℕ) (tail : List ℕ) (u v : Status) (a b : ℕ) → before + a ≤ most_input → before + b ≤ most_input → Cause s before tail u a → Cause s before tail v b → (u ≡ v) × (a ≡ b)
+one_cause : (s : Running) (before : ℕ) (tail : List ℕ) (u v : Status) (a b : ℕ) → before + a ≤ most_input → before + b ≤ most_input → Cause s before tail u a → Cause s before tail v b → (u ≡ v) × (a ≡ b)
 one_cause s before tail u v a b la lb (by_frame closed met is) (by_frame other met' is') =
     let same = one_meeting s tail (Ends closed) (Ends other) a b met met' in
     (is ∙ ap brings same.0 ∙ sym is', same.1)
@@ -134,11 +133,11 @@ one_cause s before tail u v a b la lb (by_limit partial le most is) (by_end part
 one_cause s before tail u v a b la lb (by_limit partial le most is) (by_bad bad is') = absurd (bad_is_not_taken tail b a bad (omega arith) partial)
 one_cause s before tail u v a b la lb (by_limit partial le most is) (by_limit partial' le' most' is') = (is ∙ sym is', (omega arith))
 
-one_end : (s : State) (before : ℕ) (tail : List ℕ) (u v : Status) (a b : ℕ) → before + a ≤ most_input → before + b ≤ most_input → EndsAt s before tail u a → EndsAt s before tail v b → (u ≡ v) × (a ≡ b)
+one_end : (s : Running) (before : ℕ) (tail : List ℕ) (u v : Status) (a b : ℕ) → before + a ≤ most_input → before + b ≤ most_input → EndsAt s before tail u a → EndsAt s before tail v b → (u ≡ v) × (a ≡ b)
 one_end s before tail u v a b la lb p q = one_cause s before tail u v a b la lb (cause_of s before tail u a p) (cause_of s before tail v b q)
 
 -- a session that hears the next frame within what is taken and goes on has not ended there
-end_is_no_frame : (s next : State) (before : ℕ) (f b r : List ℕ) (first : List (List ℕ)) (u : Status) (a : ℕ) → IsFrame f b → hear s b ≡ Goes next first → before + length f ≤ most_input → EndsAt s before (f ++ r) u a → ⊥
+end_is_no_frame : (s next : Running) (before : ℕ) (f b r : List ℕ) (first : List (List ℕ)) (u : Status) (a : ℕ) → IsFrame f b → hear s b ≡ Goes next first → before + length f ≤ most_input → EndsAt s before (f ++ r) u a → ⊥
 end_is_no_frame s next before f b r first u a p e room q = elim (cause_of s before (f ++ r) u a q) [
   | by_frame closed met is ↦
       let same = IsFrame-unique f met.bytes b met.body r met.rest p met.is_frame met.whole in
@@ -150,7 +149,7 @@ end_is_no_frame s next before f b r first u a p e room q = elim (cause_of s befo
 ]
 
 -- what was heard and what ended it, of an input in two readings
-pub one_reading : (bs cs : List (List ℕ)) (s t v : State) (before : ℕ) (f g x y : List ℕ) (ra rb : List (List ℕ)) (u w : Status) (a b : ℕ)
+pub one_reading : (bs cs : List (List ℕ)) (s t v : Running) (before : ℕ) (f g x y : List ℕ) (ra rb : List (List ℕ)) (u w : Status) (a b : ℕ)
     → IsFrames f bs → IsFrames g cs → f ++ x ≡ g ++ y → Leads s bs t ra → Leads s cs v rb
     → before + (length f + a) ≤ most_input → before + (length g + b) ≤ most_input
     → EndsAt t (before + length f) x u a → EndsAt v (before + length g) y w b → (ra ≡ rb) × (u ≡ w) × (length f + a ≡ length g + b)
@@ -160,19 +159,19 @@ one_reading [] [] s t v before f g x y ra rb u w a b p q e l m la lb end end' =
     let none : length f ≡ 0 = ap length p in
     let at : before + length g ≡ before + length f = omega arith in
     let there : EndsAt s (before + length f) x w b =
-    subst (λ k. EndsAt s k x w b) at (subst (λ (z : State). EndsAt z (before + length g) x w b) m.0 (subst (λ z. EndsAt v (before + length g) z w b) (sym same_tail) end')) in
-    let here : EndsAt s (before + length f) x u a = subst (λ (z : State). EndsAt z (before + length f) x u a) l.0 end in
+    subst (λ k. EndsAt s k x w b) at (subst (λ (z : Running). EndsAt z (before + length g) x w b) m.0 (subst (λ z. EndsAt v (before + length g) z w b) (sym same_tail) end')) in
+    let here : EndsAt s (before + length f) x u a = subst (λ (z : Running). EndsAt z (before + length f) x u a) l.0 end in
     let same = one_end s (before + length f) x u w a b (omega arith) (omega arith) here there in
     (l.1 ∙ sym m.1, same.0, omega (arith, same.1))
 one_reading [] (c ∷ cs) s t v before f g x y ra rb u w a b p (first, others, is, rest, cut) e l (next, said, more, goes, on, _) la lb end end' =
     let reads : x ≡ first ++ (others ++ y) = sym (ap (λ z. z ++ x) p) ∙ e ∙ ap (λ z. z ++ y) cut ∙ append_assoc first others y in
-    let here : EndsAt s (before + length f) (first ++ (others ++ y)) u a = subst (λ z. EndsAt s (before + length f) z u a) reads (subst (λ (z : State). EndsAt z (before + length f) x u a) l.0 end) in
+    let here : EndsAt s (before + length f) (first ++ (others ++ y)) u a = subst (λ z. EndsAt s (before + length f) z u a) reads (subst (λ (z : Running). EndsAt z (before + length f) x u a) l.0 end) in
     let none : length f ≡ 0 = ap length p in
     let size : length g ≡ length first + length others = ap length cut ∙ length-append first others in
     absurd (end_is_no_frame s next (before + length f) first c (others ++ y) said u a is goes (omega arith) here)
 one_reading (b' ∷ bs) [] s t v before f g x y ra rb u w a b (first, others, is, rest, cut) q e (next, said, more, goes, on, _) m la lb end end' =
     let reads : y ≡ first ++ (others ++ x) = sym (ap (λ z. z ++ y) q) ∙ sym e ∙ ap (λ z. z ++ x) cut ∙ append_assoc first others x in
-    let here : EndsAt s (before + length g) (first ++ (others ++ x)) w b = subst (λ z. EndsAt s (before + length g) z w b) reads (subst (λ (z : State). EndsAt z (before + length g) y w b) m.0 end') in
+    let here : EndsAt s (before + length g) (first ++ (others ++ x)) w b = subst (λ z. EndsAt s (before + length g) z w b) reads (subst (λ (z : Running). EndsAt z (before + length g) y w b) m.0 end') in
     let none : length g ≡ 0 = ap length q in
     let size : length f ≡ length first + length others = ap length cut ∙ length-append first others in
     absurd (end_is_no_frame s next (before + length g) first b' (others ++ x) said w b is goes (omega arith) here)
@@ -183,7 +182,7 @@ one_reading (b' ∷ bs) (c ∷ cs) s t v before f g x y ra rb u w a b (first, ot
     let met : Goes next said ≡ Goes next' said' = sym goes ∙ ap (hear s) same.1 ∙ goes' in
     let same_next : next ≡ next' = cc in
     let same_said : said ≡ said' = cc in
-    let on_too : Leads next cs v more' = subst (λ (z : State). Leads z cs v more') (sym same_next) on' in
+    let on_too : Leads next cs v more' = subst (λ (z : Running). Leads z cs v more') (sym same_next) on' in
     let lengths : length f ≡ length first + length others = ap length cut ∙ length-append first others in
     let lengths' : length g ≡ length first' + length others' = ap length cut' ∙ length-append first' others' in
     let firsts : length first ≡ length first' = ap length same.0 in
@@ -195,15 +194,15 @@ one_reading (b' ∷ bs) (c ∷ cs) s t v before f g x y ra rb u w a b (first, ot
     (all ∙ ap (λ z. z ++ more) same_said ∙ ap (λ z. said' ++ z) behind.0 ∙ sym all', behind.1, omega (arith, behind.2))
 
 -- one output, one status and one count for an input
-pub one_out : (from : State) (before : ℕ) (waits : List Bool) (calls : List LibraryCall) (bytes : List ℕ) (replies others : List (List ℕ)) (status other : Status) (taken count : ℕ)
-    → Out from before waits calls bytes replies status taken → Out from before waits calls bytes others other count
+pub one_out : (from : Running) (before : ℕ) (calls : List LibraryCall) (bytes : List ℕ) (replies others : List (List ℕ)) (status other : Status) (taken count : ℕ)
+    → Out from before calls bytes replies status taken → Out from before calls bytes others other count
     → (replies ≡ others) × (status ≡ other) × (taken ≡ count)
-one_out from before waits calls bytes replies others status other taken count p q =
+one_out from before calls bytes replies others status other taken count p q =
     let one = p.count in
     let two = q.count in
     let room = p.within in
     let space = q.within in
-    let same = one_reading p.bodies q.bodies from p.state q.state before p.front q.front p.tail q.tail replies others status other p.place q.place
+    let same = one_reading p.bodies q.bodies from p.session q.session before p.front q.front p.tail q.tail replies others status other p.place q.place
     p.frames q.frames (sym p.whole ∙ q.whole) p.heard q.heard (omega arith) (omega arith) p.ends q.ends in
     (same.0, same.1, p.count ∙ same.2 ∙ sym q.count)
 
@@ -211,7 +210,7 @@ one_out from before waits calls bytes replies others status other taken count p 
 
 -- the session goes on, or is at its end
 pub data Effect (heard : Heard) : Type 0 where
-  going : (next : State) (first : List (List ℕ)) → heard ≡ Goes next first → Effect heard
+  going : (next : Running) (first : List (List ℕ)) → heard ≡ Goes next first → Effect heard
   ending : (closed : Bool) → heard ≡ Ends closed → Effect heard
 
 pub effect_of : (heard : Heard) → Effect heard
@@ -219,45 +218,45 @@ effect_of (Goes next first) = going next first refl
 effect_of (Ends closed) = ending closed refl
 
 -- there is an output of this input
-pub record SomeOut (from : State) (before : ℕ) (waits : List Bool) (bytes : List ℕ) : Type 0 where
+pub record SomeOut (from : Running) (before : ℕ) (bytes : List ℕ) : Type 0 where
   pub replies : List (List ℕ)
   pub status : Status
   pub taken : ℕ
-  pub out : Out from before waits [] bytes replies status taken
+  pub out : Out from before [] bytes replies status taken
 
-pub Leads-append : (bs cs : List (List ℕ)) (s t v : State) (first rest : List (List ℕ)) → Leads s bs t first → Leads t cs v rest → Leads s (bs ++ cs) v (first ++ rest)
+pub Leads-append : (bs cs : List (List ℕ)) (s t v : Running) (first rest : List (List ℕ)) → Leads s bs t first → Leads t cs v rest → Leads s (bs ++ cs) v (first ++ rest)
 Leads-append [] cs s t v first rest p q =
-    let from_here : Leads s cs v rest = subst (λ (z : State). Leads z cs v rest) p.0 q in
+    let from_here : Leads s cs v rest = subst (λ (z : Running). Leads z cs v rest) p.0 q in
     subst (λ z. Leads s cs v (z ++ rest)) (sym p.1) from_here
 Leads-append (b ∷ bs) cs s t v first rest (next, said, more, goes, on, all) q =
     (next, said, more ++ rest, goes, Leads-append bs cs next t v more rest on q, ap (λ z. z ++ rest) all ∙ append_assoc said more rest)
 
 -- what was heard before goes before
-pub Out-behind : (bs : List (List ℕ)) (s t : State) (before : ℕ) (waits : List Bool) (calls : List LibraryCall) (front bytes : List ℕ) (first rest : List (List ℕ)) (status : Status) (taken : ℕ)
-    → IsFrames front bs → Leads s bs t first → Out t (before + length front) waits calls bytes rest status taken → Out s before waits calls (front ++ bytes) (first ++ rest) status (length front + taken)
-Out-behind bs s t before waits calls front bytes first rest status taken p l o = record {
+pub Out-behind : (bs : List (List ℕ)) (s t : Running) (before : ℕ) (calls : List LibraryCall) (front bytes : List ℕ) (first rest : List (List ℕ)) (status : Status) (taken : ℕ)
+    → IsFrames front bs → Leads s bs t first → Out t (before + length front) calls bytes rest status taken → Out s before calls (front ++ bytes) (first ++ rest) status (length front + taken)
+Out-behind bs s t before calls front bytes first rest status taken p l o = record {
   front = front ++ o.front;
   bodies = bs ++ o.bodies;
   tail = o.tail;
-  state = o.state;
+  session = o.session;
   place = o.place;
   whole = ap (λ z. front ++ z) o.whole ∙ sym (append_assoc front o.front o.tail);
   frames = IsFrames-append bs o.bodies front o.front p o.frames;
-  heard = Leads-append bs o.bodies s t o.state first rest l o.heard;
+  heard = Leads-append bs o.bodies s t o.session first rest l o.heard;
   ends = let counted : before + length front + length o.front ≡ before + length (front ++ o.front) = omega (arith, length-append front o.front) in
-      subst (λ k. EndsAt o.state k o.tail status o.place) counted o.ends;
+      subst (λ k. EndsAt o.session k o.tail status o.place) counted o.ends;
   count = omega (arith, o.count, length-append front o.front);
   within = let room = o.within in omega arith;
   none_left = o.none_left;
 }
 
 -- the session ends with the next thing that happens
-pub Out-here : (s : State) (before : ℕ) (waits : List Bool) (bytes : List ℕ) (status : Status) (taken : ℕ) → before + taken ≤ most_input → EndsAt s before bytes status taken → Out s before waits [] bytes [] status taken
-Out-here s before waits bytes status taken room end = record {
+pub Out-here : (s : Running) (before : ℕ) (bytes : List ℕ) (status : Status) (taken : ℕ) → before + taken ≤ most_input → EndsAt s before bytes status taken → Out s before [] bytes [] status taken
+Out-here s before bytes status taken room end = record {
   front = [];
   bodies = [];
   tail = bytes;
-  state = s;
+  session = s;
   place = taken;
   whole = refl;
   frames = refl;
@@ -269,61 +268,61 @@ Out-here s before waits bytes status taken room end = record {
 }
 
 -- all was taken that may be
-pub out_at_limit : (s : State) (before : ℕ) (waits : List Bool) (bytes : List ℕ) (taken : ℕ) → IsPartial (take taken bytes) → taken ≤ length bytes → before + taken ≡ most_input → SomeOut s before waits bytes
-out_at_limit s before waits bytes taken partial le most = record { replies = []; status = InputTooLong; taken = taken; out = Out-here s before waits bytes InputTooLong taken (omega arith) (partial, le, most) }
+pub out_at_limit : (s : Running) (before : ℕ) (bytes : List ℕ) (taken : ℕ) → IsPartial (take taken bytes) → taken ≤ length bytes → before + taken ≡ most_input → SomeOut s before bytes
+out_at_limit s before bytes taken partial le most = record { replies = []; status = InputTooLong; taken = taken; out = Out-here s before bytes InputTooLong taken (omega arith) (partial, le, most) }
 
 -- one frame and what comes behind it
-pub one_more : (b : List ℕ) (s t : State) (before : ℕ) (waits : List Bool) (f bytes : List ℕ) (first : List (List ℕ)) → IsFrame f b → hear s b ≡ Goes t first → SomeOut t (before + length f) waits bytes → SomeOut s before waits (f ++ bytes)
-one_more b s t before waits f bytes first p goes o = record {
+pub one_more : (b : List ℕ) (s t : Running) (before : ℕ) (f bytes : List ℕ) (first : List (List ℕ)) → IsFrame f b → hear s b ≡ Goes t first → SomeOut t (before + length f) bytes → SomeOut s before (f ++ bytes)
+one_more b s t before f bytes first p goes o = record {
   replies = first ++ o.replies;
   status = o.status;
   taken = length f + o.taken;
   out = let frames : IsFrames f (b ∷ []) = (f, [], p, refl, sym (append-nil f)) in
       let leads : Leads s (b ∷ []) t first = (t, first, [], goes, (refl, refl), sym (append-nil first)) in
-      Out-behind (b ∷ []) s t before waits [] f bytes first o.replies o.status o.taken frames leads o.out;
+      Out-behind (b ∷ []) s t before [] f bytes first o.replies o.status o.taken frames leads o.out;
 }
 
 -- a frame whose body comes to this
-pub met_frame : (b : List ℕ) (s : State) (f bytes : List ℕ) (heard : Heard) → IsFrame f b → hear s b ≡ heard → Meets s (f ++ bytes) heard (length f)
+pub met_frame : (b : List ℕ) (s : Running) (f bytes : List ℕ) (heard : Heard) → IsFrame f b → hear s b ≡ heard → Meets s (f ++ bytes) heard (length f)
 met_frame b s f bytes heard p e = record { bytes = f; body = b; rest = bytes; whole = refl; is_frame = p; effect = e; place = refl }
 
 -- a frame that passes what may be taken
-out_past : (b : List ℕ) (s : State) (before : ℕ) (waits : List Bool) (f bytes : List ℕ) → IsFrame f b → before ≤ most_input → most_input < before + length f → SomeOut s before waits (f ++ bytes)
-out_past b s before waits f bytes is room past =
+out_past : (b : List ℕ) (s : Running) (before : ℕ) (f bytes : List ℕ) → IsFrame f b → before ≤ most_input → most_input < before + length f → SomeOut s before (f ++ bytes)
+out_past b s before f bytes is room past =
     let k : ℕ = most_input - before in
     let less : k < length f = omega arith in
     let same : take k (f ++ bytes) ≡ take k f = take-append-le k f bytes (omega arith) in
-    out_at_limit s before waits (f ++ bytes) k (subst IsPartial (sym same) (front_is_partial f b k is less)) (omega (arith, length-append f bytes)) (omega arith)
+    out_at_limit s before (f ++ bytes) k (subst IsPartial (sym same) (front_is_partial f b k is less)) (omega (arith, length-append f bytes)) (omega arith)
 
 -- less than a whole frame
-out_of_partial : (s : State) (before : ℕ) (waits : List Bool) (tail : List ℕ) → before ≤ most_input → IsPartial tail → SomeOut s before waits tail
-out_of_partial s before waits tail room partial = elim (cases_lt (before + length tail) most_input) [
-  | inl few ↦ record { replies = []; status = InputEnded; taken = length tail; out = Out-here s before waits tail InputEnded (length tail) (omega arith) (partial, refl, few) }
-  | inr many ↦ out_at_limit s before waits tail (most_input - before) (IsPartial-take (most_input - before) tail partial) (omega arith) (omega arith)
+out_of_partial : (s : Running) (before : ℕ) (tail : List ℕ) → before ≤ most_input → IsPartial tail → SomeOut s before tail
+out_of_partial s before tail room partial = elim (cases_lt (before + length tail) most_input) [
+  | inl few ↦ record { replies = []; status = InputEnded; taken = length tail; out = Out-here s before tail InputEnded (length tail) (omega arith) (partial, refl, few) }
+  | inr many ↦ out_at_limit s before tail (most_input - before) (IsPartial-take (most_input - before) tail partial) (omega arith) (omega arith)
 ]
 
 -- a bad start
-out_of_bad : (s : State) (before : ℕ) (waits : List Bool) (tail : List ℕ) (at : ℕ) → before ≤ most_input → IsBadStart tail at → SomeOut s before waits tail
-out_of_bad s before waits tail at room bad = elim (cases_lt most_input (before + at)) [
-  | inr within ↦ record { replies = []; status = BadFrame (before + at); taken = at; out = Out-here s before waits tail (BadFrame (before + at)) at within (bad, refl) }
-  | inl past ↦ let long = bad.within in out_at_limit s before waits tail (most_input - before) (short_of_bad tail at (most_input - before) bad (omega arith)) (omega arith) (omega arith)
+out_of_bad : (s : Running) (before : ℕ) (tail : List ℕ) (at : ℕ) → before ≤ most_input → IsBadStart tail at → SomeOut s before tail
+out_of_bad s before tail at room bad = elim (cases_lt most_input (before + at)) [
+  | inr within ↦ record { replies = []; status = BadFrame (before + at); taken = at; out = Out-here s before tail (BadFrame (before + at)) at within (bad, refl) }
+  | inl past ↦ let long = bad.within in out_at_limit s before tail (most_input - before) (short_of_bad tail at (most_input - before) bad (omega arith)) (omega arith) (omega arith)
 ]
 
-walk : (bs : List (List ℕ)) (s : State) (before : ℕ) (waits : List Bool) (front tail : List ℕ) → before ≤ most_input → IsFrames front bs → IsPartial tail ⊎ ((at : ℕ) × IsBadStart tail at) → SomeOut s before waits (front ++ tail)
-walk [] s before waits front tail room p (inl partial) = subst (λ z. SomeOut s before waits (z ++ tail)) (sym p) (out_of_partial s before waits tail room partial)
-walk [] s before waits front tail room p (inr (at, bad)) = subst (λ z. SomeOut s before waits (z ++ tail)) (sym p) (out_of_bad s before waits tail at room bad)
-walk (b ∷ bs) s before waits front tail room (f, rest, is, frames, cut) t =
+walk : (bs : List (List ℕ)) (s : Running) (before : ℕ) (front tail : List ℕ) → before ≤ most_input → IsFrames front bs → IsPartial tail ⊎ ((at : ℕ) × IsBadStart tail at) → SomeOut s before (front ++ tail)
+walk [] s before front tail room p (inl partial) = subst (λ z. SomeOut s before (z ++ tail)) (sym p) (out_of_partial s before tail room partial)
+walk [] s before front tail room p (inr (at, bad)) = subst (λ z. SomeOut s before (z ++ tail)) (sym p) (out_of_bad s before tail at room bad)
+walk (b ∷ bs) s before front tail room (f, rest, is, frames, cut) t =
     let reads : f ++ (rest ++ tail) ≡ front ++ tail = sym (append_assoc f rest tail) ∙ sym (ap (λ z. z ++ tail) cut) in
-    subst (SomeOut s before waits) reads (elim (cases_lt most_input (before + length f)) [
-      | inl past ↦ out_past b s before waits f (rest ++ tail) is room past
+    subst (SomeOut s before) reads (elim (cases_lt most_input (before + length f)) [
+      | inl past ↦ out_past b s before f (rest ++ tail) is room past
       | inr within ↦ elim (effect_of (hear s b)) [
-        | going next first goes ↦ one_more b s next before waits f (rest ++ tail) first is goes (walk bs next (before + length f) waits rest tail within frames t)
-        | ending closed ends ↦ record { replies = []; status = brings (Ends closed); taken = length f; out = Out-here s before waits (f ++ (rest ++ tail)) (brings (Ends closed)) (length f) within (ends_by_frame closed s before (f ++ (rest ++ tail)) (length f) (met_frame b s f (rest ++ tail) (Ends closed) is ends)) }
+        | going next first goes ↦ one_more b s next before f (rest ++ tail) first is goes (walk bs next (before + length f) rest tail within frames t)
+        | ending closed ends ↦ record { replies = []; status = brings (Ends closed); taken = length f; out = Out-here s before (f ++ (rest ++ tail)) (brings (Ends closed)) (length f) within (ends_by_frame closed s before (f ++ (rest ++ tail)) (length f) (met_frame b s f (rest ++ tail) (Ends closed) is ends)) }
       ]
     ])
 
 -- each input has an output, wherever the session stands
-pub some_out : (s : State) (before : ℕ) (waits : List Bool) (bytes : List ℕ) → before ≤ most_input → SomeOut s before waits bytes
-some_out s before waits bytes room =
+pub some_out : (s : Running) (before : ℕ) (bytes : List ℕ) → before ≤ most_input → SomeOut s before bytes
+some_out s before bytes room =
     let p = parts bytes in
-    subst (SomeOut s before waits) (sym p.whole) (walk p.bodies s before waits p.front p.tail room p.frames p.tail_is)
+    subst (SomeOut s before) (sym p.whole) (walk p.bodies s before p.front p.tail room p.frames p.tail_is)

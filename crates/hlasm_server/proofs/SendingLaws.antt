@@ -1,5 +1,5 @@
 -- How what is sent piece by piece adds up.
-use Rattle.std.proofs.Common.{◌≡◌, ◌≢◌, ℕ, suc, ◌<◌, ◌≤◌, Bool, true, false, List, [], ◌∷◌, ◌++◌, length, take, drop, slice_get, Option, Some, None, Ok, Err, if◌then◌else◌, refl, sym, ap, ◌∙◌, subst, arith, append_assoc}
+use Rattle.std.proofs.Common.{◌≡◌, ◌≢◌, ℕ, suc, ◌<◌, ◌≤◌, Bool, true, false, List, [], ◌∷◌, ◌++◌, length, take, drop, slice_get, Option, Some, None, if◌then◌else◌, refl, sym, ap, ◌∙◌, subst, arith, append_assoc}
 use Rattle.std.proofs.lemmas.Grind.{flat_map-append}
 use Rattle.std.proofs.lemmas.List.{append-nil, take-append-drop}
 use Rattle.io_edge.specs.Told.{Gains}
@@ -8,15 +8,17 @@ use Rattle.rpc_framing.specs.Frames.{frame}
 use Rattle.hl_base.specs.declared.place.PathId.{PathId}
 use Rattle.document_store.specs.Store.{OpenDocument}
 use Rattle.session_core.specs.declared.phase.Phase.{Phase}
-use Rattle.session_core.specs.declared.phase.Phase.TheVariants.{Running, Exit}
+use Rattle.session_core.specs.declared.phase.Phase.TheVariants.{Running as StillRunning, Exit}
 use Rattle.session_core.specs.Diagnostics.{diagnostics_of}
 use Rattle.session_core.specs.State.{State, document_at, last_list}
-use Rattle.session_core.specs.Step.{Step, quiet, says, and_then, written}
-use Rattle.session_core.specs.Turn.{is_published, turn_at, without_first, turn_of, turn, turns, all_turns}
+use Rattle.session_core.specs.Step.{Step, quiet, says, written}
+use Rattle.session_core.specs.Turn.{is_published, turn_at, without_first, turn_of, turn}
 use Rattle.session_core.specs.Message.{message}
 use Rattle.session_core.specs.Held.{Held, phase_of}
-use Rattle.hlasm_server.specs.Hearing.{Heard, Goes, Ends, heard_in, hear, said, GoesTo}
-use Rattle.hlasm_server.specs.Sending.{PutsFront, PutsFirst, Sends, IsReady, Hears}
+use Rattle.hlasm_server.specs.Hearing.{Running, at_rest, Made, none_made, behind, turns, following, Heard, Ends, goes_on, heard_in, hear, said}
+use Rattle.hlasm_server.specs.Sending.{PutsFront, PutsFirst, PutsUntil, IsReady, Follows, StopsFollowing, GoesOn, Closes, StopsHearing}
+use Rattle.hlasm_server.specs.Waiting.{one_more, is_held, unasked, Asked, Asks}
+use Rattle.hlasm_server.proofs.WaitingLaws.{Asked-append}
 use Rattle.hlasm_server.specs.declared.sending.Stop.{Stop}
 use Rattle.hlasm_server.specs.declared.sending.Stop.TheVariants as stop
 
@@ -56,7 +58,7 @@ PutsFirst-behind bodies more h0 h1 h2 before (first, others, cut, gains) = (
   subst (λ z. Gains h0 z h2) (sym (flat_map-append frame bodies first)) (Gains-append h0 h1 h2 (written bodies) (written first) before gains),
 )
 
--- ---- Turns
+-- ---- one Turn
 
 -- what is published leaves the queue as it is
 choice_keeps_queue : (b : Bool) (s t : State) (body : List ℕ) → t.queue ≡ s.queue → (if b then quiet s else says t body).state.queue ≡ s.queue
@@ -76,26 +78,6 @@ turn_of_leaves s (n ∷ others) is some =
 pub turn_leaves : (s : State) → s.queue ≢ [] → suc (length (turn s).state.queue) ≡ length s.queue
 unfolding turn
 turn_leaves s some = turn_of_leaves s s.queue refl some
-
--- the first Turn, and the others
-all_turns-first : (s : State) → s.queue ≢ [] → all_turns s ≡ and_then (turn s) all_turns
-all_turns-first s some = ap (λ k. turns k s) (sym (turn_leaves s some))
-
--- no Turn is made of no program
-all_turns-none : (s : State) → s.queue ≡ [] → all_turns s ≡ quiet s
-all_turns-none s none = ap (λ (q : List PathId). turns (length q) s) none
-
--- Some Turns were made, and what they publish was sent: the others are those of the state behind them.
-pub record IsTurning (first now : Held) (held_before held_now : Option (List ℕ)) (faults_before faults_now : ℕ) : Type 0 where
-  pub ready : IsReady now
-  pub done : List (List ℕ)
-  pub cut : (all_turns first.state).bodies ≡ done ++ (all_turns now.state).bodies
-  pub state : (all_turns first.state).state ≡ (all_turns now.state).state
-  pub sent : Gains held_before (written done) held_now
-  pub later : faults_before ≤ faults_now
-
-pub turning_begins : (s : Held) (held : Option (List ℕ)) (faults : ℕ) → IsReady s → IsTurning s s held held faults faults
-turning_begins s held faults ready = record { ready = ready; done = []; cut = refl; state = refl; sent = Gains-nil held; later = omega arith }
 
 -- ---- an event
 
@@ -120,21 +102,73 @@ ready_again step s t came is = (
   ap (λ (h : Held). h.state) is ∙ came.state,
 )
 
--- ---- Turns again
+-- ---- Turns, one after another
 
-pub turning_goes_on : (s0 s1 s2 s3 : Held) (h0 h1 h2 : Option (List ℕ)) (f0 f1 f2 : ℕ) → IsTurning s0 s1 h0 h1 f0 f1 → s1.state.queue ≢ [] → Came (turn s1.state) s2
-    → s3 ≡ record s2 { output = [] } → Gains h1 s2.output h2 → f1 ≤ f2 → IsTurning s0 s3 h0 h2 f0 f2
-turning_goes_on s0 s1 s2 s3 h0 h1 h2 f0 f1 f2 turning some came taken gains later =
+-- the first Turn, if it is not held back, and the others
+following-first : (s : State) (w : List Bool) (n : ℕ) → s.queue ≢ [] → following (at_rest s w n) ≡
+    (if is_held n w then none_made (at_rest s (unasked n w) n) else behind (turn s).bodies (following (at_rest (turn s).state (unasked n w) 0)))
+following-first s w n some = ap (λ k. turns k (at_rest s w n)) (sym (turn_leaves s some))
+
+-- no Turn is made of no program
+following-none : (s : State) (w : List Bool) (n : ℕ) → s.queue ≡ [] → following (at_rest s w n) ≡ none_made (at_rest s w n)
+following-none s w n none = ap (λ (q : List PathId). turns (length q) (at_rest s w n)) none
+
+-- a Turn that is not held back
+following-turn : (s : State) (w more : List Bool) (n : ℕ) → s.queue ≢ [] → is_held n w ≡ false → unasked n w ≡ more
+    → following (at_rest s w n) ≡ behind (turn s).bodies (following (at_rest (turn s).state more 0))
+following-turn s w more n some held left =
+    following-first s w n some
+    ∙ ap (λ b. if b then none_made (at_rest s (unasked n w) n) else behind (turn s).bodies (following (at_rest (turn s).state (unasked n w) 0))) held
+    ∙ ap (λ z. behind (turn s).bodies (following (at_rest (turn s).state z 0))) left
+
+-- a Turn that is held back
+following-held : (s : State) (w more : List Bool) (n : ℕ) → s.queue ≢ [] → is_held n w ≡ true → unasked n w ≡ more → following (at_rest s w n) ≡ none_made (at_rest s more n)
+following-held s w more n some held left =
+    following-first s w n some
+    ∙ ap (λ b. if b then none_made (at_rest s (unasked n w) n) else behind (turn s).bodies (following (at_rest (turn s).state (unasked n w) 0))) held
+    ∙ ap (λ z. none_made (at_rest s z n)) left
+
+behind-behind : (first others : List (List ℕ)) (made : Made) → behind first (behind others made) ≡ behind (first ++ others) made
+behind-behind first others made = ap (λ z. record { next = made.next; bodies = z }) (sym (append_assoc first others made.bodies))
+
+behind-none : (bodies : List (List ℕ)) (r : Running) → behind bodies (none_made r) ≡ record { next = r; bodies = bodies }
+behind-none bodies r = ap (λ z. record { next = r; bodies = z }) (append-nil bodies)
+
+-- Some Turns were made, and what they publish was sent: the others are those of the state behind them.
+pub record IsTurning (first now : Held) (since_first since : ℕ) (waits_before waits_now : Option (List Bool)) (held_before held_now : Option (List ℕ)) (faults_before faults_now : ℕ) : Type 0 where
+  pub ready : IsReady now
+  pub answers : List Bool
+  pub asked : Asked waits_before answers waits_now
+  pub done : List (List ℕ)
+  pub made : (more : List Bool) → following (at_rest first.state (answers ++ more) since_first) ≡ behind done (following (at_rest now.state more since))
+  pub sent : Gains held_before (written done) held_now
+  pub later : faults_before ≤ faults_now
+
+pub turning_begins : (s : Held) (n : ℕ) (waits : Option (List Bool)) (held : Option (List ℕ)) (faults : ℕ) → IsReady s → IsTurning s s n n waits waits held held faults faults
+turning_begins s n waits held faults ready = record { ready = ready; answers = []; asked = refl; done = []; made = λ more. refl; sent = Gains-nil held; later = omega arith }
+
+-- it was asked whether the next Turn is held back
+pub asked_next : (s0 s1 : Held) (n0 n1 : ℕ) (w0 w1 w2 : Option (List Bool)) (h0 h1 : Option (List ℕ)) (f0 f1 : ℕ) (held : Bool) (turning : IsTurning s0 s1 n0 n1 w0 w1 h0 h1 f0 f1)
+    (asks : Asks n1 held w1 w2) (more : List Bool)
+    → following (at_rest s0.state ((turning.answers ++ asks.answers) ++ more) n0) ≡ behind turning.done (following (at_rest s1.state (asks.answers ++ more) n1))
+asked_next s0 s1 n0 n1 w0 w1 w2 h0 h1 f0 f1 held turning asks more =
+    ap (λ z. following (at_rest s0.state z n0)) (append_assoc turning.answers asks.answers more) ∙ turning.made (asks.answers ++ more)
+
+pub turning_goes_on : (s0 s1 s2 s3 : Held) (n0 n1 : ℕ) (w0 w1 w2 : Option (List Bool)) (h0 h1 h2 : Option (List ℕ)) (f0 f1 f2 : ℕ) → IsTurning s0 s1 n0 n1 w0 w1 h0 h1 f0 f1 → s1.state.queue ≢ []
+    → Asks n1 false w1 w2 → Came (turn s1.state) s2 → s3 ≡ record s2 { output = [] } → Gains h1 s2.output h2 → f1 ≤ f2 → IsTurning s0 s3 n0 0 w0 w2 h0 h2 f0 f2
+turning_goes_on s0 s1 s2 s3 n0 n1 w0 w1 w2 h0 h1 h2 f0 f1 f2 turning some asks came taken gains later =
     let here = turn s1.state in
     let again = ready_again here s2 s3 came taken in
-    let first = all_turns-first s1.state some in
     let sent : Gains h1 (written here.bodies) h2 = subst (λ z. Gains h1 z h2) came.output gains in
     record {
       ready = again.0;
+      answers = turning.answers ++ asks.answers;
+      asked = Asked-append w0 w1 w2 turning.answers asks.answers turning.asked asks.asked;
       done = turning.done ++ here.bodies;
-      cut = turning.cut ∙ ap (λ (z : Step). turning.done ++ z.bodies) first ∙ ap (λ (z : State). turning.done ++ (here.bodies ++ (all_turns z).bodies)) (sym again.1)
-          ∙ sym (append_assoc turning.done here.bodies (all_turns s3.state).bodies);
-      state = turning.state ∙ ap (λ (z : Step). z.state) first ∙ ap (λ (z : State). (all_turns z).state) (sym again.1);
+      made = λ more. asked_next s0 s1 n0 n1 w0 w1 w2 h0 h1 f0 f1 false turning asks more
+          ∙ ap (behind turning.done) (following-turn s1.state (asks.answers ++ more) more n1 some (asks.held_back more) (asks.left more))
+          ∙ behind-behind turning.done here.bodies (following (at_rest here.state more 0))
+          ∙ ap (λ (z : State). behind (turning.done ++ here.bodies) (following (at_rest z more 0))) (sym again.1);
       sent = subst (λ z. Gains h0 z h2) (sym (flat_map-append frame turning.done here.bodies))
           (Gains-append h0 h1 h2 (written turning.done) (written here.bodies) turning.sent sent);
       later = let earlier = turning.later in omega arith;
@@ -147,105 +181,133 @@ fewer_queued s1 s2 s3 some came taken =
     let same : length s3.state.queue ≡ length (turn s1.state).state.queue = ap (λ (z : State). length z.queue) again.1 in
     omega (arith, turn_leaves s1.state some)
 
--- where the queue is empty, all was sent
-pub turning_ends : (s0 s1 : Held) (h0 h1 : Option (List ℕ)) (f0 f1 : ℕ) → IsTurning s0 s1 h0 h1 f0 f1 → s1.state.queue ≡ []
-    → (s1.state ≡ (all_turns s0.state).state) × Gains h0 (written (all_turns s0.state).bodies) h1
-turning_ends s0 s1 h0 h1 f0 f1 turning none =
-    let last = all_turns-none s1.state none in
-    let all : (all_turns s0.state).bodies ≡ turning.done = turning.cut ∙ ap (λ (z : Step). turning.done ++ z.bodies) last ∙ append-nil turning.done in (
-      sym (turning.state ∙ ap (λ (z : Step). z.state) last),
-      subst (λ z. Gains h0 (written z) h1) (sym all) turning.sent,
-    )
+-- where the queue is empty, all were made
+pub turning_ends : (s0 s1 : Held) (n0 n1 : ℕ) (w0 w1 : Option (List Bool)) (h0 h1 : Option (List ℕ)) (f0 f1 : ℕ) → IsTurning s0 s1 n0 n1 w0 w1 h0 h1 f0 f1 → s1.state.queue ≡ []
+    → Follows s0.state n0 s1.state n1 w0 w1 h0 h1
+turning_ends s0 s1 n0 n1 w0 w1 h0 h1 f0 f1 turning none = record {
+  answers = turning.answers;
+  bodies = turning.done;
+  asked = turning.asked;
+  made = λ more. turning.made more ∙ ap (behind turning.done) (following-none s1.state more n1 none) ∙ behind-none turning.done (at_rest s1.state more n1);
+  sent = turning.sent;
+}
+
+-- where the next is held back, no other is made
+pub turning_holds : (s0 s1 : Held) (n0 n1 : ℕ) (w0 w1 w2 : Option (List Bool)) (h0 h1 : Option (List ℕ)) (f0 f1 : ℕ) → IsTurning s0 s1 n0 n1 w0 w1 h0 h1 f0 f1 → s1.state.queue ≢ []
+    → Asks n1 true w1 w2 → Follows s0.state n0 s1.state n1 w0 w2 h0 h1
+turning_holds s0 s1 n0 n1 w0 w1 w2 h0 h1 f0 f1 turning some asks = record {
+  answers = turning.answers ++ asks.answers;
+  bodies = turning.done;
+  asked = Asked-append w0 w1 w2 turning.answers asks.answers turning.asked asks.asked;
+  made = λ more. asked_next s0 s1 n0 n1 w0 w1 w2 h0 h1 f0 f1 true turning asks more
+      ∙ ap (behind turning.done) (following-held s1.state (asks.answers ++ more) more n1 some (asks.held_back more) (asks.left more)) ∙ behind-none turning.done (at_rest s1.state more n1);
+  sent = turning.sent;
+}
 
 -- where memory runs out before a Turn, what the first of them publish was sent
-pub turning_stops : (s0 s1 : Held) (h0 h1 : Option (List ℕ)) (f0 f1 : ℕ) → IsTurning s0 s1 h0 h1 f0 f1 → PutsFirst h0 (all_turns s0.state).bodies h1
-turning_stops s0 s1 h0 h1 f0 f1 turning = (turning.done, (all_turns s1.state).bodies, turning.cut, turning.sent)
+pub turning_stops : (s0 s1 : Held) (n0 n1 : ℕ) (w0 w1 w2 : Option (List Bool)) (h0 h1 : Option (List ℕ)) (f0 f1 : ℕ) → IsTurning s0 s1 n0 n1 w0 w1 h0 h1 f0 f1
+    → Asks n1 false w1 w2 → StopsFollowing stop.OutOfMemory s0.state n0 w0 w2 h0 h1
+turning_stops s0 s1 n0 n1 w0 w1 w2 h0 h1 f0 f1 turning asks = record {
+  answers = turning.answers ++ asks.answers;
+  asked = Asked-append w0 w1 w2 turning.answers asks.answers turning.asked asks.asked;
+  put = (turning.done, (following (at_rest s1.state asks.answers n1)).bodies, ap (λ (z : Made). z.bodies) (turning.made asks.answers), turning.sent);
+}
 
 -- where the sink refuses within a Turn, it has a front of all of them
-pub turning_breaks : (s0 s1 s2 : Held) (h0 h1 h2 : Option (List ℕ)) (f0 f1 : ℕ) → IsTurning s0 s1 h0 h1 f0 f1 → s1.state.queue ≢ [] → Came (turn s1.state) s2
-    → PutsFront h1 s2.output h2 → PutsFront h0 (written (all_turns s0.state).bodies) h2
-turning_breaks s0 s1 s2 h0 h1 h2 f0 f1 turning some came front =
+pub turning_breaks : (s0 s1 s2 : Held) (n0 n1 : ℕ) (w0 w1 w2 : Option (List Bool)) (h0 h1 h2 : Option (List ℕ)) (f0 f1 : ℕ) → IsTurning s0 s1 n0 n1 w0 w1 h0 h1 f0 f1 → s1.state.queue ≢ []
+    → Asks n1 false w1 w2 → Came (turn s1.state) s2 → PutsFront h1 s2.output h2 → StopsFollowing stop.WriteFault s0.state n0 w0 w2 h0 h2
+turning_breaks s0 s1 s2 n0 n1 w0 w1 w2 h0 h1 h2 f0 f1 turning some asks came front =
     let here = turn s1.state in
-    let others = (all_turns here.state).bodies in
+    let others = (following (at_rest here.state [] 0)).bodies in
     let now : PutsFront h1 (written here.bodies) h2 = subst (λ z. PutsFront h1 z h2) came.output front in
     let more : PutsFront h1 (written (here.bodies ++ others)) h2 = subst (λ z. PutsFront h1 z h2) (sym (flat_map-append frame here.bodies others))
     (PutsFront-more (written here.bodies) (written others) h1 h2 now) in
-    let all : written (all_turns s0.state).bodies ≡ written turning.done ++ written (here.bodies ++ others) =
-    ap written (turning.cut ∙ ap (λ (z : Step). turning.done ++ z.bodies) (all_turns-first s1.state some)) ∙ flat_map-append frame turning.done (here.bodies ++ others) in
-    subst (λ z. PutsFront h0 z h2) (sym all) (PutsFront-behind (written turning.done) (written (here.bodies ++ others)) h0 h1 h2 turning.sent more)
+    let is : following (at_rest s0.state ((turning.answers ++ asks.answers) ++ []) n0) ≡ behind turning.done (behind here.bodies (following (at_rest here.state [] 0))) =
+    asked_next s0 s1 n0 n1 w0 w1 w2 h0 h1 f0 f1 false turning asks [] ∙ ap (behind turning.done) (following-turn s1.state (asks.answers ++ []) [] n1 some (asks.held_back []) (asks.left [])) in
+    let all : written (following (at_rest s0.state ((turning.answers ++ asks.answers) ++ []) n0)).bodies ≡ written turning.done ++ written (here.bodies ++ others) =
+    ap (λ (z : Made). written z.bodies) is ∙ flat_map-append frame turning.done (here.bodies ++ others) in
+    record {
+      answers = (turning.answers ++ asks.answers) ++ [];
+      asked = subst (λ z. Asked w0 z w2) (sym (append-nil (turning.answers ++ asks.answers))) (Asked-append w0 w1 w2 turning.answers asks.answers turning.asked asks.asked);
+      put = subst (λ z. PutsFront h0 z h2) (sym all) (PutsFront-behind (written turning.done) (written (here.bodies ++ others)) h0 h1 h2 turning.sent more);
+    }
 
 -- ---- one message
 
 -- what a message comes to whose step goes on
-hear-Running : (s : State) (body : List ℕ) → phase_of (message s body []).state ≡ Running
-    → hear s body ≡ Goes (all_turns (message s body []).state).state ((message s body []).bodies ++ (all_turns (message s body []).state).bodies)
+hear-Running : (s : State) (w : List Bool) (n : ℕ) (body : List ℕ) → phase_of (message s body []).state ≡ StillRunning
+    → hear (at_rest s w n) body ≡ goes_on (message s body []).bodies (following (at_rest (message s body []).state w (one_more n)))
 unfolding hear
-hear-Running s body is = ap (λ (p : Phase). heard_in p (message s body [])) is
+hear-Running s w n body is = ap (λ (p : Phase). heard_in p (at_rest s w n) (message s body [])) is
 
-hear-Exit : (s : State) (body : List ℕ) (closed : Bool) → phase_of (message s body []).state ≡ Exit closed → hear s body ≡ Ends closed
+hear-Exit : (s : State) (w : List Bool) (n : ℕ) (body : List ℕ) (closed : Bool) → phase_of (message s body []).state ≡ Exit closed → hear (at_rest s w n) body ≡ Ends closed
 unfolding hear
-hear-Exit s body closed is = ap (λ (p : Phase). heard_in p (message s body [])) is
+hear-Exit s w n body closed is = ap (λ (p : Phase). heard_in p (at_rest s w n) (message s body [])) is
 
 -- the phase that is answered is that of the step
 phase_is : (step : Step) (now : Held) (phase : Phase) → Came step now → phase ≡ phase_of now.state → phase_of step.state ≡ phase
 phase_is step now phase came is = ap phase_of (sym came.state) ∙ sym is
 
 -- before anything was written
-pub stopped_before : (heard : Heard) (s : State) (h : Option (List ℕ)) → Hears (Err stop.OutOfMemory) heard s h h
-stopped_before heard s h = ([], said heard, refl, Gains-nil h)
+pub stopped_before : (s : State) (n : ℕ) (body : List ℕ) (w : Option (List Bool)) (h : Option (List ℕ)) → StopsHearing stop.OutOfMemory s n body w w h h
+stopped_before s n body w h = record { answers = []; asked = refl; put = ([], said (hear (at_rest s [] n) body), refl, Gains-nil h) }
 
 -- the session is at its end
-pub heard_end : (s : State) (body : List ℕ) (closed : Bool) (now : Held) (h : Option (List ℕ)) → Came (message s body []) now → Exit closed ≡ phase_of now.state
-    → Hears (Ok (Exit closed)) (hear s body) now.state h h
-heard_end s body closed now h came is =
-    let ends = hear-Exit s body closed (phase_is (message s body []) now (Exit closed) came is) in
-    (ends, subst (λ z. Gains h (written (said z)) h) (sym ends) (Gains-nil h))
+pub heard_end : (s : State) (n : ℕ) (body : List ℕ) (closed : Bool) (now : Held) (w : Option (List Bool)) (h : Option (List ℕ)) → Came (message s body []) now → Exit closed ≡ phase_of now.state
+    → Closes s n body closed w w h h
+heard_end s n body closed now w h came is = record {
+  heard = λ waits. hear-Exit s waits n body closed (phase_is (message s body []) now (Exit closed) came is);
+  asked = refl;
+  sent = refl;
+}
 
 -- the message itself could not all be written
-pub broken_before_turns : (s t : State) (body : List ℕ) (now : Held) (h0 h1 : Option (List ℕ)) → Came (message s body []) now → Running ≡ phase_of now.state
-    → PutsFront h0 now.output h1 → Hears (Err stop.WriteFault) (hear s body) t h0 h1
-broken_before_turns s t body now h0 h1 came is front =
+pub broken_before_turns : (s : State) (n : ℕ) (body : List ℕ) (now : Held) (w : Option (List Bool)) (h0 h1 : Option (List ℕ)) → Came (message s body []) now → StillRunning ≡ phase_of now.state
+    → PutsFront h0 now.output h1 → StopsHearing stop.WriteFault s n body w w h0 h1
+broken_before_turns s n body now w h0 h1 came is front =
     let step = message s body [] in
-    let others = (all_turns step.state).bodies in
-    let goes = hear-Running s body (phase_is step now Running came is) in
+    let others = (following (at_rest step.state [] (one_more n))).bodies in
+    let goes = hear-Running s [] n body (phase_is step now StillRunning came is) in
     let here : PutsFront h0 (written step.bodies) h1 = subst (λ z. PutsFront h0 z h1) came.output front in
     let more : PutsFront h0 (written (step.bodies ++ others)) h1 = subst (λ z. PutsFront h0 z h1) (sym (flat_map-append frame step.bodies others))
     (PutsFront-more (written step.bodies) (written others) h0 h1 here) in
-    subst (λ z. PutsFront h0 (written (said z)) h1) (sym goes) more
+    record { answers = []; asked = refl; put = subst (λ (z : Heard). PutsFront h0 (written (said z)) h1) (sym goes) more }
 
 -- a Turn could not be made, or what it publishes not all be written
-pub broken_in_turns : (e : Stop) (s t : State) (body : List ℕ) (now after : Held) (h0 h1 h2 : Option (List ℕ)) → Came (message s body []) now → Running ≡ phase_of now.state
-    → after ≡ record now { output = [] } → Gains h0 now.output h1 → Sends {T = Unit {0}} (Err e) (all_turns after.state).bodies h1 h2 → Hears (Err e) (hear s body) t h0 h2
-broken_in_turns stop.OutOfMemory s t body now after h0 h1 h2 came is taken gains first =
+pub broken_in_turns : (e : Stop) (s : State) (n : ℕ) (body : List ℕ) (now after : Held) (w0 w1 : Option (List Bool)) (h0 h1 h2 : Option (List ℕ)) → Came (message s body []) now
+    → StillRunning ≡ phase_of now.state → after ≡ record now { output = [] } → Gains h0 now.output h1 → StopsFollowing e after.state (one_more n) w0 w1 h1 h2 → StopsHearing e s n body w0 w1 h0 h2
+broken_in_turns e s n body now after w0 w1 h0 h1 h2 came is taken gains stops =
     let step = message s body [] in
-    let goes = hear-Running s body (phase_is step now Running came is) in
+    let goes = hear-Running s stops.answers n body (phase_is step now StillRunning came is) in
     let again = ready_again step now after came taken in
-    let here : PutsFirst h1 (all_turns step.state).bodies h2 = subst (λ (z : State). PutsFirst h1 (all_turns z).bodies h2) again.1 first in
     let sent : Gains h0 (written step.bodies) h1 = subst (λ z. Gains h0 z h1) came.output gains in
-    subst (λ z. PutsFirst h0 (said z) h2) (sym goes) (PutsFirst-behind step.bodies (all_turns step.state).bodies h0 h1 h2 sent here)
-broken_in_turns stop.WriteFault s t body now after h0 h1 h2 came is taken gains front =
-    let step = message s body [] in
-    let others = (all_turns step.state).bodies in
-    let goes = hear-Running s body (phase_is step now Running came is) in
-    let again = ready_again step now after came taken in
-    let here : PutsFront h1 (written others) h2 = subst (λ (z : State). PutsFront h1 (written (all_turns z).bodies) h2) again.1 front in
-    let sent : Gains h0 (written step.bodies) h1 = subst (λ z. Gains h0 z h1) came.output gains in
-    let all : PutsFront h0 (written (step.bodies ++ others)) h2 = subst (λ z. PutsFront h0 z h2) (sym (flat_map-append frame step.bodies others))
-    (PutsFront-behind (written step.bodies) (written others) h0 h1 h2 sent here) in
-    subst (λ z. PutsFront h0 (written (said z)) h2) (sym goes) all
+    let here : PutsUntil e h1 (following (at_rest step.state stops.answers (one_more n))).bodies h2 =
+    subst (λ (z : State). PutsUntil e h1 (following (at_rest z stops.answers (one_more n))).bodies h2) again.1 stops.put in
+    record {
+      answers = stops.answers;
+      asked = stops.asked;
+      put = subst (λ (z : Heard). PutsUntil e h0 (said z) h2) (sym goes) (until_behind e step.bodies (following (at_rest step.state stops.answers (one_more n))).bodies sent here);
+    }
+  where
+    until_behind : (e : Stop) (bodies more : List (List ℕ)) → Gains h0 (written bodies) h1 → PutsUntil e h1 more h2 → PutsUntil e h0 (bodies ++ more) h2
+    until_behind stop.OutOfMemory bodies more sent put = PutsFirst-behind bodies more h0 h1 h2 sent put
+    until_behind stop.WriteFault bodies more sent put =
+        subst (λ z. PutsFront h0 z h2) (sym (flat_map-append frame bodies more)) (PutsFront-behind (written bodies) (written more) h0 h1 h2 sent put)
 
--- a message and all its Turns were written
-pub heard_whole : (s t : State) (body : List ℕ) (now after : Held) (h0 h1 h2 : Option (List ℕ)) → Came (message s body []) now → Running ≡ phase_of now.state
-    → after ≡ record now { output = [] } → Gains h0 now.output h1 → t ≡ (all_turns after.state).state → Gains h1 (written (all_turns after.state).bodies) h2
-    → Hears (Ok Running) (hear s body) t h0 h2
-heard_whole s t body now after h0 h1 h2 came is taken gains ends more =
+-- a message and the Turns that follow were written
+pub heard_whole : (s t : State) (n m : ℕ) (body : List ℕ) (now after : Held) (w0 w1 : Option (List Bool)) (h0 h1 h2 : Option (List ℕ)) → Came (message s body []) now
+    → StillRunning ≡ phase_of now.state → after ≡ record now { output = [] } → Gains h0 now.output h1 → Follows after.state (one_more n) t m w0 w1 h1 h2 → GoesOn s n body t m w0 w1 h0 h2
+heard_whole s t n m body now after w0 w1 h0 h1 h2 came is taken gains follows =
     let step = message s body [] in
-    let others = (all_turns step.state).bodies in
-    let goes = hear-Running s body (phase_is step now Running came is) in
     let again = ready_again step now after came taken in
-    let end : (all_turns step.state).state ≡ t = ap (λ (z : State). (all_turns z).state) (sym again.1) ∙ sym ends in
-    let here : Gains h1 (written others) h2 = subst (λ (z : State). Gains h1 (written (all_turns z).bodies) h2) again.1 more in
     let sent : Gains h0 (written step.bodies) h1 = subst (λ z. Gains h0 z h1) came.output gains in
-    let all : Gains h0 (written (step.bodies ++ others)) h2 = subst (λ z. Gains h0 z h2) (sym (flat_map-append frame step.bodies others))
-    (Gains-append h0 h1 h2 (written step.bodies) (written others) sent here) in
-    (subst (λ z. GoesTo z t) (sym goes) end, subst (λ z. Gains h0 (written (said z)) h2) (sym goes) all)
+    record {
+      answers = follows.answers;
+      bodies = step.bodies ++ follows.bodies;
+      asked = follows.asked;
+      heard = λ more. hear-Running s (follows.answers ++ more) n body (phase_is step now StillRunning came is)
+          ∙ ap (λ (z : State). goes_on step.bodies (following (at_rest z (follows.answers ++ more) (one_more n)))) (sym again.1)
+          ∙ ap (goes_on step.bodies) (follows.made more);
+      sent = subst (λ z. Gains h0 z h2) (sym (flat_map-append frame step.bodies follows.bodies))
+          (Gains-append h0 h1 h2 (written step.bodies) (written follows.bodies) sent follows.sent);
+    }

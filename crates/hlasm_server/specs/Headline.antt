@@ -5,14 +5,15 @@ use Rattle.io_edge.specs.Told.{Gives, Gains, HasRisen}
 use Rattle.io_edge.specs.LibraryCall.{LibraryCall}
 use Rattle.hlasm_server.specs.declared.status.Status.{Status}
 use Rattle.hlasm_server.specs.declared.status.Status.TheVariants.{Done, NoShutdown, InputEnded, OutOfMemory, ReadFault, WriteFault, BadFrame, BadWords, InputTooLong}
-use Rattle.session_core.specs.State.{start}
 use Rattle.session_core.specs.Step.{written}
+use Rattle.hlasm_server.specs.Hearing.{beginning_with}
 use Rattle.hlasm_server.specs.Output.{Out}
+use Rattle.hlasm_server.specs.Waiting.{Asked}
 
 -- the whole output of the input, with this status
 pub record Whole (waits : List Bool) (calls : List LibraryCall) (bytes : List ℕ) (status : Status) (taken : ℕ) (output : List ℕ) : Type 0 where
   pub replies : List (List ℕ)
-  pub out : Out start 0 waits calls bytes replies status taken
+  pub out : Out (beginning_with waits) 0 calls bytes replies status taken
   pub all : output ≡ written replies
 
 -- the first bodies of the output, each a whole frame
@@ -21,7 +22,7 @@ pub record FirstFrames (waits : List Bool) (calls : List LibraryCall) (bytes out
   pub others : List (List ℕ)
   pub status : Status
   pub taken : ℕ
-  pub out : Out start 0 waits calls bytes (first ++ others) status taken
+  pub out : Out (beginning_with waits) 0 calls bytes (first ++ others) status taken
   pub all : output ≡ written first
 
 -- the first bytes of the output
@@ -30,7 +31,7 @@ pub record FirstBytes (waits : List Bool) (calls : List LibraryCall) (bytes outp
   pub status : Status
   pub taken : ℕ
   pub rest : List ℕ
-  pub out : Out start 0 waits calls bytes replies status taken
+  pub out : Out (beginning_with waits) 0 calls bytes replies status taken
   pub all : written replies ≡ output ++ rest
 
 -- What a run with this status has written, `bytes` being the input that was there and `taken` what it took of it.
@@ -49,10 +50,13 @@ IsAnswer InputEnded waits calls bytes taken output = Whole waits calls bytes Inp
 IsAnswer (BadFrame at) waits calls bytes taken output = Whole waits calls bytes (BadFrame at) (length taken) output
 IsAnswer InputTooLong waits calls bytes taken output = Whole waits calls bytes InputTooLong (length taken) output
 
--- What a run took of the source and put into the sink, as they tell it, is the plain session's.
-pub record IsPlainRun (waits : List Bool) (calls : List LibraryCall) (left_before left_now held_before held_now : Option (List ℕ)) (status : Status) : Type 0 where
+-- What a run took of the source and put into the sink, as they tell it, is the plain session's for the answers of
+-- `waiting` that the source gave.
+pub record IsPlainRun (calls : List LibraryCall) (waits_before waits_now : Option (List Bool)) (left_before left_now held_before held_now : Option (List ℕ)) (status : Status) : Type 0 where
   pub taken : List ℕ
   pub output : List ℕ
+  pub waits : List Bool
+  pub asked : Asked waits_before waits waits_now
   pub read : Gives left_before taken left_now
   pub wrote : Gains held_before output held_now
   pub answer : (bytes : List ℕ) → left_before ≡ Some bytes → IsAnswer status waits calls bytes taken output
@@ -69,9 +73,10 @@ HasStatusCause BadWords a b c d = Unit {0}
 HasStatusCause (BadFrame at) a b c d = Unit {0}
 HasStatusCause InputTooLong a b c d = Unit {0}
 
--- Completeness: where no fault was counted, the run ends as the plain session does for the input that was there, has
--- written all of its output, and has taken what it takes, unless memory ran out.
-abbrev pub Completes : List Bool → List LibraryCall → (left_before left_now held_before held_now : Option (List ℕ)) → Status → Type 0
-Completes waits calls left_before left_now held_before held_now status =
-    (bytes : List ℕ) (replies : List (List ℕ)) (wanted : Status) (taken : ℕ) → left_before ≡ Some bytes → Out start 0 waits calls bytes replies wanted taken
-    → (status ≡ OutOfMemory) ⊎ ((status ≡ wanted) × (left_now ≡ Some (drop taken bytes)) × Gains held_before (written replies) held_now)
+-- Completeness: where no fault was counted, the run ends as the plain session does for the input that was there and the
+-- answers of `waiting` that were given, has written all of its output, and has taken what it takes, unless memory ran out.
+abbrev pub Completes : List LibraryCall → (waits_before waits_now : Option (List Bool)) → (left_before left_now held_before held_now : Option (List ℕ)) → Status → Type 0
+Completes calls waits_before waits_now left_before left_now held_before held_now status =
+    (waits : List Bool) × Asked waits_before waits waits_now
+    × ((bytes : List ℕ) (replies : List (List ℕ)) (wanted : Status) (taken : ℕ) → left_before ≡ Some bytes → Out (beginning_with waits) 0 calls bytes replies wanted taken
+    → (status ≡ OutOfMemory) ⊎ ((status ≡ wanted) × (left_now ≡ Some (drop taken bytes)) × Gains held_before (written replies) held_now))

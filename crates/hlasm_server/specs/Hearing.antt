@@ -1,41 +1,80 @@
--- What one message of the input comes to (this project): its event, and then Turns until no program is queued.
-use Rattle.std.specs.Prelude.{◌≡◌, ℕ, Bool, List, []}
+-- What one message of the input comes to (this project): its event, and then Turns until no program is queued or the next
+-- one is held back.
+use Rattle.std.specs.Prelude.{ℕ, zero, suc, Bool, List, [], ◌++◌, length, if◌then◌else◌}
 use Rattle.session_core.specs.declared.phase.Phase.{Phase}
-use Rattle.session_core.specs.declared.phase.Phase.TheVariants.{Running, Exit}
-use Rattle.session_core.specs.State.{State}
-use Rattle.session_core.specs.Step.{Step, and_then}
-use Rattle.session_core.specs.Turn.{all_turns}
+use Rattle.session_core.specs.declared.phase.Phase.TheVariants as phase
+use Rattle.session_core.specs.State.{State, start}
+use Rattle.session_core.specs.Step.{Step}
+use Rattle.session_core.specs.Turn.{turn}
 use Rattle.session_core.specs.Message.{message}
 use Rattle.session_core.specs.Held.{phase_of}
+use Rattle.hlasm_server.specs.Waiting.{one_more, is_held, unasked}
 
--- the session goes on in a state, and these bodies are written; or `exit` came, after `shutdown` was answered or before
+-- a session between two events: its state, the answers of `waiting` to come, and how many messages came since the last
+-- Turn
+pub record Running : Type 0 where
+  pub state : State
+  pub waits : List Bool
+  pub since : ℕ
+
+abbrev pub at_rest : State → (waits : List Bool) → (since : ℕ) → Running
+at_rest s waits since = record { state = s; waits = waits; since = since }
+
+-- before the first message
+abbrev pub beginning_with : (waits : List Bool) → Running
+beginning_with waits = at_rest start waits 0
+
+-- ---- Turns
+
+-- the session behind some Turns, and the bodies that they publish
+pub record Made : Type 0 where
+  pub next : Running
+  pub bodies : List (List ℕ)
+
+-- no Turn is made
+abbrev pub none_made : Running → Made
+none_made r = record { next = r; bodies = [] }
+
+-- these bodies come before
+abbrev pub behind : List (List ℕ) → Made → Made
+behind bodies made = record { next = made.next; bodies = bodies ++ made.bodies }
+
+-- at most so many Turns: each behind the other, until one is held back
+abbrev pub turns : ℕ → Running → Made
+turns zero r = none_made r
+turns (suc n) r =
+    if is_held r.since r.waits then none_made (at_rest r.state (unasked r.since r.waits) r.since)
+    else behind (turn r.state).bodies (turns n (at_rest (turn r.state).state (unasked r.since r.waits) 0))
+
+-- Turns until no program is queued, or until one is held back
+abbrev pub following : Running → Made
+following r = turns (length r.state.queue) r
+
+-- ---- messages
+
+-- the session goes on, and these bodies are written; or `exit` came, after `shutdown` was answered or before
 pub data Heard : Type 0 where
-  Goes : (next : State) (bodies : List (List ℕ)) → Heard
+  Goes : (next : Running) (bodies : List (List ℕ)) → Heard
   Ends : (closed : Bool) → Heard
 
--- this was done, and the session goes on
-abbrev pub goes_on : Step → Heard
-goes_on step = Goes step.state step.bodies
+-- these bodies were written, then those of some Turns, and the session goes on
+abbrev pub goes_on : List (List ℕ) → Made → Heard
+goes_on bodies made = Goes made.next (bodies ++ made.bodies)
 
 -- Where the session goes on, the Turns follow. At its end nothing is written, and no Turn is made.
-abbrev pub heard_in : Phase → Step → Heard
-heard_in Running step = goes_on (and_then step all_turns)
-heard_in (Exit closed) step = Ends closed
+abbrev pub heard_in : Phase → Running → Step → Heard
+heard_in phase.Running r step = goes_on step.bodies (following (at_rest step.state r.waits (one_more r.since)))
+heard_in (phase.Exit closed) r step = Ends closed
 
 -- an event, with what follows it
-abbrev pub heard_of : Step → Heard
-heard_of step = heard_in (phase_of step.state) step
+abbrev pub heard_of : Running → Step → Heard
+heard_of r step = heard_in (phase_of step.state) r step
 
--- one message, and then Turns until no program is queued
-unfoldable pub hear : State → List ℕ → Heard
-hear s body = heard_of (message s body [])
+-- one message, and then Turns until no program is queued, or until one is held back
+unfoldable pub hear : Running → List ℕ → Heard
+hear r body = heard_of r (message r.state body [])
 
 -- what is written for it
 abbrev pub said : Heard → List (List ℕ)
 said (Goes next bodies) = bodies
 said (Ends closed) = []
-
--- the session goes on in this state
-abbrev pub GoesTo : Heard → State → Type 0
-GoesTo (Goes next bodies) state = next ≡ state
-GoesTo (Ends closed) state = ⊥

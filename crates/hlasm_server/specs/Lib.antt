@@ -4,4 +4,5 @@ pub mod Hearing
 pub mod Output
 pub mod Sending
 pub mod Status
+pub mod Waiting
 pub mod Words

@@ -1,37 +1,36 @@
 -- What a whole run writes and answers (this project): a relation between the bytes of the input and the bodies that are
 -- written, the status and the number of bytes taken. It knows nothing of pieces.
-use Rattle.std.specs.Prelude.{◌≡◌, ℕ, ◌+◌, ◌^◌, ◌<◌, ◌≤◌, Bool, true, false, List, [], ◌∷◌, ◌++◌, length, take}
+use Rattle.std.specs.Prelude.{◌≡◌, ℕ, ◌+◌, ◌^◌, ◌<◌, ◌≤◌, true, false, List, [], ◌∷◌, ◌++◌, length, take}
 use Rattle.io_edge.specs.LibraryCall.{LibraryCall}
-use Rattle.session_core.specs.State.{State}
 use Rattle.rpc_framing.specs.Frames.{IsFrame, IsFrames, IsPartial, IsBadStart}
 use Rattle.hlasm_server.specs.declared.status.Status.{Status}
 use Rattle.hlasm_server.specs.declared.status.Status.TheVariants.{Done, NoShutdown, InputEnded, OutOfMemory, ReadFault, WriteFault, BadFrame, BadWords, InputTooLong}
-use Rattle.hlasm_server.specs.Hearing.{Heard, Goes, Ends, hear}
+use Rattle.hlasm_server.specs.Hearing.{Running, Heard, Goes, Ends, hear}
 
--- these bodies lead from a state to another, the session goes on after each of them, and this is written for them
-abbrev pub Leads : State → List (List ℕ) → State → List (List ℕ) → Type 0
+-- these bodies lead from one session to another, it goes on after each of them, and this is written for them
+abbrev pub Leads : Running → List (List ℕ) → Running → List (List ℕ) → Type 0
 Leads from [] to replies = (to ≡ from) × (replies ≡ [])
 Leads from (body ∷ bodies) to replies =
-    (next : State) × (first : List (List ℕ)) × (others : List (List ℕ))
+    (next : Running) × (first : List (List ℕ)) × (others : List (List ℕ))
     × (hear from body ≡ Goes next first) × Leads next bodies to others × (replies ≡ first ++ others)
 
 -- the input goes on with a whole frame of so many bytes, whose body has this effect
-pub record Meets (state : State) (tail : List ℕ) (heard : Heard) (taken : ℕ) : Type 0 where
+pub record Meets (session : Running) (tail : List ℕ) (heard : Heard) (taken : ℕ) : Type 0 where
   pub bytes : List ℕ
   pub body : List ℕ
   pub rest : List ℕ
   pub whole : tail ≡ bytes ++ rest
   pub is_frame : IsFrame bytes body
-  pub effect : hear state body ≡ heard
+  pub effect : hear session body ≡ heard
   pub place : taken ≡ length bytes
 
 -- the most bytes that are taken of an input
 abbrev pub most_input : ℕ
 most_input = 2 ^ 40
 
--- How a session that stands open in a state, with this input left, comes to a status, and how many bytes it takes for
+-- How a session that stands open, with this input left, comes to a status, and how many bytes it takes for
 -- that. So many bytes came before.
-abbrev pub EndsAt : State → (before : ℕ) → (tail : List ℕ) → Status → (taken : ℕ) → Type 0
+abbrev pub EndsAt : Running → (before : ℕ) → (tail : List ℕ) → Status → (taken : ℕ) → Type 0
 -- the next message is the exit, after shutdown was answered, or before
 EndsAt s before tail Done taken = Meets s tail (Ends true) taken
 EndsAt s before tail NoShutdown taken = Meets s tail (Ends false) taken
@@ -47,18 +46,18 @@ EndsAt s before tail ReadFault taken = ⊥
 EndsAt s before tail WriteFault taken = ⊥
 EndsAt s before tail BadWords taken = ⊥
 
--- Where `before` bytes were taken and the session stands open in a state: for these bytes it writes these bodies, ends
--- with this status, and takes this many bytes.
-pub record Out (from : State) (before : ℕ) (waits : List Bool) (calls : List LibraryCall) (bytes : List ℕ) (replies : List (List ℕ)) (status : Status) (taken : ℕ) : Type 0 where
+-- Where `before` bytes were taken and the session stands open: for these bytes it writes these bodies, ends with this
+-- status, and takes this many bytes.
+pub record Out (from : Running) (before : ℕ) (calls : List LibraryCall) (bytes : List ℕ) (replies : List (List ℕ)) (status : Status) (taken : ℕ) : Type 0 where
   pub front : List ℕ
   pub bodies : List (List ℕ)
   pub tail : List ℕ
-  pub state : State
+  pub session : Running
   pub place : ℕ
   pub whole : bytes ≡ front ++ tail
   pub frames : IsFrames front bodies
-  pub heard : Leads from bodies state replies
-  pub ends : EndsAt state (before + length front) tail status place
+  pub heard : Leads from bodies session replies
+  pub ends : EndsAt session (before + length front) tail status place
   pub count : taken ≡ length front + place
   pub within : before + taken ≤ most_input
   -- no library call is made, so none is left over

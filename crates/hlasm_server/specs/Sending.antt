@@ -1,14 +1,15 @@
 -- What the sink has gained when bodies were written, or when writing stopped (this project).
-use Rattle.std.specs.Prelude.{◌≡◌, ℕ, false, List, [], ◌++◌, Option, Result, Ok, Err}
+use Rattle.std.specs.Prelude.{◌≡◌, ℕ, false, Bool, List, [], ◌++◌, Option, Result, Ok, Err}
 use Rattle.io_edge.specs.Told.{Gains, HasRisen}
 use Rattle.session_core.specs.declared.phase.Phase.{Phase}
-use Rattle.session_core.specs.declared.phase.Phase.TheVariants.{Running, Exit}
+use Rattle.session_core.specs.declared.phase.Phase.TheVariants as phase
 use Rattle.session_core.specs.State.{State}
 use Rattle.session_core.specs.Step.{written}
 use Rattle.session_core.specs.Held.{Held}
 use Rattle.hlasm_server.specs.declared.sending.Stop.{Stop}
 use Rattle.hlasm_server.specs.declared.sending.Stop.TheVariants.{OutOfMemory, WriteFault}
-use Rattle.hlasm_server.specs.Hearing.{Heard, Ends, said, GoesTo}
+use Rattle.hlasm_server.specs.Hearing.{Goes, Ends, at_rest, hear, said, following}
+use Rattle.hlasm_server.specs.Waiting.{Asked}
 
 -- the sink has gained a front of these bytes
 abbrev pub PutsFront : Option (List ℕ) → List ℕ → Option (List ℕ) → Type 0
@@ -18,28 +19,67 @@ PutsFront before bytes now = (front : List ℕ) × (rest : List ℕ) × (bytes �
 abbrev pub PutsFirst : Option (List ℕ) → List (List ℕ) → Option (List ℕ) → Type 0
 PutsFirst before bodies now = (first : List (List ℕ)) × (others : List (List ℕ)) × (bodies ≡ first ++ others) × Gains before (written first) now
 
--- These bodies were written, all of them, or the first of them where memory ran out, or a front of their bytes where the
--- sink refused.
-abbrev pub Sends : {T : Type 0} → Result T Stop → List (List ℕ) → (held_before held_now : Option (List ℕ)) → Type 0
-Sends (Ok x) bodies before now = Gains before (written bodies) now
-Sends (Err OutOfMemory) bodies before now = PutsFirst before bodies now
-Sends (Err WriteFault) bodies before now = PutsFront before (written bodies) now
+-- Writing these bodies stopped: the first of them were written where memory ran out, a front of their bytes where the sink
+-- refused.
+abbrev pub PutsUntil : Stop → (before : Option (List ℕ)) → List (List ℕ) → (now : Option (List ℕ)) → Type 0
+PutsUntil OutOfMemory before bodies now = PutsFirst before bodies now
+PutsUntil WriteFault before bodies now = PutsFront before (written bodies) now
 
 -- the session has memory, and all of its output was taken
 pub record IsReady (session : Held) : Type 0 where
   pub sound : session.spent ≡ false
   pub empty : session.output ≡ []
 
--- what was heard is as a phase says
-abbrev pub Matches : Phase → Heard → State → Type 0
-Matches Running heard state = GoesTo heard state
-Matches (Exit closed) heard state = heard ≡ Ends closed
+-- ---- Turns
 
--- A message was heard: it is as the phase says, and what is written for it was sent.
-abbrev pub Hears : Result Phase Stop → Heard → State → (held_before held_now : Option (List ℕ)) → Type 0
-Hears (Ok phase) heard state before now = Matches phase heard state × Gains before (written (said heard)) now
-Hears (Err OutOfMemory) heard state before now = PutsFirst before (said heard) now
-Hears (Err WriteFault) heard state before now = PutsFront before (written (said heard)) now
+-- The Turns that follow in a state were made, and what they publish was written. Of the answers of `waiting` these were
+-- given; so whatever more were to come, the Turns would be the same.
+pub record Follows (s : State) (since : ℕ) (t : State) (since_now : ℕ) (waits_before waits_now : Option (List Bool)) (held_before held_now : Option (List ℕ)) : Type 0 where
+  pub answers : List Bool
+  pub bodies : List (List ℕ)
+  pub asked : Asked waits_before answers waits_now
+  pub made : (more : List Bool) → following (at_rest s (answers ++ more) since) ≡ record { next = at_rest t more since_now; bodies = bodies }
+  pub sent : Gains held_before (written bodies) held_now
+
+-- they were not all made, or not all written
+pub record StopsFollowing (stop : Stop) (s : State) (since : ℕ) (waits_before waits_now : Option (List Bool)) (held_before held_now : Option (List ℕ)) : Type 0 where
+  pub answers : List Bool
+  pub asked : Asked waits_before answers waits_now
+  pub put : PutsUntil stop held_before (following (at_rest s answers since)).bodies held_now
+
+-- the Turns that follow were made and written, or it is as the stop says
+abbrev pub MakesTurns : {T : Type 0} → Result T Stop → (s : State) (since : ℕ) (t : State) (since_now : ℕ) (waits_before waits_now : Option (List Bool)) (held_before held_now : Option (List ℕ)) → Type 0
+MakesTurns (Ok x) s since t since_now w v before now = Follows s since t since_now w v before now
+MakesTurns (Err stop) s since t since_now w v before now = StopsFollowing stop s since w v before now
+
+-- ---- messages
+
+-- A message was heard, the session goes on, and what is written for it was sent, whatever more answers of `waiting` were to
+-- come.
+pub record GoesOn (s : State) (since : ℕ) (body : List ℕ) (t : State) (since_now : ℕ) (waits_before waits_now : Option (List Bool)) (held_before held_now : Option (List ℕ)) : Type 0 where
+  pub answers : List Bool
+  pub bodies : List (List ℕ)
+  pub asked : Asked waits_before answers waits_now
+  pub heard : (more : List Bool) → hear (at_rest s (answers ++ more) since) body ≡ Goes (at_rest t more since_now) bodies
+  pub sent : Gains held_before (written bodies) held_now
+
+-- the end was heard, and nothing was asked or written
+pub record Closes (s : State) (since : ℕ) (body : List ℕ) (closed : Bool) (waits_before waits_now : Option (List Bool)) (held_before held_now : Option (List ℕ)) : Type 0 where
+  pub heard : (waits : List Bool) → hear (at_rest s waits since) body ≡ Ends closed
+  pub asked : waits_now ≡ waits_before
+  pub sent : held_now ≡ held_before
+
+-- what is written for a message was not all made, or not all written
+pub record StopsHearing (stop : Stop) (s : State) (since : ℕ) (body : List ℕ) (waits_before waits_now : Option (List Bool)) (held_before held_now : Option (List ℕ)) : Type 0 where
+  pub answers : List Bool
+  pub asked : Asked waits_before answers waits_now
+  pub put : PutsUntil stop held_before (said (hear (at_rest s answers since) body)) held_now
+
+-- A message was heard: it is as the phase or the stop says.
+abbrev pub Hears : Result Phase Stop → (s : State) (since : ℕ) (body : List ℕ) (t : State) (since_now : ℕ) (waits_before waits_now : Option (List Bool)) (held_before held_now : Option (List ℕ)) → Type 0
+Hears (Ok phase.Running) s since body t since_now w v before now = GoesOn s since body t since_now w v before now
+Hears (Ok (phase.Exit closed)) s since body t since_now w v before now = Closes s since body closed w v before now
+Hears (Err stop) s since body t since_now w v before now = StopsHearing stop s since body w v before now
 
 -- a sink that refused has counted a fault
 abbrev pub HasStopCause : {T : Type 0} → Result T Stop → (before now : ℕ) → Type 0

@@ -1,14 +1,16 @@
 //! What is written for a message, and where it goes.
 ghost use Rattle.std.specs.Prelude.{◌≡◌, ◌≤◌, [], IfOk, OnOk, OnErr, IsErr};
 ghost use Rattle.io_edge.specs.Told.{Gains, HasRisen};
-ghost use Rattle.session_core.specs.Turn.{all_turns};
-ghost use Rattle.hlasm_server.specs.Hearing.{hear};
-ghost use Rattle.hlasm_server.specs.Sending.{Hears, Sends, PutsFront, HasStopCause, IsReady};
+ghost use Rattle.hlasm_server.specs.Sending.{Hears, MakesTurns, PutsFront, HasStopCause, IsReady};
+ghost use Rattle.hlasm_server.specs.Waiting.{Asks, one_more};
 
 use hl_base::{Ledger, Steps};
-use io_edge::{Failed, Library, Sink};
+use io_edge::{Failed, Library, Sink, Source};
 use session_core::{Phase, Session, SessionFault};
 use std::alloc::Global;
+
+/// After so many messages a Turn is made without asking whether more input waits.
+const MOST_HELD: u32 = 32;
 
 /// Why output stops.
 #[derive(Clone, Copy, Debug, PartialEq, Eq)]
@@ -66,40 +68,74 @@ fn put_output<K: Sink>(session: &mut Session, sink: &mut K) -> Result<(), Failed
     put_all(sink, &output)
 }
 
-/// Makes Turns until no program is queued, and puts what each publishes into the sink.
-fn make_turns<K: Sink, L: Ledger>(
+/// One message more since the last Turn.
+fn one_more(since: u32) -> u32
+    ensures { result ≡ one_more since }
+{
+    since.saturating_add(1).min(MOST_HELD)
+}
+
+/// Whether the next Turn is held back: few messages came since the last one, and more input waits.
+fn is_held<S: Source>(source: &mut S, since: u32) -> bool
+    ensures asks { Asks since result (S.waits source.old) (S.waits source.new) }
+    ensures left { S.left source.new ≡ S.left source.old }
+    ensures faults { S.faults source.new ≡ S.faults source.old }
+{
+    if since < MOST_HELD {
+        source.waiting()
+    } else {
+        false
+    }
+}
+
+/// Makes Turns until no program is queued or the next is held back, and puts what each publishes into the sink. The count
+/// is that of the messages since the last Turn.
+fn make_turns<S: Source, K: Sink, L: Ledger>(
     alloc: Global,
     session: &mut Session,
+    since: &mut u32,
+    source: &mut S,
     sink: &mut K,
     steps: &mut Steps<L>,
 ) -> Result<(), Stop>
     requires ready { IsReady session.old }
     ensures ready { OnOk result (IsReady session.new) }
-    ensures state { OnOk result (session.new.state ≡ (all_turns session.old.state).state) }
-    ensures sends { Sends result (all_turns session.old.state).bodies (K.held sink.old) (K.held sink.new) }
+    ensures makes { MakesTurns result session.old.state since.old session.new.state since.new
+        (S.waits source.old) (S.waits source.new) (K.held sink.old) (K.held sink.new) }
+    ensures left { S.left source.new ≡ S.left source.old }
+    ensures faults { S.faults source.new ≡ S.faults source.old }
     ensures later { K.faults sink.old ≤ K.faults sink.new }
     ensures cause { HasStopCause result (K.faults sink.old) (K.faults sink.new) }
     ensures steps { steps.new ≡ steps.old }
 {
     'queue: while session.has_work() {
+        if is_held(source, *since) {
+            return Ok(());
+        }
         session.turn(alloc, steps)?;
         put_output(session, sink)?;
+        *since = 0;
     }
     Ok(())
 }
 
 /// Takes one message and makes the Turns that follow it, and puts what is written into the sink as it comes.
-pub fn hear<K: Sink, B: Library, L: Ledger>(
+pub fn hear<S: Source, K: Sink, B: Library, L: Ledger>(
     alloc: Global,
     session: &mut Session,
+    since: &mut u32,
     body: &[u8],
+    source: &mut S,
     sink: &mut K,
     library: &mut B,
     steps: &mut Steps<L>,
 ) -> Result<Phase, Stop>
     requires ready { IsReady session.old }
     ensures ready { IfOk result (λ phase. phase ≡ Phase.Running → IsReady session.new) }
-    ensures hears { Hears result (hear session.old.state body.now) session.new.state (K.held sink.old) (K.held sink.new) }
+    ensures hears { Hears result session.old.state since.old body.now session.new.state since.new
+        (S.waits source.old) (S.waits source.new) (K.held sink.old) (K.held sink.new) }
+    ensures left { S.left source.new ≡ S.left source.old }
+    ensures faults { S.faults source.new ≡ S.faults source.old }
     ensures later { K.faults sink.old ≤ K.faults sink.new }
     ensures cause { HasStopCause result (K.faults sink.old) (K.faults sink.new) }
     ensures library { (B.calls library.new ≡ B.calls library.old) × (B.faults library.new ≡ B.faults library.old) }
@@ -108,7 +144,8 @@ pub fn hear<K: Sink, B: Library, L: Ledger>(
     match session.message(alloc, body, library, steps)? {
         Phase::Running => {
             put_output(session, sink)?;
-            make_turns(alloc, session, sink, steps)?;
+            *since = one_more(*since);
+            make_turns(alloc, session, since, source, sink, steps)?;
             Ok(Phase::Running)
         }
         Phase::Exit(closed) => Ok(Phase::Exit(closed)),

@@ -40,11 +40,11 @@ fn serve<S: Source, K: Sink, B: Library, L: Ledger>(
     library: &mut B,
     steps: &mut Steps<L>,
 ) -> Status
-    ensures plain { IsPlainRun [] [] (S.left source.old) (S.left source.new) (K.held sink.old) (K.held sink.new) result }
+    ensures plain { IsPlainRun [] (S.waits source.old) (S.waits source.new)
+        (S.left source.old) (S.left source.new) (K.held sink.old) (K.held sink.new) result }
     ensures cause { HasStatusCause result (S.faults source.old) (S.faults source.new) (K.faults sink.old) (K.faults sink.new) }
     ensures words { result ≢ Status.BadWords }
     ensures library { (B.calls library.new ≡ B.calls library.old) × (B.faults library.new ≡ B.faults library.old) }
-    ensures waits { S.waits source.new ≡ S.waits source.old }
     ensures steps { steps.new ≡ steps.old }
     ensures later_source { S.faults source.old ≤ S.faults source.new }
     ensures later_sink { K.faults sink.old ≤ K.faults sink.new }
@@ -55,6 +55,7 @@ fn serve<S: Source, K: Sink, B: Library, L: Ledger>(
         Err(OutOfMemory) => return Status::OutOfMemory,
     };
     let mut reader = FrameReader::new(alloc);
+    let mut since = 0;
     loop {
         let body = match next_body(alloc, source, &mut reader, &mut buffer, MOST_INPUT) {
             Next::Body(body) => body,
@@ -64,7 +65,16 @@ fn serve<S: Source, K: Sink, B: Library, L: Ledger>(
             Next::ReadFault => return Status::ReadFault,
             Next::OutOfMemory => return Status::OutOfMemory,
         };
-        match hear(alloc, &mut session, &body, sink, library, steps) {
+        match hear(
+            alloc,
+            &mut session,
+            &mut since,
+            &body,
+            source,
+            sink,
+            library,
+            steps,
+        ) {
             Ok(Phase::Running) => {}
             Ok(Phase::Exit(true)) => return Status::Done,
             Ok(Phase::Exit(false)) => return Status::NoShutdown,
@@ -75,7 +85,9 @@ fn serve<S: Source, K: Sink, B: Library, L: Ledger>(
 
 /// Runs the command that the words after the program's name give: `serve` reads messages from the source and writes the
 /// answers to the sink, one byte at a time in a header and then at most the missing bytes of the body, so that nothing
-/// of the next message is held. Any other words are `BadWords`, and nothing is read or written.
+/// of the next message is held. After each message it makes Turns, until no program is queued; where fewer than 32
+/// messages came since the last Turn, it asks the source first whether more input waits, and then makes none. Any other
+/// words are `BadWords`, and nothing is read or written.
 ///
 /// The library and the steps are handed to the session, which asks nothing of them yet.
 pub fn run<S: Source, K: Sink, B: Library, L: Ledger>(
@@ -87,7 +99,7 @@ pub fn run<S: Source, K: Sink, B: Library, L: Ledger>(
     steps: &mut Steps<L>,
 ) -> Status
     // The headline.
-    ensures plain { command_of (map string_bytes words.now) ≡ Some ServeCommand → IsPlainRun [] []
+    ensures plain { command_of (map string_bytes words.now) ≡ Some ServeCommand → IsPlainRun [] (S.waits source.old) (S.waits source.new)
         (S.left source.old) (S.left source.new) (K.held sink.old) (K.held sink.new) result }
 
     // Each fault has its cause.
@@ -98,15 +110,16 @@ pub fn run<S: Source, K: Sink, B: Library, L: Ledger>(
     ensures complete { command_of (map string_bytes words.now) ≡ Some ServeCommand
         → (HasRisen (S.faults source.old) (S.faults source.new) → ⊥)
         → (HasRisen (K.faults sink.old) (K.faults sink.new) → ⊥)
-        → Completes [] [] (S.left source.old) (S.left source.new) (K.held sink.old) (K.held sink.new) result }
+        → Completes [] (S.waits source.old) (S.waits source.new)
+        (S.left source.old) (S.left source.new) (K.held sink.old) (K.held sink.new) result }
 
-    // With wrong words nothing is read or written.
+    // With wrong words nothing is read, asked or written.
     ensures unread { result ≡ Status.BadWords → (S.left source.new ≡ S.left source.old) × (S.faults source.new ≡ S.faults source.old) }
+    ensures unasked { result ≡ Status.BadWords → S.waits source.new ≡ S.waits source.old }
     ensures unwritten { result ≡ Status.BadWords → (K.held sink.new ≡ K.held sink.old) × (K.faults sink.new ≡ K.faults sink.old) }
 
-    // Nothing is asked of the library, of the waiting answers or of the steps.
+    // Nothing is asked of the library or of the steps.
     ensures library { (B.calls library.new ≡ B.calls library.old) × (B.faults library.new ≡ B.faults library.old) }
-    ensures waits { S.waits source.new ≡ S.waits source.old }
     ensures steps { steps.new ≡ steps.old }
     ensures later_source { S.faults source.old ≤ S.faults source.new }
     ensures later_sink { K.faults sink.old ≤ K.faults sink.new }
