@@ -11,7 +11,7 @@ use Rattle.trace_arena.specs.Points.{points}
 use Rattle.asking_core.specs.Machines.{MachineModel}
 use Rattle.kept_outcomes.specs.Outcomes.{IsOutcome}
 use Rattle.expansion_memo.specs.declared.entry.Entry.{Entry}
-use Rattle.expansion_memo.specs.Kept.{KeptOutcome, kept_at, while_live, point_by, Stands, AllStand, first_key, found_number, IsListed, HoldsOf, HoldsThere}
+use Rattle.expansion_memo.specs.Kept.{KeptOutcome, kept_at, while_live, point_by, AllStand, first_key, found_number, IsListed, HoldsOf, HoldsThere}
 use Rattle.expansion_memo.specs.Firsts.{FirstKeys, StaysListed, keys_of}
 use Rattle.expansion_memo.specs.Entries.{IsFindable, kept_by, kept_of}
 use Rattle.expansion_memo.specs.Finding.{here_number, HoldsIn}
@@ -50,17 +50,17 @@ module _ (call value : Tree → ℕ) (kept : List (Option KeptOutcome)) (answers
     answer_more i p at =
         elim (kept_push kept o p i at) [
           | inl e ↦ (
-            let lt = kept_inside kept i p e in
-            let inside : i < length answers = let l = f.long in omega arith in
-            get_or_append_left answers (n ∷ []) 0 i inside ∙ f.answer_is i p e
-          )
+              let lt = kept_inside kept i p e in
+              let inside : i < length answers = let l = f.long in omega arith in
+              get_or_append_left answers (n ∷ []) 0 i inside ∙ f.answer_is i p e
+              )
           | inr e ↦ (
-            let place : i ≡ length answers = let l = f.long in let k = e.0 in omega arith in
-            ap (λ j. get_or (answers ++ n ∷ []) j 0) place
-            ∙ get_or-append_seam answers n [] 0
-            ∙ is
-            ∙ ap (λ (x : KeptOutcome). found_number (call x.call) value x.summary.read) e.1
-          )
+              let place : i ≡ length answers = let l = f.long in let k = e.0 in omega arith in
+              ap (λ j. get_or (answers ++ n ∷ []) j 0) place
+              ∙ get_or-append_seam answers n [] 0
+              ∙ is
+              ∙ ap (λ (x : KeptOutcome). found_number (call x.call) value x.summary.read) e.1
+              )
         ]
 
     listed_more : (i : ℕ) (p : KeptOutcome) → kept_at (kept ++ Some o ∷ []) i ≡ Some p → IsListed numbers keys (call p.call) (first_key p.summary.read)

@@ -1,3 +1,4 @@
 pub mod LatestLaws
 pub mod Searching
 pub mod KeptLists
+pub mod Reused

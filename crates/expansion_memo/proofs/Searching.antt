@@ -1,9 +1,9 @@
 -- Going through the places of a number, from the last to the first.
-use Rattle.std.proofs.Common.{◌≡◌, ℕ, zero, suc, ◌<◌, ◌≤◌, List, Option, Some, None, length, get_or, take, refl, sym, ap, ◌∙◌, ◌⊎◌, inl, inr, subst, arith}
+use Rattle.std.proofs.Common.{◌≡◌, ℕ, suc, ◌<◌, ◌≤◌, List, Option, Some, None, length, get_or, take, sym, ap, ◌∙◌, inl, inr, subst, arith}
 use Rattle.std.proofs.Math.Seq.{take-length}
 use Rattle.std.proofs.lemmas.Bool.{cases_lt, cases_eq}
 use Rattle.expansion_memo.specs.Latest.{latest}
-use Rattle.expansion_memo.proofs.LatestLaws.{IsLatest, latest_some, latest_none}
+use Rattle.expansion_memo.proofs.LatestLaws.{latest_some, latest_none}
 
 -- how many places are left at most
 abbrev pub left : Option ℕ → ℕ

@@ -1,5 +1,5 @@
 -- A memo as its entries, and how they are found. This project.
-use Rattle.std.specs.Prelude.{◌≡◌, ℕ, Option, Some, None, List, map, option_map, length, slice_index}
+use Rattle.std.specs.Prelude.{◌≡◌, ℕ, Option, Some, List, map, option_map, length, slice_index}
 use Rattle.kept_values.specs.Trees.{Tree}
 use Rattle.asking_core.specs.Runs.{Ending, ByLeave, ByEnd, ByBudget}
 use Rattle.expansion_memo.specs.declared.outcome.Ended.{Ended}

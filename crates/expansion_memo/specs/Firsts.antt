@@ -1,5 +1,5 @@
 -- The keys that are read first, by the numbers of calls. This project.
-use Rattle.std.specs.Prelude.{◌≡◌, ℕ, Option, List, map, option_map, length}
+use Rattle.std.specs.Prelude.{ℕ, Option, List, map, option_map}
 use Rattle.std.specs.Coded.{Coded, code_by, coded×, coded_ℕ, coded_list, coded_option}
 use Rattle.std.proofs.Common.{refl}
 use Rattle.kept_values.specs.Trees.{Tree}

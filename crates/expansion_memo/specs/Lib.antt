@@ -5,3 +5,4 @@ pub mod Codes
 pub mod Entries
 pub mod Firsts
 pub mod Finding
+pub mod Reuse

@@ -1,5 +1,5 @@
 -- An index of numbers as its table and links. No public clause cites this file. This project.
-use Rattle.std.specs.Prelude.{◌≡◌, ℕ, ◌==◌, Bool, List, [], ◌∷◌, ◌++◌, map}
+use Rattle.std.specs.Prelude.{◌≡◌, ℕ, ◌==◌, List, [], ◌∷◌, ◌++◌, map}
 use Rattle.std.specs.HashMap.{HashMap, get}
 use Rattle.expansion_memo.specs.declared.number_index.Link.{Link}
 use Rattle.expansion_memo.specs.Latest.{latest}

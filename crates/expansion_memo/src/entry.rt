@@ -15,9 +15,10 @@ use trace_arena::NodeId;
 /// Calls and frames stand in one another so deep at most.
 pub(crate) const DEEPEST: u32 = 128;
 
-/// An outcome that is kept.
+/// An outcome that is kept: its call and the depth at which it ran, the node of its points, how it ended, and what else
+/// it left.
 #[derive(Drop)]
-pub(crate) struct Entry<C: Kept, K: Kept, V: Kept> {
+pub struct Entry<C: Kept, K: Kept, V: Kept> {
     pub call: C,
     pub depth: u32,
     pub node: NodeId,

@@ -2,7 +2,7 @@
 ghost use Rattle.std.specs.Prelude.{◌≡◌, ◌≤◌, Some, [], ◌∷◌, ◌++◌, IfOk, OnOk, OnErr, MatchOption, map, option_map};
 ghost use Rattle.expansion_memo.specs.Entries.{kept_by, kept_of};
 ghost use Rattle.asking_core.specs.Runs.{deepest_depth};
-ghost use Rattle.expansion_memo.specs.Kept.{HoldsThere, NoneHolds, while_live};
+ghost use Rattle.expansion_memo.specs.Kept.{HoldsThere, NoneHolds, kept_at, while_live};
 
 use crate::entry::Entry;
 use crate::find::{find_under, found_number, here_number};
@@ -52,6 +52,16 @@ impl<C: Kept, K: Kept, V: Kept> Table<C, K, V> {
         }
     }
 
+    /// The entry at a place.
+    pub(crate) fn entry(&self, place: usize) -> Option<&Entry<C, K, V>>
+        ensures { option_map (λ e. kept_by C.code e.now) result ≡ kept_at self.now place }
+    {
+        if place >= self.entries.len() {
+            return None;
+        }
+        self.entries[place].as_ref()
+    }
+
     /// Where an outcome of an equal call is kept that holds, the newest first.
     pub(crate) fn find<W: World<Key = K, Value = V>>(
         &self,
@@ -72,7 +82,16 @@ impl<C: Kept, K: Kept, V: Kept> Table<C, K, V> {
         let mut next = self.firsts.last(start);
         while let Some(first) = next {
             let number = here_number(alloc, start, self.firsts.key(first), world)?;
-            let found = find_under(alloc, entries, &self.answers, number, call, world, fuel, depth)?;
+            let found = find_under(
+                alloc,
+                entries,
+                &self.answers,
+                number,
+                call,
+                world,
+                fuel,
+                depth,
+            )?;
             if let Some(place) = found {
                 return Ok(Some(place));
             }

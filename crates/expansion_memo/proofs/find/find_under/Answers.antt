@@ -1,4 +1,4 @@
-use Rattle.std.proofs.Common.{◌≡◌, ℕ, ◌<◌, ◌≤◌, Option, Some, None, option_map, length, refl, sym, ap, ◌∙◌, subst, arith}
+use Rattle.std.proofs.Common.{ℕ, ◌<◌, Option, Some, option_map, length, refl, sym, ◌∙◌, subst, arith}
 use Rattle.kept_values.specs.Trees.{Tree}
 use Rattle.expansion_memo.specs.Kept.{HoldsThere}
 use Rattle.expansion_memo.specs.Entries.{kept_by, kept_of}
@@ -101,11 +101,11 @@ loop-next-preserved g c =
     let e = c.index-entries-place.result in
     let H : W.State → Type 0 = λ t. HoldsIn W t c.args.fuel c.args.depth call (option_map (kept_by code) e) in
     let fails : P c.in-Some.place → ⊥ = λ p.
-        let held = in_of W s c.args.fuel c.args.depth call kept c.in-Some.place (option_map (kept_by code) e)
-        (kept_read code c.args.entries.now c.in-Some.place e here c.index-entries-place.is) p in
-        let yes = c.in_ok-holds_there.ensures.answer.1 (subst H (sym c.loop-next.invariant.kept) held) in
-        let not = c.if-branch.false in
-        cc
+    let held = in_of W s c.args.fuel c.args.depth call kept c.in-Some.place (option_map (kept_by code) e)
+    (kept_read code c.args.entries.now c.in-Some.place e here c.index-entries-place.is) p in
+    let yes = c.in_ok-holds_there.ensures.answer.1 (subst H (sym c.loop-next.invariant.kept) held) in
+    let not = c.if-branch.false in
+    cc
     in
     record {
       kept = c.in_ok-holds_there.ensures.kept ∙ c.loop-next.invariant.kept;

@@ -1,6 +1,5 @@
-use Rattle.std.proofs.Common.{◌≡◌, ℕ, ◌<◌, ◌≤◌, List, Option, Some, None, option_map, length, get_or, sym, ap, ◌∙◌, subst, arith}
-use Rattle.expansion_memo.specs.Latest.{latest}
-use Rattle.expansion_memo.specs.Firsts.{FirstKeys, keys_of}
+use Rattle.std.proofs.Common.{◌≡◌, ℕ, ◌<◌, List, Option, Some, None, length, get_or, sym, ap, ◌∙◌, subst, arith}
+use Rattle.expansion_memo.specs.Firsts.{FirstKeys}
 use Rattle.expansion_memo.proofs.Searching.{left, Searched, search_place, search_next, search_smaller}
 use Rattle.expansion_memo.proofs.KeptLists.{key_read}
 use Rattle.expansion_memo.proofs.firsts.Firsts.is_listed.Goals as goal

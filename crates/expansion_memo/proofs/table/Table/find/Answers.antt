@@ -1,4 +1,4 @@
-use Rattle.std.proofs.Common.{◌≡◌, ℕ, ◌<◌, List, Option, Some, None, option_map, length, get_or, refl, sym, ap, ◌∙◌, subst, MatchOption, arith}
+use Rattle.std.proofs.Common.{◌≡◌, ℕ, ◌<◌, List, Option, Some, None, option_map, length, refl, sym, ap, ◌∙◌, subst, MatchOption}
 use Rattle.std.proofs.lemmas.List.{length-map}
 use Rattle.kept_values.specs.Trees.{Tree}
 use Rattle.expansion_memo.specs.Kept.{KeptOutcome, HoldsThere}
@@ -44,7 +44,7 @@ returns-in-Some-found-clause-found g c =
     let state : g.W.World.state c.here_number.new.world ≡ s = c.in_ok-number.ensures.kept ∙ c.loop-next.invariant.kept in
     let kept : kept_of code c.as_slice-entries.result.now ≡ c.args.self.now = ap (kept_of code) c.as_slice-entries.ensures.value ∙ c.self.view_is in
     let M : Option ℕ → W.State → List (Option KeptOutcome) → Type 0 = λ o t ks.
-        MatchOption o (NoneUnder W t c.args.fuel c.args.depth call ks c.self.inside.answers c.in_ok-number.number) (HoldsThere W t c.args.fuel c.args.depth call ks) in
+    MatchOption o (NoneUnder W t c.args.fuel c.args.depth call ks c.self.inside.answers c.in_ok-number.number) (HoldsThere W t c.args.fuel c.args.depth call ks) in
     let found : M c.in_ok-found.found (g.W.World.state c.here_number.new.world) (kept_of code c.as_slice-entries.result.now) = c.in_ok-found.ensures.found in
     subst (M (Some c.in-Some-found.place) s) kept
     (subst (λ t. M (Some c.in-Some-found.place) t (kept_of code c.as_slice-entries.result.now)) state
@@ -97,7 +97,7 @@ loop-next-preserved g c =
     let slice = kept_of code c.as_slice-entries.result.now in
     let all : slice ≡ kept = ap (kept_of code) c.as_slice-entries.ensures.value in
     let M : Option ℕ → W.State → List (Option KeptOutcome) → Type 0 = λ o t ks.
-        MatchOption o (NoneUnder W t c.args.fuel c.args.depth call ks c.self.inside.answers n) (HoldsThere W t c.args.fuel c.args.depth call ks) in
+    MatchOption o (NoneUnder W t c.args.fuel c.args.depth call ks c.self.inside.answers n) (HoldsThere W t c.args.fuel c.args.depth call ks) in
     let found : M c.in_ok-found.found (g.W.World.state c.here_number.new.world) slice = c.in_ok-found.ensures.found in
     let none : M None s kept =
     subst (M None s) all

@@ -10,7 +10,7 @@ invariant-loop-next g l = record {
   kept : g.W.World.state l.world ≡ g.W.World.state l.fn.world;
   searched : Searched l.self-inside.firsts.numbers l.start
       (HoldsFirst g.W.World.model (g.W.World.state l.fn.world) l.fuel l.depth (g.C.Kept.code l.call) (kept_of g.C.Kept.code l.self-inside.entries.items)
-        l.self-inside.firsts.numbers l.self-inside.firsts.keys) l.next;
+      l.self-inside.firsts.numbers l.self-inside.firsts.keys) l.next;
 }
 
 abbrev pub decreases-loop-next : goal.decreases-loop-next
