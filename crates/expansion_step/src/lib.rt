@@ -12,6 +12,7 @@
 mod act;
 mod expander;
 mod language;
+mod laws;
 mod machine;
 mod phase;
 mod stack;
@@ -20,5 +21,6 @@ mod step;
 pub use act::{Act, Entry, Fault, Performed};
 pub use expander::Expander;
 pub use language::CodedLanguage;
+pub use laws::{runs_are_expansions, watched_calls_run};
 pub use phase::{Local, Watched};
 pub use stack::{Level, Stack};

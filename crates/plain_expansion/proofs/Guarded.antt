@@ -9,7 +9,7 @@ use Rattle.plain_expansion.specs.GuardLaws.{kept_move, gives_up}
 use Rattle.plain_expansion.specs.Expansion.{Expansion}
 use Rattle.plain_expansion.specs.Laws.{Gives}
 
-back_as : {C I : Type 0} (e : Ending) (t : Run C I) (P Q : Type 0) → (P → Q) → Back e t P → Back e t Q
+pub back_as : {C I : Type 0} (e : Ending) (t : Run C I) (P Q : Type 0) → (P → Q) → Back e t P → Back e t Q
 back_as ByLeave t P Q go b = go b
 back_as ByEnd t P Q go b = b
 back_as ByBudget t P Q go b = b
@@ -18,10 +18,10 @@ module _ (M : MachineModel) (full : ℕ) (moving writable : Tree → Bool) (quie
   abbrev G : MachineModel
   G = guarded M full moving writable quiet
 
-  own : (p : Watched M.Place) (g : Told) (m : Move M.Call M.Item) → gives_up m ≡ false → (G).move_at p g ≡ m → M.move_at p.place g ≡ m
+  pub own : (p : Watched M.Place) (g : Told) (m : Move M.Call M.Item) → gives_up m ≡ false → (G).move_at p g ≡ m → M.move_at p.place g ≡ m
   own p g m goes is = (kept_move (is_kept M full moving writable quiet p g) (M.move_at p.place g) m goes is).1
 
-  follows_own : (t : Run M.Call M.Item) (p : Watched M.Place) (g : Told) → Follows G p g t → Follows M p.place g t
+  pub follows_own : (t : Run M.Call M.Item) (p : Watched M.Place) (g : Told) → Follows G p g t → Follows M p.place g t
   follows_own Leaves p g f = own p g Leave refl f
   follows_own Ends p g f = own p g End refl f
   follows_own Spent p g f = own p g Count refl f

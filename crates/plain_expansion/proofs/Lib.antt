@@ -2,6 +2,8 @@ pub mod Moves
 pub mod PairLaws
 pub mod Joining
 pub mod Guarded
+pub mod Entries
+pub mod Watching
 pub mod Theorem
 pub mod QuestionLaws
 pub mod Counting

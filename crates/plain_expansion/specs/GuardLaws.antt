@@ -32,12 +32,12 @@ pub kept_move : {C I : Type 0} (b : Bool) (own m : Move C I) → gives_up m ≡ 
 kept_move true own m goes is = (refl, is)
 kept_move false own m goes is = absurd (true≢false (ap gives_up is ∙ goes))
 
-both_true : (a b : Bool) → (a && b) ≡ true → (a ≡ true) × (b ≡ true)
+pub both_true : (a b : Bool) → (a && b) ≡ true → (a ≡ true) × (b ≡ true)
 both_true true true is = (refl, refl)
 both_true true false is = (refl, is)
 both_true false b is = (is, absurd (true≢false (sym is)))
 
-last_holds : (a b c : Bool) → (a || b || c) ≡ true → a ≡ false → b ≡ false → c ≡ true
+pub last_holds : (a b c : Bool) → (a || b || c) ≡ true → a ≡ false → b ≡ false → c ≡ true
 last_holds false false c is no_a no_b = is
 last_holds false true c is no_a no_b = absurd (true≢false no_b)
 last_holds true b c is no_a no_b = absurd (true≢false no_a)
@@ -67,7 +67,7 @@ count_by false Leave left moving writable quiet is counts = refl
 count_by false End left moving writable quiet is counts = refl
 count_by false GiveUp left moving writable quiet is counts = refl
 
-asks_by : (quiet moves : Bool) → (quiet || not moves) ≡ true → moves ≡ true → quiet ≡ true
+pub asks_by : (quiet moves : Bool) → (quiet || not moves) ≡ true → moves ≡ true → quiet ≡ true
 asks_by true moves is moved = refl
 asks_by false true is moved = is
 asks_by false false is moved = absurd (true≢false (sym moved))
@@ -92,7 +92,7 @@ module _ (M : MachineModel) (full : ℕ) (moving writable : Tree → Bool) (quie
         (count_by (is_kept M full moving writable quiet p g) (Own p g) p.left moving writable (quiet p.place) refl counts) unmarked;
   }
 
-  allowed_at : (p : Watched M.Place) (g : Told) (m : Move M.Call M.Item) → gives_up m ≡ false →
+  pub allowed_at : (p : Watched M.Place) (g : Told) (m : Move M.Call M.Item) → gives_up m ≡ false →
       kept_or_not (is_kept M full moving writable quiet p g) (Own p g) ≡ m →
       is_allowed moving writable (quiet p.place) m ≡ true
   allowed_at p g m goes is =

@@ -1,14 +1,15 @@
 -- What joins the definition and the machine (this project).
-use Rattle.std.specs.Prelude.{◌≡◌, ℕ, ◌+◌, ◌<◌, ◌≤◌, Bool, true, false, List, [], length, Option, Some, None, slice_get}
+use Rattle.std.specs.Prelude.{◌≡◌, ◌↔◌, ℕ, ◌+◌, ◌<◌, ◌≤◌, Bool, true, false, List, [], length, Option, Some, None, slice_get}
 use Rattle.kept_values.specs.Trees.{Tree}
 use Rattle.asking_core.specs.Worlds.{WorldModel}
 use Rattle.asking_core.specs.Machines.{MachineModel, Told, Nothing}
-use Rattle.asking_core.specs.Runs.{Run, Plain, ByBudget, emitted, after_run, cost, ending, deepest, deepest_depth, unpaid}
+use Rattle.asking_core.specs.Runs.{Run, Follows, Plain, ByBudget, emitted, after_run, cost, ending, deepest, deepest_depth, unpaid}
 use Rattle.plain_expansion.specs.Language.{Stack, Language}
 use Rattle.plain_expansion.specs.Expansion.{Expansion, expand, expansion}
 use Rattle.plain_expansion.specs.Engine.{Place, expander}
 use Rattle.plain_expansion.specs.Guard.{Watched, guarded}
 use Rattle.plain_expansion.specs.Marks.{is_quiet, is_marked}
+use Rattle.plain_expansion.specs.Watch.{KeepsToWatch}
 
 -- A run gives an expansion, from a place and what is told there, and from a state of the world, where so many frames stand
 -- open.
@@ -55,6 +56,13 @@ CarefulRunsAreExpansions L W = (full : ℕ) (moving writable : Tree → Bool) (c
     Plain (careful_expander L full moving writable) W s ((careful_expander L full moving writable).start call) Nothing fuel depth 0 run →
     Gives (careful_expander L full moving writable) W ((careful_expander L full moving writable).start call) Nothing s 0 run
     (expansion L W call s fuel depth)
+
+-- A run of the machine is one of the machine that watches itself exactly where it keeps to the watch: so that one gives up only
+-- where more than so much is done without a unit of fuel, a moving key is asked behind the entry, or a key is put that may not be.
+abbrev pub WatchedRunsKeepToIt : Language → (full : ℕ) → (moving writable : Tree → Bool) → Type 0
+WatchedRunsKeepToIt L full moving writable = (call : L.words.Call) (run : Run L.words.Call L.Item) →
+    Follows (careful_expander L full moving writable) ((careful_expander L full moving writable).start call) Nothing run
+    ↔ (Follows (expander L) ((expander L).start call) Nothing run × KeepsToWatch full moving writable true full run)
 
 -- how much it may still do, whether it has a point to tell, and whether its call is still at its entry
 abbrev pub left_of : (L : Language) → Watched (Place L.words L.Item) → ℕ

@@ -5,5 +5,6 @@ pub mod Engine
 pub mod Guard
 pub mod GuardLaws
 pub mod Marks
+pub mod Watch
 pub mod Laws
 pub mod Example

@@ -211,7 +211,7 @@ module _ (L : Language) where
   heard_loud (Waiting x statement ps k) g q = refl
 
   -- a call that asks at its entry does not count or enter
-  abbrev is_ask : Move L.words.Call L.Item → Bool
+  abbrev pub is_ask : Move L.words.Call L.Item → Bool
   is_ask (Ask key) = true
   is_ask (Put key value) = false
   is_ask Count = false
@@ -225,7 +225,7 @@ module _ (L : Language) where
   is_ask End = false
   is_ask GiveUp = false
 
-  moved_loud : (r : Ready L.words L.Item) → is_ask (move_of L r) ≡ false → is_quiet (next_place L r) ≡ false
+  pub moved_loud : (r : Ready L.words L.Item) → is_ask (move_of L r) ≡ false → is_quiet (next_place L r) ≡ false
   moved_loud (Opening c k keys ps) asks = absurd (true≢false asks)
   moved_loud (Doing step) asks = step_loud step
   moved_loud (Placing x statement) asks = refl

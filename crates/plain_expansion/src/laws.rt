@@ -4,7 +4,7 @@ ghost use Rattle.kept_values.specs.Trees.{Tree};
 ghost use Rattle.asking_core.specs.Machines.{Falls, EmitsOnceACount, Modest};
 ghost use Rattle.plain_expansion.specs.Questions.{Asking, MoreChangesNothing, RestartsEnd, ComesToTheResult, AsksOnlyTheMissing};
 ghost use Rattle.plain_expansion.specs.Expansion.{place_of, first_where};
-ghost use Rattle.plain_expansion.specs.Laws.{RunsAreExpansions, EachCallRuns, GasIsFree, CarefulRunsAreExpansions, EachUnitIsAPoint, IsFirst, careful_expander, left_of, marked_of, quiet_of};
+ghost use Rattle.plain_expansion.specs.Laws.{RunsAreExpansions, EachCallRuns, GasIsFree, CarefulRunsAreExpansions, EachUnitIsAPoint, WatchedRunsKeepToIt, IsFirst, careful_expander, left_of, marked_of, quiet_of};
 
 use crate::MacroLanguage;
 use asking_core::World;
@@ -50,6 +50,13 @@ pub fn the_watch_keeps_the_laws<L: MacroLanguage>()
     ensures falls { (full : ℕ) (moving writable : Tree → Bool) → Falls (careful_expander L.language full moving writable) (left_of L.language) }
     ensures emits_once { (full : ℕ) (moving writable : Tree → Bool) → EmitsOnceACount (careful_expander L.language full moving writable) (marked_of L.language) }
     ensures modest { (full : ℕ) (moving writable : Tree → Bool) → Modest (careful_expander L.language full moving writable) moving writable (quiet_of L.language) }
+{}
+
+/// The machine that watches itself gives up nowhere but where its laws would be broken: its runs are those of the machine in
+/// which, in nested calls too, no more than so much is done without a unit of fuel, moving keys are asked only before
+/// anything else is done, and only writable keys are put.
+pub fn the_watch_gives_up_nowhere_else<L: MacroLanguage>()
+    ensures { (full : ℕ) (moving writable : Tree → Bool) → WatchedRunsKeepToIt L.language full moving writable }
 {}
 
 /// Each unit of fuel is one point; an expansion takes no more than its fuel, all of it where fuel was wanting, and only

@@ -17,5 +17,5 @@ pub use language::MacroLanguage;
 pub use laws::{
     branches_go_to_the_first, careful_runs_are_expansions, each_call_runs, each_unit_is_a_point,
     gas_is_free, more_answers_change_nothing, restarts_end, runs_are_expansions,
-    the_watch_keeps_the_laws,
+    the_watch_gives_up_nowhere_else, the_watch_keeps_the_laws,
 };
