@@ -12,7 +12,7 @@ use Rattle.session_core.specs.declared.phase.Phase.TheVariants.{Running as Still
 use Rattle.session_core.specs.Diagnostics.{diagnostics_of}
 use Rattle.session_core.specs.State.{State, document_at, last_list}
 use Rattle.session_core.specs.Step.{Step, quiet, says, written}
-use Rattle.session_core.specs.Turn.{is_published, turn_at, without_first, turn_of, turn}
+use Rattle.session_core.specs.Turn.{is_published, turn_at, without_first, turn_of, assemble_first, turn}
 use Rattle.session_core.specs.Message.{message}
 use Rattle.session_core.specs.Held.{Held, phase_of}
 use Rattle.hlasm_server.specs.Hearing.{Running, at_rest, Made, none_made, behind, turns, following, Heard, Ends, goes_on, heard_in, hear, said}
@@ -76,7 +76,7 @@ turn_of_leaves s (n ∷ others) is some =
     ap (λ (q : List PathId). suc (length q)) (turn_at_keeps_queue (without_first s) n (document_at s.store n) ∙ ap (drop 1) is)
 
 pub turn_leaves : (s : State) → s.queue ≢ [] → suc (length (turn s).state.queue) ≡ length s.queue
-unfolding turn
+unfolding assemble_first
 turn_leaves s some = turn_of_leaves s s.queue refl some
 
 -- ---- an event

@@ -30,7 +30,7 @@ use Rattle.session_core.specs.Replies.{list_body}
 use Rattle.session_core.specs.Same.{is_same_position, is_same_span, is_same_relation, is_same_diagnostic, is_same_list}
 use Rattle.session_core.specs.State.{State, start, number_at, number_named, is_number, is_program, is_queued, document_at, programs, with_programs, last_list, without_list, with_list, without, published_without}
 use Rattle.session_core.specs.Step.{Step, quiet, says}
-use Rattle.session_core.specs.Turn.{is_published, publish, turn, turn_of, turn_at, turns, without_first}
+use Rattle.session_core.specs.Turn.{is_published, publish, assemble_first, assemble_many, turn, turn_of, turn_at, without_first}
 
 -- ---- tests
 
@@ -249,16 +249,19 @@ fresh_turn_at : (s : State) (n : PathId) (rest : List PathId) (document : Option
 fresh_turn_at s n rest None queue found fresh = fresh_without s n rest queue found fresh
 fresh_turn_at s n rest (Some document) queue found fresh = fresh_publish s n rest document queue found fresh
 
-pub fresh_turn : (s : State) → AreFresh s → AreFresh (turn s).state
-unfolding turn
-fresh_turn s fresh = by_queue s.queue refl where
+fresh_first : (s : State) → AreFresh s → AreFresh (assemble_first s).state
+unfolding assemble_first
+fresh_first s fresh = by_queue s.queue refl where
   by_queue : (queue : List PathId) → s.queue ≡ queue → AreFresh (turn_of s (slice_get queue 0)).state
   by_queue [] e = fresh
   by_queue (n ∷ rest) e = fresh_turn_at s n rest (document_at s.store n) e refl fresh
 
-fresh_turns : (n : ℕ) (s : State) → AreFresh s → AreFresh (turns n s).state
-fresh_turns zero s fresh = fresh
-fresh_turns (suc n) s fresh = fresh_turns n (turn s).state (fresh_turn s fresh)
+pub fresh_turn : (s : State) → AreFresh s → AreFresh (turn s).state
+fresh_turn s fresh = fresh_first s fresh
+
+fresh_many : (n : ℕ) (s : State) → AreFresh s → AreFresh (assemble_many n s).state
+fresh_many zero s fresh = fresh
+fresh_many (suc n) s fresh = fresh_many n (assemble_first s).state (fresh_first s fresh)
 
 -- ---- messages
 
@@ -287,7 +290,7 @@ good_closing s n (Err fault) fresh = λ alive. fresh
 
 good_effect : (s : State) (message : LspIn) → AreFresh s → IsGood (effect s message)
 good_effect s (Initialize id root) fresh = λ alive. fresh
-good_effect s (Shutdown id) fresh = λ alive. fresh_turns (length s.queue) s fresh
+good_effect s (Shutdown id) fresh = λ alive. fresh_many (length s.queue) s fresh
 good_effect s Initialized fresh = λ alive. fresh_queued (queue_all s) (all_queued s)
 good_effect s Exit fresh = λ alive. cc
 good_effect s (DidOpen uri language version text) fresh = good_change s (opened s.store uri language version text) fresh
@@ -345,20 +348,20 @@ store_of_turn_at : (s : State) (n : PathId) (document : Option OpenDocument) →
 store_of_turn_at s n None = refl
 store_of_turn_at s n (Some document) = store_of_cond (is_published (last_list s.published n) document.version (diagnostics_of document.text)) s _ _ refl
 
-store_of_turn : (s : State) → (turn s).state.store ≡ s.store
-unfolding turn
-store_of_turn s = by_queue (slice_get s.queue 0) where
+store_of_first : (s : State) → (assemble_first s).state.store ≡ s.store
+unfolding assemble_first
+store_of_first s = by_queue (slice_get s.queue 0) where
   by_queue : (first : Option PathId) → (turn_of s first).state.store ≡ s.store
   by_queue None = refl
   by_queue (Some n) = store_of_turn_at (without_first s) n (document_at s.store n)
 
-store_of_turns : (n : ℕ) (s : State) → (turns n s).state.store ≡ s.store
-store_of_turns zero s = refl
-store_of_turns (suc n) s = store_of_turns n (turn s).state ∙ store_of_turn s
+store_of_many : (n : ℕ) (s : State) → (assemble_many n s).state.store ≡ s.store
+store_of_many zero s = refl
+store_of_many (suc n) s = store_of_many n (assemble_first s).state ∙ store_of_first s
 
 keeps_effect : (s : State) (message : LspIn) → KeepsOrQueues s (effect s message)
 keeps_effect s (Initialize id root) = inl refl
-keeps_effect s (Shutdown id) = inl (store_of_turns (length s.queue) s)
+keeps_effect s (Shutdown id) = inl (store_of_many (length s.queue) s)
 keeps_effect s Initialized = inl refl
 keeps_effect s Exit = inl refl
 keeps_effect s (DidOpen uri language version text) = keeps_change s (opened s.store uri language version text)

@@ -1,4 +1,4 @@
--- Turns, one after another.
+-- Programs that leave the queue, one after another.
 use Rattle.std.proofs.Common.{◌≡◌, ◌≢◌, ℕ, ◌<◌, Bool, true, false, cond, List, [], ◌∷◌, ◌++◌, Option, Some, None, length, drop, suc, slice_get, refl, sym, ap, ◌∙◌, subst, arith, append_assoc}
 use Rattle.std.proofs.lemmas.List.{append-nil}
 use Rattle.hl_base.specs.declared.place.PathId.{PathId}
@@ -8,7 +8,7 @@ use Rattle.session_core.specs.declared.state.LastList.{LastList}
 use Rattle.session_core.specs.Diagnostics.{diagnostics_of}
 use Rattle.session_core.specs.State.{State, document_at, last_list}
 use Rattle.session_core.specs.Step.{Step, quiet, says, and_then, IsStep}
-use Rattle.session_core.specs.Turn.{turn, turn_of, turns, all_turns, turn_at, publish, is_published, without_first}
+use Rattle.session_core.specs.Turn.{assemble_first, turn_of, assemble_many, assemble_all, answer_waiting, turn, turn_at, publish, is_published, without_first}
 
 -- a step whose state has lost the first queued program
 abbrev without_first_of : Step → Step
@@ -27,15 +27,15 @@ turn_at_first : (s : State) (n : PathId) (document : Option OpenDocument) → tu
 turn_at_first s n None = refl
 turn_at_first s n (Some document) = publish_first s n document (diagnostics_of document.text)
 
--- a program's Turn, and then it leaves the queue
+-- a program's list, and then it leaves the queue
 pub turn_first : (s now : State) (n : PathId) (bodies : List (List ℕ)) → slice_get s.queue 0 ≡ Some n
-    → IsStep (turn_at s n (document_at s.store n)) now bodies → IsStep (turn s) (without_first now) bodies
-unfolding turn
+    → IsStep (turn_at s n (document_at s.store n)) now bodies → IsStep (assemble_first s) (without_first now) bodies
+unfolding assemble_first
 turn_first s now n bodies first step = ap (turn_of s) first ∙ turn_at_first s n (document_at s.store n) ∙ ap without_first_of step
 
 -- where none is queued
-pub turn_none : (s : State) → slice_get s.queue 0 ≡ None → IsStep (turn s) s []
-unfolding turn
+pub turn_none : (s : State) → slice_get s.queue 0 ≡ None → IsStep (assemble_first s) s []
+unfolding assemble_first
 turn_none s none = ap (turn_of s) none
 
 -- publishing leaves the queue
@@ -50,50 +50,57 @@ turn_at_queue s n None = refl
 turn_at_queue s n (Some document) = publish_queue s n document (diagnostics_of document.text)
 
 -- the first program has left the queue
-pub turn_queue : (s : State) → s.queue ≢ [] → (turn s).state.queue ≡ drop 1 s.queue
-unfolding turn
+pub turn_queue : (s : State) → s.queue ≢ [] → (assemble_first s).state.queue ≡ drop 1 s.queue
+unfolding assemble_first
 turn_queue s some = by_queue s.queue refl where
   by_queue : (queue : List PathId) → s.queue ≡ queue → (turn_of s (slice_get queue 0)).state.queue ≡ drop 1 s.queue
   by_queue [] e = absurd (some e)
   by_queue (n ∷ rest) e = turn_at_queue (without_first s) n (document_at s.store n)
 
--- a Turn leaves fewer programs
+-- so fewer are left
 pub fewer_queued : (queue : List PathId) → queue ≢ [] → length (drop 1 queue) < length queue
 fewer_queued [] some = absurd (some refl)
 fewer_queued (n ∷ rest) some = omega arith
 
--- a Turn and those behind it are all Turns
-turns_next : (s : State) (queue : List PathId) → s.queue ≡ queue → queue ≢ [] → all_turns s ≡ and_then (turn s) all_turns
+-- the first and those behind it are all
+turns_next : (s : State) (queue : List PathId) → s.queue ≡ queue → queue ≢ [] → assemble_all s ≡ and_then (assemble_first s) assemble_all
 turns_next s [] e some = absurd (some refl)
 turns_next s (n ∷ rest) e some =
     let here : length s.queue ≡ suc (length rest) = ap length e in
-    let behind : length (turn s).state.queue ≡ length rest = ap length (turn_queue s (λ f. let g = sym e ∙ f in cc) ∙ ap (drop 1) e) in
-    ap (λ k. turns k s) here ∙ ap (λ k. and_then (turn s) (turns k)) (sym behind)
+    let behind : length (assemble_first s).state.queue ≡ length rest = ap length (turn_queue s (λ f. let g = sym e ∙ f in cc) ∙ ap (drop 1) e) in
+    ap (λ k. assemble_many k s) here ∙ ap (λ k. and_then (assemble_first s) (assemble_many k)) (sym behind)
 
--- These bodies were written so far, and with the Turns that are left they are those of all Turns.
+-- These bodies were written so far, and with those that are left they are all.
 pub record IsTurning (first now : State) (done : List (List ℕ)) : Type 0 where
-  pub rest : all_turns first ≡ record (all_turns now) { bodies = done ++ (all_turns now).bodies }
+  pub rest : assemble_all first ≡ record (assemble_all now) { bodies = done ++ (assemble_all now).bodies }
 
-pub turning_goes_on : (first now next : State) (done bodies : List (List ℕ)) → IsTurning first now done → now.queue ≢ [] → IsStep (turn now) next bodies → IsTurning first next (done ++ bodies)
+pub turning_goes_on : (first now next : State) (done bodies : List (List ℕ)) → IsTurning first now done → now.queue ≢ [] → IsStep (assemble_first now) next bodies → IsTurning first next (done ++ bodies)
 turning_goes_on first now next done bodies turning some step =
-    let more : all_turns now ≡ record (all_turns next) { bodies = bodies ++ (all_turns next).bodies } =
-    turns_next now now.queue refl some ∙ ap (λ (z : Step). and_then z all_turns) step in
+    let more : assemble_all now ≡ record (assemble_all next) { bodies = bodies ++ (assemble_all next).bodies } =
+    turns_next now now.queue refl some ∙ ap (λ (z : Step). and_then z assemble_all) step in
     record {
       rest = turning.rest ∙ ap (λ (z : Step). record z { bodies = done ++ z.bodies }) more
-          ∙ ap (λ z. record (all_turns next) { bodies = z }) (sym (append_assoc done bodies (all_turns next).bodies));
+          ∙ ap (λ z. record (assemble_all next) { bodies = z }) (sym (append_assoc done bodies (assemble_all next).bodies));
     }
 
 pub turning_told : (first now : State) (done others : List (List ℕ)) → others ≡ done → IsTurning first now done → IsTurning first now others
 turning_told first now done others same turning = subst (IsTurning first now) (sym same) turning
 
-pub turning_ends : (first now : State) (done : List (List ℕ)) → IsTurning first now done → now.queue ≡ [] → IsStep (all_turns first) now done
+pub turning_ends : (first now : State) (done : List (List ℕ)) → IsTurning first now done → now.queue ≡ [] → IsStep (assemble_all first) now done
 turning_ends first now done turning none =
-    let left : all_turns now ≡ quiet now = ap (λ (z : List PathId). turns (length z) now) none in
+    let left : assemble_all now ≡ quiet now = ap (λ (z : List PathId). assemble_many (length z) now) none in
     turning.rest ∙ ap (λ (z : Step). record z { bodies = done ++ z.bodies }) left ∙ ap (λ z. record { state = now; bodies = z }) (append-nil done)
 
-pub turning_smaller : (now next : State) (bodies : List (List ℕ)) → now.queue ≢ [] → IsStep (turn now) next bodies → length next.queue < length now.queue
+pub turning_smaller : (now next : State) (bodies : List (List ℕ)) → now.queue ≢ [] → IsStep (assemble_first now) next bodies → length next.queue < length now.queue
 turning_smaller now next bodies some step =
-    let same : (turn now).state ≡ next = ap (λ (z : Step). z.state) step in
+    let same : (assemble_first now).state ≡ next = ap (λ (z : Step). z.state) step in
     let queue : length next.queue ≡ length (drop 1 now.queue) = ap (λ (s : State). length s.queue) (sym same) ∙ ap length (turn_queue now some) in
     let fewer = fewer_queued now.queue some in
     omega arith
+
+-- one Turn: a list, and then what is answered
+pub turn_whole : (s now next : State) (bodies answers all : List (List ℕ)) → IsStep (assemble_first s) now bodies → IsStep (answer_waiting now) next answers → all ≡ bodies ++ answers → IsStep (turn s) next all
+turn_whole s now next bodies answers all list waited is =
+    ap (λ (z : Step). and_then z answer_waiting) list
+    ∙ ap (λ (z : Step). record { state = z.state; bodies = bodies ++ z.bodies }) waited
+    ∙ ap (λ z. record { state = next; bodies = z }) (sym is)

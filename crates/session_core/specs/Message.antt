@@ -22,7 +22,7 @@ use Rattle.session_core.specs.Refusals.{Kind, Opens, Asks, Ends, Tells, Neither,
 use Rattle.session_core.specs.Replies.{initialize_reply, shutdown_reply, list_body}
 use Rattle.session_core.specs.State.{State, document_at, number_named, programs, with_programs, without, last_list, published_without, is_empty}
 use Rattle.session_core.specs.Step.{Step, quiet, says, and_then}
-use Rattle.session_core.specs.Turn.{all_turns}
+use Rattle.session_core.specs.Turn.{assemble_all}
 
 -- ---- what an accepted message does
 
@@ -58,9 +58,9 @@ abbrev pub after_closing : State → Option PathId → Result Store StoreFault �
 after_closing s n (Ok store) = after_leaving s n store
 after_closing s n (Err fault) = quiet s
 
--- the Turns of all queued programs, and then the reply
+-- the lists of all queued programs, and then the reply
 abbrev pub shut : State → Id → Step
-shut s id = and_then (all_turns s) (λ t. says (record t { stage = Closing }) (shutdown_reply id))
+shut s id = and_then (assemble_all s) (λ t. says (record t { stage = Closing }) (shutdown_reply id))
 
 -- the session is at its end: after shutdown was answered, or before
 abbrev pub ended : State → State

@@ -1,5 +1,5 @@
--- A Turn: the first queued program leaves the queue, and its list is published, of its text as it is now (this project).
--- Nothing is kept of earlier lists but what was last published.
+-- A Turn: the first queued program leaves the queue, and its list is published, of its text as it is now; then what waits
+-- for an empty queue is answered (this project). Nothing is kept of earlier lists but what was last published.
 use Rattle.std.specs.Prelude.{ℕ, ℤ, zero, suc, Bool, false, ◌&&◌, List, Option, Some, None, length, drop, slice_get, if◌then◌else◌}
 use Rattle.std.specs.Ordering.{int_eq}
 use Rattle.hl_base.specs.declared.place.PathId.{PathId}
@@ -12,7 +12,7 @@ use Rattle.session_core.specs.State.{State, document_at, last_list, with_list}
 use Rattle.session_core.specs.Step.{Step, quiet, says, and_then}
 use Rattle.session_core.specs.Replies.{list_body}
 
--- this version and this list were the last to be published; before the first Turn of a program none was
+-- this version and this list were the last to be published; before the first list of a program none was
 abbrev pub is_published : Option LastList → ℤ → List Diagnostic → Bool
 is_published None version list = false
 is_published (Some last) version list = int_eq last.version version && is_same_list last.list list
@@ -25,7 +25,7 @@ publish s n document list =
     (record s { published = with_list s.published (record { path = n; version = document.version; list = list }) })
     (list_body document.uri (Some document.version) list)
 
--- the Turn of the document of a number
+-- the list of the document of a number
 abbrev pub turn_at : State → PathId → Option OpenDocument → Step
 turn_at s n None = quiet s
 turn_at s n (Some document) = publish s n document (diagnostics_of document.text)
@@ -38,15 +38,23 @@ abbrev pub turn_of : State → Option PathId → Step
 turn_of s None = quiet s
 turn_of s (Some n) = turn_at (without_first s) n (document_at s.store n)
 
--- one Turn; where no program is queued, nothing
-unfoldable pub turn : State → Step
-turn s = turn_of s (slice_get s.queue 0)
+-- the first queued program leaves the queue, and its list is published; where no program is queued, nothing
+unfoldable pub assemble_first : State → Step
+assemble_first s = turn_of s (slice_get s.queue 0)
 
--- so many Turns, one after another
-abbrev pub turns : ℕ → State → Step
-turns zero s = quiet s
-turns (suc n) s = and_then (turn s) (turns n)
+-- so many programs, one after another
+abbrev pub assemble_many : ℕ → State → Step
+assemble_many zero s = quiet s
+assemble_many (suc n) s = and_then (assemble_first s) (assemble_many n)
 
--- Turns until no program is queued
-abbrev pub all_turns : State → Step
-all_turns s = turns (length s.queue) s
+-- all queued programs; what waits is not answered between them
+abbrev pub assemble_all : State → Step
+assemble_all s = assemble_many (length s.queue) s
+
+-- what is answered where no program is queued: nothing waits for that yet
+abbrev pub answer_waiting : State → Step
+answer_waiting s = quiet s
+
+-- one Turn
+abbrev pub turn : State → Step
+turn s = and_then (assemble_first s) answer_waiting

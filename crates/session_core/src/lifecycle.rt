@@ -49,7 +49,7 @@ impl Standing {
         Ok(bodies)
     }
 
-    /// `shutdown`: the Turns of all queued programs, and then the reply.
+    /// `shutdown`: the lists of all queued programs, and then the reply.
     pub(crate) fn shutdown(&mut self, alloc: Global, id: Id) -> Result<Bodies, OutOfMemory>
         ensures { IfOk result (λ bodies. IsStep (messages.asked self.old (Ok (said.Shutdown id))) self.new bodies) }
     {
@@ -61,11 +61,11 @@ impl Standing {
         }
     }
 
-    /// The Turns, and then the reply.
+    /// The lists, and then the reply.
     fn shut(&mut self, alloc: Global, id: Id) -> Result<Bodies, OutOfMemory>
         ensures { IfOk result (λ bodies. IsStep (messages.shut self.old id) self.new bodies) }
     {
-        let mut bodies = self.all_turns(alloc)?;
+        let mut bodies = self.assemble_all(alloc)?;
         let reply = replies::shutdown_reply(alloc, id)?;
         bodies.push(reply)?;
         self.stage = Stage::Closing;

@@ -5,7 +5,7 @@ ghost use Rattle.session_core.specs.Replies.{list_body};
 ghost use Rattle.session_core.specs.Message.{farewell_at};
 ghost use Rattle.session_core.specs.State.{start, document_at, last_list};
 ghost use Rattle.session_core.specs.Step.{IsStep};
-ghost use Rattle.session_core.specs.Turn.{turn, turn_at, all_turns, is_published};
+ghost use Rattle.session_core.specs.Turn.{turn, turn_at, assemble_first, assemble_all, answer_waiting, is_published};
 
 use crate::bodies::Bodies;
 use crate::diagnostics::diagnostics_of;
@@ -98,9 +98,26 @@ impl Standing {
         !self.queue.is_empty()
     }
 
-    /// Makes one Turn, and answers what it publishes. After an `Err` the state is not to be used.
+    /// Makes one Turn, and answers what is written for it. After an `Err` the state is not to be used.
     pub(crate) fn turn(&mut self, alloc: Global) -> Result<Bodies, OutOfMemory>
         ensures { IfOk result (λ bodies. IsStep (turn self.old) self.new bodies) }
+    {
+        let mut bodies = self.assemble_first(alloc)?;
+        let answers = self.answer_waiting(alloc);
+        bodies.append(answers)?;
+        Ok(bodies)
+    }
+
+    /// Answers what waits for an empty queue. Nothing does yet.
+    fn answer_waiting(&mut self, alloc: Global) -> Bodies
+        ensures { IsStep (answer_waiting self.old) self.new result }
+    {
+        Bodies::none(alloc)
+    }
+
+    /// Takes the first program from the queue, and publishes its list. After an `Err` the state is not to be used.
+    fn assemble_first(&mut self, alloc: Global) -> Result<Bodies, OutOfMemory>
+        ensures { IfOk result (λ bodies. IsStep (assemble_first self.old) self.new bodies) }
     {
         let Some(path) = self.queue.first().copied() else {
             return Ok(Bodies::none(alloc));
@@ -150,13 +167,13 @@ impl Standing {
         Bodies::one(alloc, body)
     }
 
-    /// Makes Turns until no program is queued.
-    pub(crate) fn all_turns(&mut self, alloc: Global) -> Result<Bodies, OutOfMemory>
-        ensures { IfOk result (λ bodies. IsStep (all_turns self.old) self.new bodies) }
+    /// Publishes the lists of all queued programs.
+    pub(crate) fn assemble_all(&mut self, alloc: Global) -> Result<Bodies, OutOfMemory>
+        ensures { IfOk result (λ bodies. IsStep (assemble_all self.old) self.new bodies) }
     {
         let mut bodies = Bodies::none(alloc);
         'queue: while self.has_work() {
-            let more = self.turn(alloc)?;
+            let more = self.assemble_first(alloc)?;
             bodies.append(more)?;
         }
         Ok(bodies)

@@ -1,8 +1,8 @@
 use Rattle.std.proofs.Common.{length}
 use Rattle.session_core.proofs.TurnLaws.{IsTurning}
-use Rattle.session_core.proofs.standing.Standing.all_turns.Given as goal
+use Rattle.session_core.proofs.standing.Standing.assemble_all.Given as goal
 
--- what is written so far, and the Turns that are left, are all Turns
+-- what is written so far, and what is left, are all
 abbrev pub invariant-queue : goal.invariant-queue
 invariant-queue l = IsTurning l.initial.self l.self l.bodies
 

@@ -1,5 +1,5 @@
 use Rattle.session_core.proofs.TurnLaws.{turning_goes_on, turning_smaller, turning_told}
-use Rattle.session_core.proofs.standing.Standing.all_turns.Goals as goal
+use Rattle.session_core.proofs.standing.Standing.assemble_all.Goals as goal
 
 pub queue-smaller : goal.queue-smaller
 queue-smaller c = turning_smaller _ _ _ c.queue-test.ensures c.in_ok-more.ensures
