@@ -1,7 +1,6 @@
 -- Effects of statements go along trees of questions, over each frame.
-use Rattle.std.proofs.Common.{◌≡◌, refl, ℕ, true, false, List, [], ◌∷◌, ◌++◌, Option, Some, None}
-use Rattle.std.specs.Prelude.{pos, chars, encode_utf8_all, if◌then◌else◌}
-use Rattle.hl_base.specs.Symbols.{symbol_of}
+use Rattle.std.proofs.Common.{◌≡◌, refl, ℕ, Bool, true, false, List, [], ◌∷◌, ◌++◌, Option, Some, None}
+use Rattle.std.specs.Prelude.{pos, chars, if◌then◌else◌}
 use Rattle.hl_base.specs.declared.note.Severity.{Severity}
 use Rattle.hl_base.specs.declared.note.Severity.TheVariants.{Information}
 use Rattle.hl_base.specs.declared.set.Answer.{Answer}
@@ -12,9 +11,7 @@ use Rattle.hl_base.specs.declared.set.SetKind.TheVariants.{A, B, C}
 use Rattle.hl_base.specs.declared.set.SetValue.TheVariants as set
 use Rattle.hlasm_statements.specs.Fields.{ends_quoted}
 use Rattle.instruction_table.specs.Operations.{operation_of}
-use Rattle.expression_grammar.specs.declared.tree.Expr.{Expr}
 use Rattle.expression_grammar.specs.Trees.{Tree, Number, Here, Ordinary, Variable, Signed, Pair, Paren, Not, Compared, Quoted, Duplicated, Substring, SubstringToEnd, Joined}
-use Rattle.expression_grammar.specs.Views.{tree_of}
 use Rattle.cond_expr.specs.Outcome.{Gives, gives, and_then}
 use Rattle.cond_expr.specs.Characters.{not_below_0}
 use Rattle.cond_expr.specs.Troubles.{note}
@@ -24,24 +21,23 @@ use Rattle.cond_expr.specs.Frames.{Frame, told_by}
 use Rattle.cond_expr.proofs.AskingParts.{gives-asks, then-asks, answer-asks, test-asks}
 use Rattle.cond_expr.proofs.AskingValues.{number-asks, text-asks, numbers-asks, inserted-asks}
 use Rattle.conditional_fields.specs.Endings.{field_of}
-use Rattle.conditional_fields.specs.declared.branch.Goto.{Goto}
-use Rattle.conditional_fields.specs.declared.branch.Goto.TheVariants.{To, Among}
-use Rattle.conditional_fields.specs.declared.branch.Selector.{Selector}
-use Rattle.conditional_fields.specs.declared.template.Piece.{Piece}
-use Rattle.conditional_fields.specs.declared.template.Piece.TheVariants as piece
+use Rattle.statement_reading.specs.declared.task.Task.{Task}
+use Rattle.statement_reading.specs.Bodies as bodies
+use Rattle.statement_reading.specs.Branches as branches
+use Rattle.statement_reading.specs.Fields as fields
+use Rattle.statement_reading.specs.Messages.{Message}
+use Rattle.statement_reading.specs.Readings as readings
+use Rattle.statement_reading.specs.Settings.{Setting}
+use Rattle.statement_reading.specs.Tasks as tasks
+use Rattle.statement_reading.specs.Templates as templates
 use Rattle.conditional_asm.specs.declared.act.Act.TheVariants as act
-use Rattle.conditional_asm.specs.declared.generating.Fields.{Fields}
-use Rattle.conditional_asm.specs.declared.task.Task.{Task}
-use Rattle.conditional_asm.specs.Acts.{refused}
 use Rattle.conditional_asm.specs.Branching as branching
 use Rattle.conditional_asm.specs.Conditions as conditions
-use Rattle.conditional_asm.specs.Effects.{checked, nameless, unless_defined}
+use Rattle.conditional_asm.specs.Effects as effects
 use Rattle.conditional_asm.specs.Generating as generating
 use Rattle.conditional_asm.specs.Messages as messages
-use Rattle.conditional_asm.specs.Readings.{Body, Reading, unread, limits, goes, goes_if, declares, assigns, copies, says, generates, ends, ends_unread, defines, leaves, nothing, leaves_out, calls, idle, unread_operation, operation, doing, performing, operating, meaning, effect_of}
 use Rattle.conditional_asm.specs.Setting as settings
 use Rattle.conditional_asm.specs.Substitution as substitution
-use Rattle.conditional_asm.specs.Tasks as tasks
 use Rattle.conditional_asm.specs.Troubles as troubles
 
 -- ---- branches
@@ -49,19 +45,19 @@ use Rattle.conditional_asm.specs.Troubles as troubles
 pub counting-asks : (frame : Frame) (tree : Tree) → IsAsking (λ answers. branching.counting tree (told_by frame answers))
 counting-asks frame tree = then-asks (λ answers. values.number tree (told_by frame answers)) (λ answers n. gives (act.Actr (pos (not_below_0 n)))) (number-asks frame tree) (λ n. gives-asks (act.Actr (pos (not_below_0 n))) [])
 
-pub going-asks : (frame : Frame) (goto : Goto) → IsAsking (λ answers. branching.going goto (told_by frame answers))
-going-asks frame (To label) = gives-asks (act.Branch label) []
-going-asks frame (Among tree label labels) = then-asks (λ answers. values.number (tree_of tree) (told_by frame answers)) (λ answers n. gives (branching.chosen n (label ∷ labels.items)))
-    (number-asks frame (tree_of tree)) (λ n. gives-asks (branching.chosen n (label ∷ labels.items)) [])
+pub going-asks : (frame : Frame) (branch : branches.Branch) → IsAsking (λ answers. branching.going branch (told_by frame answers))
+going-asks frame (branches.to label) = gives-asks (act.Branch label) []
+going-asks frame (branches.among tree first others) = then-asks (λ answers. values.number tree (told_by frame answers)) (λ answers n. gives (branching.chosen n (first ∷ others)))
+    (number-asks frame tree) (λ n. gives-asks (branching.chosen n (first ∷ others)) [])
 
 holding-asks : (frame : Frame) (tree : Tree) → IsAsking (λ answers. conditions.holding tree (told_by frame answers))
 holding-asks frame tree = then-asks (λ answers. values.number tree (told_by frame answers)) (λ answers n. gives (values.is_true n)) (number-asks frame tree) (λ n. gives-asks (values.is_true n) [])
 
-pub choosing-asks : (frame : Frame) (pairs : List Selector) → IsAsking (λ answers. conditions.choosing pairs (told_by frame answers))
+pub choosing-asks : (frame : Frame) (pairs : List branches.Choice) → IsAsking (λ answers. conditions.choosing pairs (told_by frame answers))
 choosing-asks frame [] = gives-asks act.Next []
 choosing-asks frame (pair ∷ pairs) =
-    then-asks (λ answers. conditions.holding (tree_of pair.tree) (told_by frame answers)) (λ answers holds. if holds then gives (act.Branch pair.label) else conditions.choosing pairs (told_by frame answers))
-    (holding-asks frame (tree_of pair.tree))
+    then-asks (λ answers. conditions.holding pair.tree (told_by frame answers)) (λ answers holds. if holds then gives (act.Branch pair.label) else conditions.choosing pairs (told_by frame answers))
+    (holding-asks frame pair.tree)
     (λ holds. test-asks holds (λ answers. gives (act.Branch pair.label)) (λ answers. conditions.choosing pairs (told_by frame answers)) (gives-asks (act.Branch pair.label) []) (choosing-asks frame pairs))
 
 -- ---- values
@@ -87,24 +83,26 @@ value-asks frame A tree = then-asks (λ answers. values.number tree (told_by fra
 value-asks frame B tree = then-asks (λ answers. values.number tree (told_by frame answers)) (λ answers n. gives (set.B (values.is_true n))) (number-asks frame tree) (λ n. gives-asks (set.B (values.is_true n)) [])
 value-asks frame C tree = then-asks (λ answers. values.text tree (told_by frame answers)) (λ answers characters. gives (set.C characters)) (text-asks frame tree) (λ characters. gives-asks (set.C characters) [])
 
-pub assigning-asks : (frame : Frame) (kind : SetKind) (target operand : Tree) → IsAsking (λ answers. settings.assigning kind target operand (told_by frame answers))
-assigning-asks frame kind target operand =
-    then-asks (λ answers. settings.subscripts_of target (told_by frame answers)) (λ answers at. and_then (settings.value kind operand (told_by frame answers)) (λ v. gives (settings.set_to target at v))) (subscripts-asks frame target)
-    (λ at. then-asks (λ answers. settings.value kind operand (told_by frame answers)) (λ answers v. gives (settings.set_to target at v)) (value-asks frame kind operand) (λ v. gives-asks (settings.set_to target at v) []))
+pub assigning-asks : (frame : Frame) (kind : SetKind) (setting : Setting) → IsAsking (λ answers. settings.assigning kind setting (told_by frame answers))
+assigning-asks frame kind setting =
+    then-asks (λ answers. settings.subscripts_of setting.target (told_by frame answers)) (λ answers at. and_then (settings.value kind setting.value (told_by frame answers)) (λ v. gives (settings.set_to setting.target at v)))
+    (subscripts-asks frame setting.target)
+    (λ at. then-asks (λ answers. settings.value kind setting.value (told_by frame answers)) (λ answers v. gives (settings.set_to setting.target at v)) (value-asks frame kind setting.value)
+    (λ v. gives-asks (settings.set_to setting.target at v) []))
 
 -- ---- messages
 
-weighing-asks : (frame : Frame) (severity : Option Expr) → IsAsking (λ answers. messages.weighing severity (told_by frame answers))
+weighing-asks : (frame : Frame) (severity : Option Tree) → IsAsking (λ answers. messages.weighing severity (told_by frame answers))
 weighing-asks frame None = gives-asks Information []
-weighing-asks frame (Some tree) = then-asks (λ answers. values.number (tree_of tree) (told_by frame answers)) (λ answers n. gives (messages.weight n)) (number-asks frame (tree_of tree)) (λ n. gives-asks (messages.weight n) [])
+weighing-asks frame (Some tree) = then-asks (λ answers. values.number tree (told_by frame answers)) (λ answers n. gives (messages.weight n)) (number-asks frame tree) (λ n. gives-asks (messages.weight n) [])
 
 noted-asks : (severity : Severity) (words : List ℕ) → IsAsking (λ answers. messages.noted severity words)
 noted-asks severity words = gives-asks act.Next (note 0 severity words ∷ [])
 
-pub saying-asks : (frame : Frame) (severity : Option Expr) (tree : Tree) → IsAsking (λ answers. messages.saying severity tree (told_by frame answers))
-saying-asks frame severity tree =
-    then-asks (λ answers. messages.weighing severity (told_by frame answers)) (λ answers weight. messages.worded weight tree (told_by frame answers)) (weighing-asks frame severity)
-    (λ weight. then-asks (λ answers. values.text tree (told_by frame answers)) (λ answers words. messages.noted weight words) (text-asks frame tree) (noted-asks weight))
+pub saying-asks : (frame : Frame) (message : Message) → IsAsking (λ answers. messages.saying message (told_by frame answers))
+saying-asks frame message =
+    then-asks (λ answers. messages.weighing message.severity (told_by frame answers)) (λ answers weight. messages.worded weight message.text (told_by frame answers)) (weighing-asks frame message.severity)
+    (λ weight. then-asks (λ answers. values.text message.text (told_by frame answers)) (λ answers words. messages.noted weight words) (text-asks frame message.text) (noted-asks weight))
 
 -- ---- fields with the values of their variable symbols
 
@@ -124,93 +122,108 @@ symbol_text-asks frame (Substring whole start count) = gives-asks [] []
 symbol_text-asks frame (SubstringToEnd whole start) = gives-asks [] []
 symbol_text-asks frame (Joined left right) = gives-asks [] []
 
-piece-asks : (frame : Frame) (one : Piece) → IsAsking (λ answers. substitution.piece_text one (told_by frame answers))
-piece-asks frame (piece.Plain characters) = gives-asks characters []
-piece-asks frame (piece.Variable tree) = symbol_text-asks frame (tree_of tree)
+part-asks : (frame : Frame) (one : templates.Part) → IsAsking (λ answers. substitution.part_text one (told_by frame answers))
+part-asks frame (templates.plain characters) = gives-asks characters []
+part-asks frame (templates.variable tree) = symbol_text-asks frame tree
 
-pub substituted-asks : (frame : Frame) (pieces : List Piece) → IsAsking (λ answers. substitution.substituted pieces (told_by frame answers))
+pub substituted-asks : (frame : Frame) (parts : List templates.Part) → IsAsking (λ answers. substitution.substituted parts (told_by frame answers))
 substituted-asks frame [] = gives-asks [] []
-substituted-asks frame (one ∷ pieces) =
-    then-asks (λ answers. substitution.piece_text one (told_by frame answers)) (λ answers text. and_then (substitution.substituted pieces (told_by frame answers)) (λ rest. gives (text ++ rest))) (piece-asks frame one)
-    (λ text. then-asks (λ answers. substitution.substituted pieces (told_by frame answers)) (λ answers rest. gives (text ++ rest)) (substituted-asks frame pieces) (λ rest. gives-asks (text ++ rest) []))
+substituted-asks frame (one ∷ parts) =
+    then-asks (λ answers. substitution.part_text one (told_by frame answers)) (λ answers text. and_then (substitution.substituted parts (told_by frame answers)) (λ rest. gives (text ++ rest))) (part-asks frame one)
+    (λ text. then-asks (λ answers. substitution.substituted parts (told_by frame answers)) (λ answers rest. gives (text ++ rest)) (substituted-asks frame parts) (λ rest. gives-asks (text ++ rest) []))
 
-checked_line-asks : (line : Line) → IsAsking (λ answers. generating.checked_line line)
-checked_line-asks line = test-asks (ends_quoted line.operands) (λ answers. Gives line (troubles.open_apostrophe ∷ [])) (λ answers. gives line) (gives-asks line (troubles.open_apostrophe ∷ [])) (gives-asks line [])
+-- ---- generated statements
 
-abbrev line_of : (op label text : List ℕ) → Line
-line_of op label text = record { label = label; op = op; operands = field_of text }
+judged-asks : (open_end : Bool) → IsAsking (λ answers. generating.judged open_end)
+judged-asks open_end = test-asks open_end (λ answers. Gives open_end (troubles.open_apostrophe ∷ [])) (λ answers. gives open_end) (gives-asks open_end (troubles.open_apostrophe ∷ [])) (gives-asks open_end [])
 
-lined-asks : (frame : Frame) (op : List ℕ) (fields : Fields) → IsAsking (λ answers. generating.lined op fields (told_by frame answers))
-lined-asks frame op fields =
-    then-asks (λ answers. substitution.substituted fields.label.pieces.items (told_by frame answers))
-    (λ answers label. and_then (substitution.substituted fields.operands.pieces.items (told_by frame answers)) (λ text. generating.checked_line (line_of op label text))) (substituted-asks frame fields.label.pieces.items)
-    (λ label. then-asks (λ answers. substitution.substituted fields.operands.pieces.items (told_by frame answers)) (λ answers text. generating.checked_line (line_of op label text)) (substituted-asks frame fields.operands.pieces.items)
-    (λ text. checked_line-asks (line_of op label text)))
+judged_line-asks : (line : Line) → IsAsking (λ answers. generating.judged_line line)
+judged_line-asks line = then-asks (λ answers. generating.judged (ends_quoted line.operands)) (λ answers open_end. gives line) (judged-asks (ends_quoted line.operands)) (λ open_end. gives-asks line [])
+
+entry-asks : (frame : Frame) (entry : fields.Entry) → IsAsking (λ answers. generating.entry_text entry (told_by frame answers))
+entry-asks frame (fields.written text) = gives-asks text []
+entry-asks frame (fields.varying parts) = substituted-asks frame parts
+
+line_with-asks : (entry : fields.Entry) (op label operands : List ℕ) → IsAsking (λ answers. generating.line_with entry op label operands)
+line_with-asks (fields.written text) op label operands = gives-asks (record { label = label; op = op; operands = operands }) []
+line_with-asks (fields.varying parts) op label operands = judged_line-asks (record { label = label; op = op; operands = field_of operands })
+
+filled-asks : (frame : Frame) (op : List ℕ) (f : fields.Fields) → IsAsking (λ answers. generating.filled op f (told_by frame answers))
+filled-asks frame op f =
+    then-asks (λ answers. generating.entry_text f.label (told_by frame answers))
+    (λ answers label. and_then (generating.entry_text f.operands (told_by frame answers)) (λ operands. generating.line_with f.operands op label operands)) (entry-asks frame f.label)
+    (λ label. then-asks (λ answers. generating.entry_text f.operands (told_by frame answers)) (λ answers operands. generating.line_with f.operands op label operands) (entry-asks frame f.operands)
+    (line_with-asks f.operands op label))
+
+lined-asks : (frame : Frame) (op : List ℕ) (f : fields.Fields) → IsAsking (λ answers. generating.lined op f (told_by frame answers))
+lined-asks frame op f =
+    then-asks (λ answers. generating.judged f.open_end) (λ answers open_end. generating.filled op f (told_by frame answers)) (judged-asks f.open_end) (λ open_end. filled-asks frame op f)
 
 -- ---- what a statement does
-
-checked-asks : (field : List ℕ) → IsAsking (λ answers. checked field)
-checked-asks field = test-asks (ends_quoted field) (λ answers. Gives true (troubles.open_apostrophe ∷ [])) (λ answers. gives false) (gives-asks true (troubles.open_apostrophe ∷ [])) (gives-asks false [])
-
-refused-asks : (at : ℕ) → IsAsking (λ answers. refused at)
-refused-asks at = gives-asks act.Next (troubles.unreadable at ∷ [])
 
 answered : (op : List ℕ) (answers : Answers) (found : Option Answer) → generating.defined_by op found ≡ told (Op op) (λ answer. outcome answers (done (record { value = generating.is_definition answer; notes = [] }))) found
 answered op answers None = refl
 answered op answers (Some answer) = refl
 
-pub defined-asks : (frame : Frame) (op : List ℕ) → IsAsking (λ answers. generating.defined op (told_by frame answers))
+defined-asks : (frame : Frame) (op : List ℕ) → IsAsking (λ answers. generating.defined op (told_by frame answers))
 defined-asks frame op = answer-asks (Op op) (λ answer. done (record { value = generating.is_definition answer; notes = [] })) (λ answers. generating.defined_by op) (answered op)
 
-pub generating-asks : (frame : Frame) (op : List ℕ) (fields : Fields) → IsAsking (λ answers. generating.generating op fields (told_by frame answers))
-generating-asks frame op fields =
-    then-asks (λ answers. generating.lined op fields (told_by frame answers)) (λ answers line. gives (act.Generate line)) (lined-asks frame op fields) (λ line. gives-asks (act.Generate line) [])
+doing-asks : (frame : Frame) (body : bodies.Body) (name op : List ℕ) → IsAsking (λ answers. effects.doing body name op (told_by frame answers))
+doing-asks frame (bodies.unread at) name op = gives-asks act.Next (troubles.unreadable at ∷ [])
+doing-asks frame (bodies.limits count) name op = counting-asks frame count
+doing-asks frame (bodies.goes branch) name op = going-asks frame branch
+doing-asks frame (bodies.goes_if pairs) name op = choosing-asks frame pairs
+doing-asks frame (bodies.declares list) name op = gives-asks (act.Declare list) []
+doing-asks frame (bodies.assigns kind setting) name op = assigning-asks frame kind setting
+doing-asks frame (bodies.copies member) name op = gives-asks (act.Copy member) []
+doing-asks frame (bodies.says message) name op = saying-asks frame message
+doing-asks frame (bodies.generates f) name op =
+    then-asks (λ answers. generating.lined op f (told_by frame answers)) (λ answers line. gives (act.Generate line)) (lined-asks frame op f) (λ line. gives-asks (act.Generate line) [])
+doing-asks frame (bodies.ends f) name op =
+    then-asks (λ answers. generating.lined op f (told_by frame answers)) (λ answers line. gives act.End) (lined-asks frame op f) (λ line. gives-asks act.End [])
+doing-asks frame (bodies.ends_unread at) name op = gives-asks act.End (troubles.unreadable at ∷ [])
+doing-asks frame bodies.defines name op = gives-asks act.Define []
+doing-asks frame bodies.leaves name op = gives-asks act.Leave []
+doing-asks frame bodies.nothing name op = gives-asks act.Next []
+doing-asks frame bodies.leaves_out name op = gives-asks act.Next (troubles.left_out (chars name) ∷ [])
+doing-asks frame bodies.calls name op = gives-asks (act.Call name) []
 
-pub ending-asks : (frame : Frame) (op : List ℕ) (fields : Fields) → IsAsking (λ answers. and_then (generating.lined op fields (told_by frame answers)) (λ line. gives act.End))
-ending-asks frame op fields =
-    then-asks (λ answers. generating.lined op fields (told_by frame answers)) (λ answers line. gives act.End) (lined-asks frame op fields) (λ line. gives-asks act.End [])
+performing-asks : (frame : Frame) (does : Task) (open_end : Bool) (body : bodies.Body) (name op : List ℕ) → IsAsking (λ answers. effects.performing does open_end body name op (told_by frame answers))
+performing-asks frame does open_end body name op =
+    test-asks (tasks.is_generated does) (λ answers. effects.doing body name op (told_by frame answers)) (λ answers. and_then (generating.judged open_end) (λ _. effects.doing body name op (told_by frame answers)))
+    (doing-asks frame body name op)
+    (then-asks (λ answers. generating.judged open_end) (λ answers _. effects.doing body name op (told_by frame answers)) (judged-asks open_end) (λ _. doing-asks frame body name op))
 
-doing-asks : (frame : Frame) (body : Body) (name op : List ℕ) → IsAsking (λ answers. doing body name op (told_by frame answers))
-doing-asks frame (unread at) name op = refused-asks at
-doing-asks frame (limits count) name op = counting-asks frame (tree_of count)
-doing-asks frame (goes goto) name op = going-asks frame goto
-doing-asks frame (goes_if choices) name op = choosing-asks frame choices.pairs.items
-doing-asks frame (declares list) name op = gives-asks (act.Declare list) []
-doing-asks frame (assigns kind setting) name op = assigning-asks frame kind (tree_of setting.target) (tree_of setting.value)
-doing-asks frame (copies member) name op = gives-asks (act.Copy member) []
-doing-asks frame (says message) name op = saying-asks frame message.severity (tree_of message.text)
-doing-asks frame (generates fields) name op = generating-asks frame op fields
-doing-asks frame (ends fields) name op = ending-asks frame op fields
-doing-asks frame (ends_unread at) name op = gives-asks act.End (troubles.unreadable at ∷ [])
-doing-asks frame defines name op = gives-asks act.Define []
-doing-asks frame leaves name op = gives-asks act.Leave []
-doing-asks frame nothing name op = gives-asks act.Next []
-doing-asks frame leaves_out name op = gives-asks act.Next (troubles.left_out (chars name) ∷ [])
-doing-asks frame calls name op = gives-asks (act.Call name) []
+calling-asks : (name : List ℕ) (open_end : Bool) → IsAsking (λ answers. effects.calling name open_end)
+calling-asks name open_end = then-asks (λ answers. generating.judged open_end) (λ answers _. gives (act.Call name)) (judged-asks open_end) (λ _. gives-asks (act.Call name) [])
 
-performing-asks : (frame : Frame) (does : Task) (operands : List ℕ) (bodies : Task → Body) (name op : List ℕ) → IsAsking (λ answers. performing does operands bodies name op (told_by frame answers))
-performing-asks frame does operands bodies name op =
-    test-asks (tasks.is_generated does) (λ answers. doing (bodies does) name op (told_by frame answers)) (λ answers. and_then (checked operands) (λ open_end. doing (bodies does) name op (told_by frame answers)))
-    (doing-asks frame (bodies does) name op)
-    (then-asks (λ answers. checked operands) (λ answers open_end. doing (bodies does) name op (told_by frame answers)) (checked-asks operands) (λ open_end. doing-asks frame (bodies does) name op))
+operating-asks : (frame : Frame) (name op : List ℕ) (does : Task) (lasting open_end : Bool) (body : bodies.Body) → IsAsking (λ answers. effects.operating name op does lasting open_end body (told_by frame answers))
+operating-asks frame name op does lasting open_end body =
+    test-asks lasting (λ answers. effects.performing does open_end body name op (told_by frame answers))
+    (λ answers. and_then (generating.defined name (told_by frame answers)) (λ is. if is then effects.calling name open_end else effects.performing does open_end body name op (told_by frame answers)))
+    (performing-asks frame does open_end body name op)
+    (then-asks (λ answers. generating.defined name (told_by frame answers)) (λ answers is. if is then effects.calling name open_end else effects.performing does open_end body name op (told_by frame answers))
+    (defined-asks frame name)
+    (λ is. test-asks is (λ answers. effects.calling name open_end) (λ answers. effects.performing does open_end body name op (told_by frame answers)) (calling-asks name open_end)
+    (performing-asks frame does open_end body name op)))
 
-operating-asks : (frame : Frame) (operands : List ℕ) (bodies : Task → Body) (name op : List ℕ) → IsAsking (λ answers. operating operands bodies name op (told_by frame answers))
-operating-asks frame operands bodies name op =
-    let does = tasks.task name (operation_of name) in
-    test-asks (tasks.is_lasting (operation_of name)) (λ answers. performing does operands bodies name op (told_by frame answers))
-    (λ answers. and_then (generating.defined name (told_by frame answers)) (λ is. performing (unless_defined is does) operands bodies name op (told_by frame answers)))
-    (performing-asks frame does operands bodies name op)
-    (then-asks (λ answers. generating.defined name (told_by frame answers)) (λ answers is. performing (unless_defined is does) operands bodies name op (told_by frame answers)) (defined-asks frame name)
-    (λ is. performing-asks frame (unless_defined is does) operands bodies name op))
+complaining-asks : (op : List ℕ) (open_end : Bool) → IsAsking (λ answers. effects.complaining op open_end)
+complaining-asks op open_end =
+    then-asks (λ answers. generating.judged open_end) (λ answers _. Gives act.Next (effects.nameless op ∷ [])) (judged-asks open_end) (λ _. gives-asks act.Next (effects.nameless op ∷ []))
 
-meaning-asks : (frame : Frame) (found : Option (List ℕ)) (operands : List ℕ) (bodies : Task → Body) (op : List ℕ) → IsAsking (λ answers. meaning found operands bodies op (told_by frame answers))
-meaning-asks frame (Some name) operands bodies op = operating-asks frame operands bodies name op
-meaning-asks frame None operands bodies op =
-    then-asks (λ answers. checked operands) (λ answers open_end. Gives act.Next (nameless op ∷ [])) (checked-asks operands) (λ open_end. gives-asks act.Next (nameless op ∷ []))
+meaning-asks : (frame : Frame) (found : Option (List ℕ)) (label op operands : List ℕ) (open_end : Bool) → IsAsking (λ answers. effects.meaning found label op operands open_end (told_by frame answers))
+meaning-asks frame (Some name) label op operands open_end =
+    operating-asks frame name op (tasks.task name (operation_of name)) (tasks.is_lasting (operation_of name)) open_end (bodies.body (tasks.task name (operation_of name)) label operands)
+meaning-asks frame None label op operands open_end = complaining-asks op open_end
 
-pub effect-asks : (frame : Frame) (reading : Reading) → IsAsking (λ answers. effect_of reading (told_by frame answers))
-effect-asks frame idle = gives-asks act.Next []
-effect-asks frame (unread_operation at) = refused-asks at
-effect-asks frame (operation template operands bodies) =
-    then-asks (λ answers. substitution.substituted template.pieces.items (told_by frame answers)) (λ answers op. meaning (symbol_of (encode_utf8_all op)) operands bodies op (told_by frame answers)) (substituted-asks frame template.pieces.items)
-    (λ op. meaning-asks frame (symbol_of (encode_utf8_all op)) operands bodies op)
+instructed-asks : (frame : Frame) (instruction : readings.Instruction) → IsAsking (λ answers. effects.instructed instruction (told_by frame answers))
+instructed-asks frame readings.idle = gives-asks act.Next []
+instructed-asks frame (readings.unread at) = gives-asks act.Next (troubles.unreadable at ∷ [])
+instructed-asks frame (readings.nameless op open_end) = complaining-asks op open_end
+instructed-asks frame (readings.known name op does lasting open_end body) = operating-asks frame name op does lasting open_end body
+instructed-asks frame (readings.varying parts label operands open_end) =
+    then-asks (λ answers. substitution.substituted parts (told_by frame answers)) (λ answers op. effects.meaning (readings.name_of op) label op operands open_end (told_by frame answers)) (substituted-asks frame parts)
+    (λ op. meaning-asks frame (readings.name_of op) label op operands open_end)
+
+pub effect-asks : (frame : Frame) (reading : readings.Reading) → IsAsking (λ answers. effects.effect_of reading (told_by frame answers))
+effect-asks frame reading = instructed-asks frame reading.instruction

@@ -1,10 +1,4 @@
 pub mod SubstitutionLaws
-pub mod DeclaringLaws
-pub mod BranchingLaws
-pub mod SettingLaws
 pub mod ConditionLaws
 pub mod EffectLaws
-pub mod MessageLaws
 pub mod AskingActs
-pub mod ReadingLaws
-pub mod MoreAnswers

@@ -1,5 +1,6 @@
 -- How the texts of pieces make that of a field.
 use Rattle.std.proofs.Common.{◌≡◌, ◌∙◌, ◌+◌, ◌<◌, ◌≤◌, suc, length, get_or, drop, drop-cons, add-one, ℕ, List, [], ◌∷◌, ◌++◌, sym, ap, append_assoc, append-nil, Result, Ok, Err}
+use Rattle.std.specs.Prelude.{map}
 use Rattle.hl_base.specs.declared.note.Note.{Note}
 use Rattle.std.proofs.Math.ListN.{drop_of_length-le}
 use Rattle.cond_expr.specs.declared.stop.Stop.{Stop}
@@ -8,7 +9,8 @@ use Rattle.cond_expr.specs.Outcome.{Outcome, Gives, Asks, gives, and_then, Tells
 use Rattle.cond_expr.proofs.OutcomeLemmas.{Tells-stop}
 use Rattle.cond_expr.specs.Told.{Told}
 use Rattle.conditional_fields.specs.declared.template.Piece.{Piece}
-use Rattle.conditional_asm.specs.Substitution.{substituted, behind_text, piece_text}
+use Rattle.statement_reading.specs.Views.{part_of}
+use Rattle.conditional_asm.specs.Substitution.{substituted, behind_text, part_text}
 
 -- behind no text
 pub tells-all : (o : Outcome (List ℕ)) (before after : List Note) (r : Result (List ℕ) Stop) → Tells (behind_text [] o) before after r → Tells o before after r
@@ -48,11 +50,11 @@ tells-end done notes = (sym (append-nil done), sym (append-nil notes))
 
 -- one of some pieces, and then those behind it
 pub substituted-at : (pieces : List Piece) (i : ℕ) (one : Piece) (told : Told) → i < length pieces → one ≡ get_or pieces i one →
-    substituted (drop i pieces) told ≡ then_others (piece_text one told) (substituted (drop (i + 1) pieces) told)
+    substituted (map part_of (drop i pieces)) told ≡ then_others (part_text (part_of one) told) (substituted (map part_of (drop (i + 1) pieces)) told)
 substituted-at pieces i one told h is =
-    ap (λ ps. substituted ps told) (drop-cons pieces i one h ∙ ap (λ p. p ∷ drop (suc i) pieces) (sym is))
-    ∙ ap (λ k. then_others (piece_text one told) (substituted (drop k pieces) told)) (sym (add-one i))
+    ap (λ ps. substituted (map part_of ps) told) (drop-cons pieces i one h ∙ ap (λ p. p ∷ drop (suc i) pieces) (sym is))
+    ∙ ap (λ k. then_others (part_text (part_of one) told) (substituted (map part_of (drop k pieces)) told)) (sym (add-one i))
 
 -- past the last there is none
-pub substituted-past : (pieces : List Piece) (i : ℕ) (told : Told) → length pieces ≤ i → substituted (drop i pieces) told ≡ gives []
-substituted-past pieces i told h = ap (λ ps. substituted ps told) (drop_of_length-le pieces h)
+pub substituted-past : (pieces : List Piece) (i : ℕ) (told : Told) → length pieces ≤ i → substituted (map part_of (drop i pieces)) told ≡ gives []
+substituted-past pieces i told h = ap (λ ps. substituted (map part_of ps) told) (drop_of_length-le pieces h)

@@ -1,138 +1,99 @@
--- What one statement does (HLASM Language Reference SC26-4940, "Conditional assembly instructions", "Model statements"): its
--- operation gets the values of its variable symbols first, and then decides what happens.
-use Rattle.std.specs.Prelude.{◌≡◌, ℕ, Bool, true, false, List, [], ◌∷◌, ◌++◌, Option, Some, None, Result, Ok, Err, chars, encode_utf8_all, if◌then◌else◌}
-use Rattle.hl_base.specs.Symbols.{symbol_of}
+-- What one statement does (HLASM Language Reference SC26-4940, "Conditional assembly instructions", "Model statements"), as
+-- a function of the statement as it was read and of what is told: its operation gets the values of its variable symbols
+-- first, and then decides what happens.
+use Rattle.std.specs.Prelude.{◌≡◌, ℕ, Bool, true, false, List, [], ◌∷◌, Option, Some, None, chars, if◌then◌else◌}
 use Rattle.hl_base.specs.declared.note.Note.{Note}
-use Rattle.hlasm_statements.specs.Fields.{ends_quoted}
-use Rattle.hlasm_statements.specs.declared.statement.Shape.{Shape}
-use Rattle.hlasm_statements.specs.declared.statement.Shape.TheVariants as shape
-use Rattle.hlasm_statements.specs.declared.statement.Statement.{Statement}
 use Rattle.instruction_table.specs.Operations.{operation_of}
-use Rattle.expression_grammar.specs.declared.fault.SyntaxFault.{SyntaxFault}
-use Rattle.expression_grammar.specs.declared.fault.SyntaxFault.TheVariants as fault
-use Rattle.cond_expr.specs.declared.stop.Stop.{Stop}
-use Rattle.cond_expr.specs.declared.stop.Stop.TheVariants as stop
 use Rattle.cond_expr.specs.Told.{Told}
-use Rattle.cond_expr.specs.Outcome.{Outcome, Gives, Asks, gives, Tells}
-use Rattle.conditional_fields.specs.declared.template.Template.{Template}
-use Rattle.conditional_fields.specs.Templates.{IsTemplate, IsUnreadable}
+use Rattle.cond_expr.specs.Outcome.{Outcome, Gives, Asks, gives, and_then}
+use Rattle.statement_reading.specs.declared.task.Task.{Task}
+use Rattle.statement_reading.specs.Bodies as bodies
+use Rattle.statement_reading.specs.Readings as readings
+use Rattle.statement_reading.specs.Tasks as tasks
+use Rattle.statement_reading.specs.Templates.{Part}
 use Rattle.conditional_asm.specs.declared.act.Act.{Act}
 use Rattle.conditional_asm.specs.declared.act.Act.TheVariants as act
 use Rattle.conditional_asm.specs.declared.act.Effect.{Effect}
-use Rattle.conditional_asm.specs.declared.task.Task.{Task}
-use Rattle.conditional_asm.specs.declared.task.Task.TheVariants as task
-use Rattle.conditional_asm.specs.Acts.{refused, declaring, copying}
-use Rattle.conditional_asm.specs.Branching.{Goes, Counts}
-use Rattle.conditional_asm.specs.Conditions.{GoesIf}
-use Rattle.conditional_asm.specs.Generating.{Generates, Ends, defined}
-use Rattle.conditional_asm.specs.Messages.{Says}
-use Rattle.conditional_asm.specs.Setting.{Assigns}
+use Rattle.conditional_asm.specs.Branching.{going, counting}
+use Rattle.conditional_asm.specs.Conditions.{choosing}
+use Rattle.conditional_asm.specs.Generating.{defined, judged, lined}
+use Rattle.conditional_asm.specs.Messages.{saying}
+use Rattle.conditional_asm.specs.Setting.{assigning}
 use Rattle.conditional_asm.specs.Substitution.{substituted}
-use Rattle.conditional_asm.specs.Tasks as tasks
-use Rattle.conditional_asm.specs.Troubles.{no_operation, open_apostrophe, undefined, left_out}
+use Rattle.conditional_asm.specs.Troubles.{no_operation, undefined, left_out, unreadable}
 
--- Something that is told first, and then the rest, which knows its value. Only want of memory is free.
-abbrev pub Then : {V : Type 0} → Outcome V → (V → List Note → List Note → Result Act Stop → Type 0) → List Note → List Note → Result Act Stop → Type 0
-Then (Gives value notes) rest before after (Ok act) = rest value (before ++ notes) after (Ok act)
-Then (Gives value notes) rest before after (Err (stop.Asked key)) = rest value (before ++ notes) after (Err (stop.Asked key))
-Then (Gives value notes) rest before after (Err stop.OutOfMemory) = Unit {0}
-Then (Asks wanted) rest before after (Ok act) = ⊥
-Then (Asks wanted) rest before after (Err (stop.Asked key)) = key ≡ wanted
-Then (Asks wanted) rest before after (Err stop.OutOfMemory) = Unit {0}
+-- what is done by what the fields say, with this operation, whose name is that
+abbrev pub doing : bodies.Body → (name op : List ℕ) → Told → Outcome Act
+doing (bodies.unread at) name op told = Gives act.Next (unreadable at ∷ [])
+doing (bodies.limits count) name op told = counting count told
+doing (bodies.goes branch) name op told = going branch told
+doing (bodies.goes_if pairs) name op told = choosing pairs told
+doing (bodies.declares list) name op told = gives (act.Declare list)
+doing (bodies.assigns kind setting) name op told = assigning kind setting told
+doing (bodies.copies member) name op told = gives (act.Copy member)
+doing (bodies.says message) name op told = saying message told
+doing (bodies.generates fields) name op told = and_then (lined op fields told) (λ line. gives (act.Generate line))
+doing (bodies.ends fields) name op told = and_then (lined op fields told) (λ line. gives act.End)
+doing (bodies.ends_unread at) name op told = Gives act.End (unreadable at ∷ [])
+doing bodies.defines name op told = gives act.Define
+doing bodies.leaves name op told = gives act.Leave
+doing bodies.nothing name op told = gives act.Next
+doing bodies.leaves_out name op told = Gives act.Next (left_out (chars name) ∷ [])
+doing bodies.calls name op told = gives (act.Call name)
 
--- a field as it is read may end within quotes
-abbrev pub checked : List ℕ → Outcome Bool
-checked field = if ends_quoted field then Gives true (open_apostrophe ∷ []) else gives false
+-- a task behind the note of an operand field that as it is read ends within quotes; what is generated judges its own
+abbrev pub performing : Task → (open_end : Bool) → bodies.Body → (name op : List ℕ) → Told → Outcome Act
+performing does open_end body name op told =
+    if tasks.is_generated does then doing body name op told
+    else and_then (judged open_end) (λ _. doing body name op told)
 
--- what a task does, with the name of the operation and the fields of the statement
-abbrev pub Handles : Task → (name label op operands : List ℕ) → Told → List Note → List Note → Result Act Stop → Type 0
-Handles task.LimitBranches name label op operands told before after result = Counts operands told before after result
-Handles task.Go name label op operands told before after result = Goes operands told before after result
-Handles task.GoIf name label op operands told before after result = GoesIf operands told before after result
-Handles (task.Declare kind global) name label op operands told before after result = Tells (declaring kind global operands) before after result
-Handles (task.Assign kind) name label op operands told before after result = Assigns kind label operands told before after result
-Handles task.Define name label op operands told before after result = Tells (gives act.Define) before after result
-Handles task.Leave name label op operands told before after result = Tells (gives act.Leave) before after result
-Handles task.Copy name label op operands told before after result = Tells (copying operands) before after result
-Handles task.Say name label op operands told before after result = Says operands told before after result
-Handles task.Nothing name label op operands told before after result = Tells (gives act.Next) before after result
-Handles task.Generate name label op operands told before after result = Generates label op operands told before after result
-Handles task.End name label op operands told before after result = Ends label op operands told before after result
-Handles task.LeaveOut name label op operands told before after result = Tells (Gives act.Next (left_out (chars name) ∷ [])) before after result
-Handles task.Call name label op operands told before after result = Tells (gives (act.Call name)) before after result
+-- a call of the macro definition that replaces what an operation does
+abbrev pub calling : (name : List ℕ) (open_end : Bool) → Outcome Act
+calling name open_end = and_then (judged open_end) (λ _. gives (act.Call name))
 
--- the operand field of a statement that is not generated may end within quotes, which stops nothing
-abbrev pub PerformsWith : (generated : Bool) → Task → (name label op operands : List ℕ) → Told → List Note → List Note → Result Act Stop → Type 0
-PerformsWith true does name label op operands told before after result = Handles does name label op operands told before after result
-PerformsWith false does name label op operands told before after result =
-    Then (checked operands) (λ open_end. Handles does name label op operands told) before after result
+-- an operation with a name: a definition of it is asked for where one may replace it
+abbrev pub operating : (name op : List ℕ) (does : Task) (lasting open_end : Bool) → bodies.Body → Told → Outcome Act
+operating name op does lasting open_end body told =
+    if lasting then performing does open_end body name op told
+    else and_then (defined name told) (λ is. if is then calling name open_end else performing does open_end body name op told)
 
-abbrev pub Performs : Task → (name label op operands : List ℕ) → Told → List Note → List Note → Result Act Stop → Type 0
-Performs does name label op operands told before after result =
-    PerformsWith (tasks.is_generated does) does name label op operands told before after result
-
--- a macro definition of its name replaces an operation
-abbrev pub unless_defined : Bool → Task → Task
-unless_defined is does = if is then task.Call else does
-
--- an operation with a name: where it may be replaced, its definition is asked for
-abbrev pub OperatesWith : (lasting : Bool) → Task → (name label op operands : List ℕ) → Told → List Note → List Note → Result Act Stop → Type 0
-OperatesWith true does name label op operands told before after result = Performs does name label op operands told before after result
-OperatesWith false does name label op operands told before after result =
-    Then (defined name told) (λ is. Performs (unless_defined is does) name label op operands told) before after result
-
-abbrev pub Operates : (name label op operands : List ℕ) → Told → List Note → List Note → Result Act Stop → Type 0
-Operates name label op operands told before after result =
-    OperatesWith (tasks.is_lasting (operation_of name)) (tasks.task name (operation_of name)) name label op operands told before after result
-
--- what is wrong with an operation that is no name
+-- what is wrong with an operation that is no name: it is left away, or nothing defines it
 abbrev pub nameless : List ℕ → Note
 nameless [] = no_operation
 nameless (c ∷ op) = undefined (c ∷ op)
 
-abbrev pub Complains : (op operands : List ℕ) → List Note → List Note → Result Act Stop → Type 0
-Complains op operands before after result = Then (checked operands) (λ open_end. Tells (Gives act.Next (nameless op ∷ []))) before after result
+abbrev pub complaining : (op : List ℕ) (open_end : Bool) → Outcome Act
+complaining op open_end = and_then (judged open_end) (λ _. Gives act.Next (nameless op ∷ []))
 
--- a statement with this operation, whose name it is if it has one
-abbrev pub MeansWith : Option (List ℕ) → (label op operands : List ℕ) → Told → List Note → List Note → Result Act Stop → Type 0
-MeansWith (Some name) label op operands told before after result = Operates name label op operands told before after result
-MeansWith None label op operands told before after result = Complains op operands before after result
+-- an operation with this name, which got its values
+abbrev pub naming : (name label op operands : List ℕ) (open_end : Bool) → Told → Outcome Act
+naming name label op operands open_end told =
+    let does = tasks.task name (operation_of name) in
+    operating name op does (tasks.is_lasting (operation_of name)) open_end (bodies.body does label operands) told
 
-abbrev pub Means : (label op operands : List ℕ) → Told → List Note → List Note → Result Act Stop → Type 0
-Means label op operands told before after result = MeansWith (symbol_of (encode_utf8_all op)) label op operands told before after result
+-- an operation that got its values, and whose name it is if it has one
+abbrev pub meaning : Option (List ℕ) → (label op operands : List ℕ) (open_end : Bool) → Told → Outcome Act
+meaning (Some name) label op operands open_end told = naming name label op operands open_end told
+meaning None label op operands open_end told = complaining op open_end
 
--- how the operation is read
-abbrev pub IsRead : List ℕ → Result Template SyntaxFault → Type 0
-IsRead op (Ok template) = IsTemplate op template.pieces.items
-IsRead op (Err (fault.At at)) = IsUnreadable op at
-IsRead op (Err fault.OutOfMemory) = Unit {0}
+-- an operation with variable symbols
+abbrev pub varying : List Part → (label operands : List ℕ) (open_end : Bool) → Told → Outcome Act
+varying parts label operands open_end told =
+    and_then (substituted parts told) (λ op. meaning (readings.name_of op) label op operands open_end told)
 
--- an operation that is read gets its values; one that cannot be read does nothing
-abbrev pub Begins : Result Template SyntaxFault → (label operands : List ℕ) → Told → List Note → List Note → Result Act Stop → Type 0
-Begins (Ok template) label operands told before after result =
-    Then (substituted template.pieces.items told) (λ op. Means label op operands told) before after result
-Begins (Err (fault.At at)) label operands told before after result = Tells (refused at) before after result
-Begins (Err fault.OutOfMemory) label operands told before after result = result ≡ Err stop.OutOfMemory
+-- what a statement is told to do
+abbrev pub instructed : readings.Instruction → Told → Outcome Act
+instructed readings.idle told = gives act.Next
+instructed (readings.unread at) told = Gives act.Next (unreadable at ∷ [])
+instructed (readings.nameless op open_end) told = complaining op open_end
+instructed (readings.known name op does lasting open_end body) told = operating name op does lasting open_end body told
+instructed (readings.varying parts label operands open_end) told = varying parts label operands open_end told
 
--- a statement of these fields
-abbrev pub Follows : (label op operands : List ℕ) → Told → List Note → List Note → Result Act Stop → Type 0
-Follows label op operands told before after result =
-    (read : Result Template SyntaxFault) × IsRead op read × Begins read label operands told before after result
+-- the effect of a statement that was read
+abbrev pub effect_of : readings.Reading → Told → Outcome Act
+effect_of reading told = instructed reading.instruction told
 
--- a statement of some shape: a comment and a blank statement do nothing
-abbrev pub DoesWith : Shape → (label op operands : List ℕ) → Told → List Note → List Note → Result Act Stop → Type 0
-DoesWith shape.Plain label op operands told before after result = Follows label op operands told before after result
-DoesWith other label op operands told before after result = Tells (gives act.Next) before after result
-
-abbrev pub Does : Statement → Told → List Note → List Note → Result Act Stop → Type 0
-Does s told before after result = DoesWith s.shape s.label s.op s.operands told before after result
-
--- how an effect shows what was done: an act and the notes, or the key that is asked and no note
-abbrev pub IsShown : Effect → List Note → Result Act Stop → Type 0
-IsShown effect notes (Ok done) = (effect.act ≡ done) × (effect.notes ≡ notes)
-IsShown effect notes (Err (stop.Asked key)) = (effect.act ≡ act.Ask key) × (effect.notes ≡ [])
-IsShown effect notes (Err stop.OutOfMemory) = ⊥
-
--- the effect of one statement
-abbrev pub IsEffect : Statement → Told → Effect → Type 0
-IsEffect s told effect = (notes : List Note) × (done : Result Act Stop) × Does s told [] notes done × IsShown effect notes done
+-- how an outcome is shown: the act with its notes; or the key that is asked, and no note
+abbrev pub shown : Outcome Act → Effect
+shown (Gives done notes) = record { act = done; notes = notes }
+shown (Asks key) = record { act = act.Ask key; notes = [] }

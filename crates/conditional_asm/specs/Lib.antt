@@ -1,11 +1,8 @@
 pub mod Substitution
 pub mod Troubles
-pub mod Acts
 pub mod Branching
 pub mod Generating
 pub mod Setting
 pub mod Messages
-pub mod Tasks
 pub mod Conditions
 pub mod Effects
-pub mod Readings

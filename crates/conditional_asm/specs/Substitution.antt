@@ -2,27 +2,25 @@
 -- symbols and characters"): each is replaced by its value, a number in decimal.
 use Rattle.std.specs.Prelude.{ℕ, List, [], ◌∷◌, ◌++◌}
 use Rattle.expression_grammar.specs.Trees.{Tree, Variable}
-use Rattle.expression_grammar.specs.Views.{tree_of}
 use Rattle.cond_expr.specs.Told.{Told}
 use Rattle.cond_expr.specs.Outcome.{Outcome, gives, and_then}
 use Rattle.cond_expr.specs.Values.{inserted}
-use Rattle.conditional_fields.specs.declared.template.Piece.{Piece}
-use Rattle.conditional_fields.specs.declared.template.Piece.TheVariants as piece
+use Rattle.statement_reading.specs.Templates.{Part, plain, variable}
 
 -- the text of a variable symbol
 abbrev pub symbol_text : Tree → Told → Outcome (List ℕ)
 symbol_text (Variable asked symbol subscripts) told = inserted symbol subscripts told
 symbol_text other told = gives []
 
--- the text of a piece
-abbrev pub piece_text : Piece → Told → Outcome (List ℕ)
-piece_text (piece.Plain characters) told = gives characters
-piece_text (piece.Variable tree) told = symbol_text (tree_of tree) told
+-- the text of a part of a field
+abbrev pub part_text : Part → Told → Outcome (List ℕ)
+part_text (plain characters) told = gives characters
+part_text (variable tree) told = symbol_text tree told
 
--- the texts of some pieces behind one another, from left to right
-abbrev pub substituted : List Piece → Told → Outcome (List ℕ)
+-- the texts of some parts behind one another, from left to right
+abbrev pub substituted : List Part → Told → Outcome (List ℕ)
 substituted [] told = gives []
-substituted (one ∷ pieces) told = and_then (piece_text one told) (λ text. and_then (substituted pieces told) (λ rest. gives (text ++ rest)))
+substituted (one ∷ parts) told = and_then (part_text one told) (λ text. and_then (substituted parts told) (λ rest. gives (text ++ rest)))
 
 -- a text, and then what is told
 abbrev pub behind_text : List ℕ → Outcome (List ℕ) → Outcome (List ℕ)

@@ -1,50 +1,106 @@
-//! Generated statements, and END.
+//! Generated statements, and whether an operation is defined.
 //!
 //! Each call tells an outcome, as those of `cond_expr::evaluate`.
 ghost use Rattle.std.specs.Prelude.{◌≡◌, List};
-ghost use Rattle.std.specs.Str.{chars};
 ghost use Rattle.hl_base.specs.declared.note.Note.{Note};
 ghost use Rattle.cond_expr.specs.Outcome.{Tells};
+ghost use Rattle.statement_reading.specs.Views.{entry_of, fields_of};
 ghost use Rattle.conditional_asm.specs.Generating as generating;
 
-use crate::act::Act;
-use crate::declaring::refused;
 use crate::substitution::substitute;
 use crate::trouble;
 use cond_expr::{Lookups, Stop};
-use conditional_fields::{Template, ended};
+use conditional_fields::ended;
 use hl_base::{Answer, Key, Line, Name, Notes, Text};
 use hlasm_statements::ends_quoted;
-use operand_grammar::SyntaxFault;
+use statement_reading::{Entry, Fields};
 use std::alloc::Global;
 
-/// The name entry and the operands of a statement, as they are written.
-#[derive(Drop)]
-pub struct Fields {
-    pub label: Template,
-    pub operands: Template,
+/// An operand field that may end within quotes.
+pub fn judge(alloc: Global, open_end: bool, notes: &mut Notes) -> Result<bool, Stop>
+    ensures { Tells (generating.judged open_end) notes.old notes.new result }
+{
+    if open_end {
+        notes.push(trouble::open_apostrophe(alloc)?)?;
+        return Ok(true);
+    }
+    Ok(false)
 }
 
-/// Reads name entry and operands.
-fn read_fields(alloc: Global, label: &str, operands: &str) -> Result<Fields, SyntaxFault>
-    ensures { generating.AreRead (chars label.now) (chars operands.now) result }
+/// An entry with the values of its variable symbols.
+fn entry_text<Q: Lookups>(
+    alloc: Global,
+    entry: &Entry,
+    q: &mut Q,
+    notes: &mut Notes,
+) -> Result<Text, Stop>
+    ensures told { Q.told q.new ≡ Q.told q.old }
+    ensures tells { Tells (generating.entry_text (entry_of entry.now) (Q.told q.old)) notes.old notes.new result }
 {
-    match Template::read(alloc, label) {
-        Ok(label) => match Template::read(alloc, operands) {
-            Ok(operands) => Ok(Fields { label, operands }),
-            Err(fault) => Err(fault),
+    match entry {
+        Entry::Written(text) => Ok(text.copy(alloc)?),
+        Entry::Varying(template) => match substitute(alloc, template, q, notes) {
+            Ok(text) => Ok(text),
+            Err(stop) => Err(stop),
         },
-        Err(fault) => Err(fault),
     }
 }
 
 /// A line whose operand field may end within quotes.
-fn checked_line(alloc: Global, line: Line, notes: &mut Notes) -> Result<Line, Stop>
-    ensures { Tells (generating.checked_line line) notes.old notes.new result }
+fn judged_line(alloc: Global, line: Line, notes: &mut Notes) -> Result<Line, Stop>
+    ensures { Tells (generating.judged_line line) notes.old notes.new result }
 {
-    if ends_quoted(line.operands.as_str())? {
-        notes.push(trouble::open_apostrophe(alloc)?)?;
+    let open_end = ends_quoted(line.operands.as_str())?;
+    match judge(alloc, open_end, notes) {
+        Ok(_open_end) => Ok(line),
+        Err(stop) => Err(stop),
     }
+}
+
+/// A line with these texts: operands whose variable symbols got their values end anew.
+fn line_with(
+    alloc: Global,
+    entry: &Entry,
+    op: Text,
+    label: Text,
+    operands: Text,
+    notes: &mut Notes,
+) -> Result<Line, Stop>
+    ensures { Tells (generating.line_with (entry_of entry.now) op label operands) notes.old notes.new result }
+{
+    match entry {
+        Entry::Written(_) => Ok(Line {
+            label,
+            op,
+            operands,
+        }),
+        Entry::Varying(_) => {
+            let operands = ended(alloc, operands.as_str())?;
+            let line = Line {
+                label,
+                op,
+                operands,
+            };
+            judged_line(alloc, line, notes)
+        }
+    }
+}
+
+/// The line of an operation, behind the note of operands as they are written.
+fn filled<Q: Lookups>(
+    alloc: Global,
+    op: &Text,
+    fields: &Fields,
+    q: &mut Q,
+    notes: &mut Notes,
+) -> Result<Line, Stop>
+    ensures told { Q.told q.new ≡ Q.told q.old }
+    ensures tells { Tells (generating.filled op.now (fields_of fields.now) (Q.told q.old)) notes.old notes.new result }
+{
+    let label = entry_text(alloc, &fields.label, q, notes)?;
+    let operands = entry_text(alloc, &fields.operands, q, notes)?;
+    let op = op.copy(alloc)?;
+    let line = line_with(alloc, &fields.operands, op, label, operands, notes)?;
     Ok(line)
 }
 
@@ -57,68 +113,11 @@ pub fn lined<Q: Lookups>(
     notes: &mut Notes,
 ) -> Result<Line, Stop>
     ensures told { Q.told q.new ≡ Q.told q.old }
-    ensures tells { Tells (generating.lined op.now fields.now (Q.told q.old)) notes.old notes.new result }
+    ensures tells { Tells (generating.lined op.now (fields_of fields.now) (Q.told q.old)) notes.old notes.new result }
 {
-    let label = substitute(alloc, &fields.label, q, notes)?;
-    let text = substitute(alloc, &fields.operands, q, notes)?;
-    let operands = ended(alloc, text.as_str())?;
-    let op = op.copy(alloc)?;
-    let line = Line {
-        label,
-        op,
-        operands,
-    };
-    let line = checked_line(alloc, line, notes)?;
-    Ok(line)
-}
-
-/// What a statement does that is generated, with an operation that was substituted.
-pub fn generate<Q: Lookups>(
-    alloc: Global,
-    label: &str,
-    op: Text,
-    operands: &str,
-    q: &mut Q,
-    notes: &mut Notes,
-) -> Result<Act, Stop>
-    ensures told { Q.told q.new ≡ Q.told q.old }
-    ensures tells { generating.Generates (chars label.now) op (chars operands.now) (Q.told q.old) notes.old notes.new result }
-{
-    match read_fields(alloc, label, operands) {
-        Ok(fields) => match lined(alloc, &op, &fields, q, notes) {
-            Ok(line) => Ok(Act::Generate(line)),
-            Err(stop) => Err(stop),
-        },
-        Err(SyntaxFault::At(at)) => match refused(alloc, at, notes) {
-            Ok(act) => Ok(act),
-            Err(stop) => Err(stop),
-        },
-        Err(SyntaxFault::OutOfMemory) => Err(Stop::OutOfMemory),
-    }
-}
-
-/// What END does.
-pub fn end<Q: Lookups>(
-    alloc: Global,
-    label: &str,
-    op: Text,
-    operands: &str,
-    q: &mut Q,
-    notes: &mut Notes,
-) -> Result<Act, Stop>
-    ensures told { Q.told q.new ≡ Q.told q.old }
-    ensures tells { generating.Ends (chars label.now) op (chars operands.now) (Q.told q.old) notes.old notes.new result }
-{
-    match read_fields(alloc, label, operands) {
-        Ok(fields) => match lined(alloc, &op, &fields, q, notes) {
-            Ok(_line) => Ok(Act::End),
-            Err(stop) => Err(stop),
-        },
-        Err(SyntaxFault::At(at)) => {
-            notes.push(trouble::unreadable(alloc, at)?)?;
-            Ok(Act::End)
-        }
-        Err(SyntaxFault::OutOfMemory) => Err(Stop::OutOfMemory),
+    match judge(alloc, fields.open_end, notes) {
+        Ok(_open_end) => filled(alloc, op, fields, q, notes),
+        Err(stop) => Err(stop),
     }
 }
 

@@ -2,80 +2,19 @@
 //!
 //! Each call tells an outcome, as those of `cond_expr::evaluate`.
 ghost use Rattle.std.specs.Prelude.{◌≡◌};
-ghost use Rattle.std.specs.Str.{chars};
 ghost use Rattle.expression_grammar.specs.Views.{tree_of};
 ghost use Rattle.cond_expr.specs.Outcome.{Tells};
 ghost use Rattle.cond_expr.specs.Characters.{not_below_0};
+ghost use Rattle.statement_reading.specs.Views.{setting_of};
 ghost use Rattle.conditional_asm.specs.Setting as settings;
 
 use crate::act::Act;
-use crate::declaring::refused;
 use cond_expr::evaluate::{number, numbers, text};
 use cond_expr::{Lookups, Numbers, Stop};
-use conditional_fields::character::{begins_with, character_count};
-use conditional_fields::front::{Sought, reach};
-use conditional_fields::place::fault_at;
-use conditional_fields::template::symbol;
 use hl_base::{Notes, SetKind, SetValue};
-use operand_grammar::{Expr, SyntaxFault, parse_arith, parse_char, parse_logic};
+use operand_grammar::Expr;
+use statement_reading::Setting;
 use std::alloc::Global;
-
-/// The SET symbol that gets a value, and the value, as they are written.
-#[derive(Drop)]
-pub struct Setting {
-    pub target: Expr,
-    pub value: Expr,
-}
-
-/// A name entry as a variable symbol.
-fn target(alloc: Global, label: &str) -> Result<Expr, SyntaxFault>
-    ensures { settings.IsTarget (chars label.now) result }
-{
-    if !begins_with(label, '&') {
-        return Err(SyntaxFault::At(0));
-    }
-    match symbol(alloc, label)? {
-        Some(found) => {
-            if found.length == character_count(label) {
-                return Ok(found.tree);
-            }
-            Err(fault_at(found.length, 0))
-        }
-        None => {
-            let at = reach(alloc, Sought::Variable, label)?;
-            Err(SyntaxFault::At(at))
-        }
-    }
-}
-
-/// An operand as a value.
-fn operand(alloc: Global, kind: SetKind, field: &str) -> Result<Expr, SyntaxFault>
-    ensures { settings.IsOperand kind (chars field.now) result }
-{
-    match kind {
-        SetKind::A => parse_arith(alloc, field),
-        SetKind::B => parse_logic(alloc, field),
-        SetKind::C => parse_char(alloc, field),
-    }
-}
-
-/// Reads name entry and operand.
-fn read_setting(
-    alloc: Global,
-    kind: SetKind,
-    label: &str,
-    field: &str,
-) -> Result<Setting, SyntaxFault>
-    ensures { settings.IsSetting kind (chars label.now) (chars field.now) result }
-{
-    match target(alloc, label) {
-        Ok(target) => match operand(alloc, kind, field) {
-            Ok(value) => Ok(Setting { target, value }),
-            Err(fault) => Err(fault),
-        },
-        Err(fault) => Err(fault),
-    }
-}
 
 /// The numbers of a variable symbol's subscripts.
 fn subscripts_of<Q: Lookups>(
@@ -177,7 +116,7 @@ fn set_to(tree: &Expr, at: &Numbers, value: SetValue) -> Act
     }
 }
 
-/// What SETA, SETB or SETC that is read does: the subscripts first, and then the value.
+/// What SETA, SETB or SETC does, by the type of its SET symbol: the subscripts first, and then the value.
 pub fn assigning<Q: Lookups>(
     alloc: Global,
     kind: SetKind,
@@ -186,35 +125,9 @@ pub fn assigning<Q: Lookups>(
     notes: &mut Notes,
 ) -> Result<Act, Stop>
     ensures told { Q.told q.new ≡ Q.told q.old }
-    ensures tells { Tells (settings.assigning kind (tree_of setting.now.target) (tree_of setting.now.value) (Q.told q.old)) notes.old notes.new result }
+    ensures tells { Tells (settings.assigning kind (setting_of setting.now) (Q.told q.old)) notes.old notes.new result }
 {
     let at = subscripts_of(alloc, &setting.target, q, notes)?;
     let value = value_of(alloc, kind, &setting.value, q, notes)?;
     Ok(set_to(&setting.target, &at, value))
-}
-
-/// What SETA, SETB or SETC does, by the type of its SET symbol. The operand of SETB is a logical expression, whose
-/// parentheses are its own: it may stand without.
-pub fn assign<Q: Lookups>(
-    alloc: Global,
-    kind: SetKind,
-    label: &str,
-    field: &str,
-    q: &mut Q,
-    notes: &mut Notes,
-) -> Result<Act, Stop>
-    ensures told { Q.told q.new ≡ Q.told q.old }
-    ensures tells { settings.Assigns kind (chars label.now) (chars field.now) (Q.told q.old) notes.old notes.new result }
-{
-    match read_setting(alloc, kind, label, field) {
-        Ok(read) => match assigning(alloc, kind, &read, q, notes) {
-            Ok(act) => Ok(act),
-            Err(stop) => Err(stop),
-        },
-        Err(SyntaxFault::At(at)) => match refused(alloc, at, notes) {
-            Ok(act) => Ok(act),
-            Err(stop) => Err(stop),
-        },
-        Err(SyntaxFault::OutOfMemory) => Err(Stop::OutOfMemory),
-    }
 }

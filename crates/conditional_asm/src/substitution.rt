@@ -1,16 +1,17 @@
 //! Fields with the values of their variable symbols.
 //!
 //! Each call tells an outcome, as those of `cond_expr::evaluate`.
-ghost use Rattle.std.specs.Prelude.{◌≡◌};
+ghost use Rattle.std.specs.Prelude.{◌≡◌, map};
 ghost use Rattle.expression_grammar.specs.Views.{tree_of};
 ghost use Rattle.cond_expr.specs.Outcome.{Tells};
+ghost use Rattle.statement_reading.specs.Views.{part_of, parts_of};
 ghost use Rattle.conditional_asm.specs.Substitution as substitution;
 
 use cond_expr::evaluate::inserted;
 use cond_expr::{Lookups, Stop};
-use conditional_fields::{Piece, Template};
 use hl_base::{Notes, Text};
 use operand_grammar::Expr;
+use statement_reading::{Piece, Template};
 use std::alloc::Global;
 
 /// The text of a variable symbol.
@@ -54,7 +55,7 @@ fn piece_text<Q: Lookups>(
     notes: &mut Notes,
 ) -> Result<Text, Stop>
     ensures told { Q.told q.new ≡ Q.told q.old }
-    ensures tells { Tells (substitution.piece_text piece.now (Q.told q.old)) notes.old notes.new result }
+    ensures tells { Tells (substitution.part_text (part_of piece.now) (Q.told q.old)) notes.old notes.new result }
 {
     match piece {
         Piece::Plain(text) => Ok(text.copy(alloc)?),
@@ -70,7 +71,7 @@ fn pieces_text<Q: Lookups>(
     notes: &mut Notes,
 ) -> Result<Text, Stop>
     ensures told { Q.told q.new ≡ Q.told q.old }
-    ensures tells { Tells (substitution.substituted pieces.now (Q.told q.old)) notes.old notes.new result }
+    ensures tells { Tells (substitution.substituted (map part_of pieces.now) (Q.told q.old)) notes.old notes.new result }
 {
     let mut whole = Text::new(alloc);
     for piece in pieces {
@@ -90,7 +91,7 @@ pub fn substitute<Q: Lookups>(
     notes: &mut Notes,
 ) -> Result<Text, Stop>
     ensures told { Q.told q.new ≡ Q.told q.old }
-    ensures tells { Tells (substitution.substituted template.now.pieces.items (Q.told q.old)) notes.old notes.new result }
+    ensures tells { Tells (substitution.substituted (parts_of template.now) (Q.told q.old)) notes.old notes.new result }
 {
     match pieces_text(alloc, template.pieces.as_slice(), q, notes) {
         Ok(text) => Ok(text),

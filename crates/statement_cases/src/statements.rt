@@ -1,7 +1,7 @@
 //! What statements of conditional assembly do.
 use case_words::{Surroundings, key, noted, value};
 use cond_expr::Stop;
-use conditional_asm::{Act, assign, effect, end, generate, go, go_if, limit_branches};
+use conditional_asm::{Act, Task, doing, effect, read_body};
 use hl_base::{Declaration, Name, Notes, OutOfMemory, SetKind, SetValue, Text};
 use hlasm_statements::read_statements;
 use std::alloc::{AllocError, Global};
@@ -82,43 +82,32 @@ pub fn first_effect(
     }
 }
 
-/// What an operation does that reads its fields so; any other than those below is generated.
-fn stopped(
-    alloc: Global,
-    among: &mut Surroundings,
-    operation: &str,
-    label: &str,
-    field: &str,
-    notes: &mut Notes,
-) -> Result<Act, Stop> {
+/// What a statement with this operation does; any other than those below is generated.
+fn task(operation: &str) -> Task {
     match operation {
-        "SETA" => assign(alloc, SetKind::A, label, field, among, notes),
-        "SETB" => assign(alloc, SetKind::B, label, field, among, notes),
-        "SETC" => assign(alloc, SetKind::C, label, field, among, notes),
-        "AGO" => go(alloc, field, among, notes),
-        "AIF" => go_if(alloc, field, among, notes),
-        "ACTR" => limit_branches(alloc, field, among, notes),
-        _ => written(alloc, among, operation, label, field, notes),
+        "SETA" => Task::Assign(SetKind::A),
+        "SETB" => Task::Assign(SetKind::B),
+        "SETC" => Task::Assign(SetKind::C),
+        "AGO" => Task::Go,
+        "AIF" => Task::GoIf,
+        "ACTR" => Task::LimitBranches,
+        "END" => Task::End,
+        _ => Task::Generate,
     }
 }
 
-/// What END or a generated statement does.
-fn written(
+/// What an operation of this name does with these fields.
+fn stopped(
     alloc: Global,
     among: &mut Surroundings,
-    operation: &str,
+    name: &Name,
     label: &str,
     field: &str,
     notes: &mut Notes,
 ) -> Result<Act, Stop> {
-    let op = match Text::of(alloc, operation) {
-        Ok(op) => op,
-        Err(OutOfMemory) => return Err(Stop::OutOfMemory),
-    };
-    match operation {
-        "END" => end(alloc, label, op, field, among, notes),
-        _ => generate(alloc, label, op, field, among, notes),
-    }
+    let body = read_body(alloc, task(name.text()), label, field)?;
+    let op = Text::of(alloc, name.text())?;
+    doing(alloc, &body, name, &op, among, notes)
 }
 
 /// What an operation does with these fields, and its notes, or what it asks.
@@ -129,8 +118,11 @@ pub fn done(
     label: &str,
     field: &str,
 ) -> Result<String, OutOfMemory> {
+    let Some(name) = Name::read(operation) else {
+        return Ok(String::from_str(alloc, "no operation")?);
+    };
     let mut notes = Notes::new(alloc);
-    match stopped(alloc, among, operation, label, field, &mut notes) {
+    match stopped(alloc, among, &name, label, field, &mut notes) {
         Ok(done) => noted(alloc, act(alloc, &done)?, &notes),
         Err(Stop::Asked(asked)) => Ok(key(alloc, &asked)?),
         Err(Stop::OutOfMemory) => Err(OutOfMemory),

@@ -1,4 +1,6 @@
 use Rattle.std.proofs.Common.{◌∙◌, ◌+◌, Bool, true, false, drop, Ok, Err, sym, ap, subst, refl}
+use Rattle.std.specs.Prelude.{map}
+use Rattle.statement_reading.specs.Views.{choice_of}
 use Rattle.expression_grammar.specs.Views.{tree_of}
 use Rattle.cond_expr.specs.Told.{Told}
 use Rattle.cond_expr.specs.Outcome.{Outcome, Tells}
@@ -26,7 +28,7 @@ returns-in-Err g c =
       tells = c.loop-pair.invariant.whole c.holding.new.notes (Err stop)
           (subst (λ (o : Outcome Act). Tells o c.loop-pair.notes c.holding.new.notes (Err stop))
           (sym (choosing-at all i one told c.loop-pair-test.true c.pair-item.is))
-          (Tells-stop (holding (tree_of one.tree) told) (tried one (choosing (drop (i + 1) all) told)) c.loop-pair.notes c.holding.new.notes c.holding.new.notes stop first));
+          (Tells-stop (holding (tree_of one.tree) told) (tried (choice_of one) (choosing (map choice_of (drop (i + 1) all)) told)) c.loop-pair.notes c.holding.new.notes c.holding.new.notes stop first));
     }
 
 pub returns-then-holds : goal.returns-then-holds
@@ -43,7 +45,7 @@ returns-then-holds g c =
       tells = c.loop-pair.invariant.whole c.holding.new.notes (Ok (Branch c.copy.result))
           (subst (λ (o : Outcome Act). Tells o c.loop-pair.notes c.holding.new.notes (Ok (Branch c.copy.result)))
           (sym (choosing-at all i one told c.loop-pair-test.true c.pair-item.is))
-          (Tells-and_then (holding (tree_of one.tree) told) (tried one (choosing (drop (i + 1) all) told)) c.loop-pair.notes c.holding.new.notes c.holding.new.notes true (Ok (Branch c.copy.result)) first
+          (Tells-and_then (holding (tree_of one.tree) told) (tried (choice_of one) (choosing (map choice_of (drop (i + 1) all)) told)) c.loop-pair.notes c.holding.new.notes c.holding.new.notes true (Ok (Branch c.copy.result)) first
           (Tells-gives (Branch one.label) (Branch c.copy.result) c.holding.new.notes (ap Branch c.copy.ensures))));
     }
 
@@ -61,7 +63,7 @@ loop-pair-preserved g c =
       whole = λ after r t. c.loop-pair.invariant.whole after r
           (subst (λ (o : Outcome Act). Tells o c.loop-pair.notes after r)
           (sym (choosing-at all i one told c.loop-pair-test.true c.pair-item.is))
-          (Tells-and_then (holding (tree_of one.tree) told) (tried one (choosing (drop (i + 1) all) told)) c.loop-pair.notes c.holding.new.notes after false r first t));
+          (Tells-and_then (holding (tree_of one.tree) told) (tried (choice_of one) (choosing (map choice_of (drop (i + 1) all)) told)) c.loop-pair.notes c.holding.new.notes after false r first t));
     }
 
 pub returns : goal.returns
