@@ -2,3 +2,4 @@ pub mod LatestLaws
 pub mod Searching
 pub mod KeptLists
 pub mod Reused
+pub mod Walking

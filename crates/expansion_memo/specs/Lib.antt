@@ -6,3 +6,5 @@ pub mod Entries
 pub mod Firsts
 pub mod Finding
 pub mod Reuse
+pub mod Walks
+pub mod Within

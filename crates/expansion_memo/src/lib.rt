@@ -5,7 +5,8 @@
 //! is then as the plain run of the call leaves it, the node has its points, and its end and cost are the run's. `keep`
 //! keeps one more, and `retire` gives up exactly those whose nodes are no longer live.
 //!
-//! It knows nothing of HLASM, of what a key asks and of what an item says. It does not run a machine yet.
+//! It knows nothing of HLASM, of what a key asks and of what an item says. `begin` and
+//! `advance` run a call step by step, as far as the next unit of fuel or nested call; the function that runs a whole call is not there yet.
 #![tactic(auto)]
 
 mod entry;
@@ -15,7 +16,11 @@ mod memo;
 mod number_index;
 mod outcome;
 mod table;
+mod walk;
+mod within;
 
 pub use entry::Entry;
 pub use memo::Memo;
 pub use outcome::{Ended, Outcome};
+pub use walk::{Next, Walk, advance, begin};
+pub use within::reuse_within;
