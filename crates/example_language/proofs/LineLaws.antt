@@ -69,10 +69,12 @@ key_test : (k : Question) (n : Noted Question Value) (ns : List (Noted Question 
     told (n ∷ ns) ≡ cond (same_tree (question_tree k) value_key) (Some (value_tree n.value)) (told ns)
 key_test k n ns is = ap (λ y. cond (same_tree (question_tree y) value_key) (Some (value_tree n.value)) (told ns)) is
 
-from : (ns : List (Noted Question Value)) (i : ℕ) (d : Noted Question Value) → i < length ns → told (drop i ns) ≡ told (get_or ns i d ∷ drop (suc i) ns)
+from : (ns : List (Noted Question Value)) (i : ℕ) (d : Noted Question Value) → i < length ns →
+    told (drop i ns) ≡ told (get_or ns i d ∷ drop (suc i) ns)
 from ns i d lt = ap told (drop-cons ns i d lt)
 
-pub told-here : (ns : List (Noted Question Value)) (i : ℕ) (d : Noted Question Value) → i < length ns → (get_or ns i d).key ≡ question.Value →
+pub told-here : (ns : List (Noted Question Value)) (i : ℕ) (d : Noted Question Value) → i < length ns →
+    (get_or ns i d).key ≡ question.Value →
     told (drop i ns) ≡ told ns → Some (Leaf (get_or ns i d).value.number) ≡ told ns
 told-here ns i d lt is so_far =
     sym (key_test question.Value (get_or ns i d) (drop (suc i) ns) is) ∙ sym (from ns i d lt) ∙ so_far
@@ -80,7 +82,10 @@ told-here ns i d lt is so_far =
 pub told-on : (ns : List (Noted Question Value)) (i : ℕ) (d : Noted Question Value) → i < length ns → (get_or ns i d).key ≡ question.Calls →
     told (drop i ns) ≡ told ns → told (drop (i + 1) ns) ≡ told ns
 told-on ns i d lt is so_far =
-    ap (λ k. told (drop k ns)) (add-one i) ∙ sym (key_test question.Calls (get_or ns i d) (drop (suc i) ns) is) ∙ sym (from ns i d lt) ∙ so_far
+    ap (λ k. told (drop k ns)) (add-one i)
+    ∙ sym (key_test question.Calls (get_or ns i d) (drop (suc i) ns) is)
+    ∙ sym (from ns i d lt)
+    ∙ so_far
 
 pub told-none : (ns : List (Noted Question Value)) (i : ℕ) → length ns ≤ i → told (drop i ns) ≡ told ns → None ≡ told ns
 told-none ns i le so_far = sym (ap told (drop_all i ns le)) ∙ so_far

@@ -35,14 +35,16 @@ leads_as_far V B evaluation is = λ made given. leads made is.tree given ∙ sym
 
 pub comes_to_the_result : (A B : Type 0) (tree : typed.Asking A) → ComesToTheResult B tree
 comes_to_the_result A B (typed.done result) = λ made answer. refl
-comes_to_the_result A B (typed.needs key next) = λ made answer. comes_to_the_result A B (next (answer_in (answer (key_tree key)))) made answer
+comes_to_the_result A B (typed.needs key next) =
+    λ made answer. comes_to_the_result A B (next (answer_in (answer (key_tree key)))) made answer
 
 gives_result : {V : Type 0} (answer : Key → Answer) (tree : typed.Asking (Noted V)) →
     outcome (λ key. Some (answer key)) tree ≡ Gives (result_of answer tree).value (result_of answer tree).notes
 gives_result answer (typed.done noted) = refl
 gives_result answer (typed.needs key next) = gives_result answer (next (answer key))
 
-pub evaluates_to_the_result : (V : Type 0) (evaluation : Answers → Outcome V) (is : IsAsking evaluation) → EvaluatesToTheResult evaluation is
+pub evaluates_to_the_result : (V : Type 0) (evaluation : Answers → Outcome V) (is : IsAsking evaluation) →
+    EvaluatesToTheResult evaluation is
 evaluates_to_the_result V evaluation is = λ answer. is.is (λ key. Some (answer key)) ∙ gives_result answer is.tree
 
 found_or_not : (b : Bool) (a : Answer) (o : Option Tree) (rest : Option Answer) → option_map answer_in o ≡ rest →
@@ -53,5 +55,5 @@ found_or_not false a o rest is = is
 pub tells_what_is_noted : TellsWhatIsNoted
 tells_what_is_noted [] key = refl
 tells_what_is_noted (n ∷ ns) key =
-    found_or_not (same_tree (key_tree n.key) (key_tree key)) n.value (look_up (pairs_of key_tree answer_tree ns) (key_tree key)) (answer_to ns key)
-    (tells_what_is_noted ns key)
+    found_or_not (same_tree (key_tree n.key) (key_tree key)) n.value (look_up (pairs_of key_tree answer_tree ns) (key_tree key))
+    (answer_to ns key) (tells_what_is_noted ns key)

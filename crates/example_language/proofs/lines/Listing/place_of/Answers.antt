@@ -6,8 +6,8 @@ use Rattle.example_language.proofs.lines.Listing.place_of.Goals as goal
 
 pub returns-then-has_label : goal.returns-then-has_label
 returns-then-has_label c =
-    first-here line_by (λ s. has_example_label s c.args.label) c.args.self.now.lines.items c.as_slice-line-items.result.now c.loop-line.line-index _
-    c.loop-line.position c.as_slice-line-items.ensures.value c.loop-line-test.true c.loop-line.invariant.at c.if-has_label.ensures
+    first-here line_by (λ s. has_example_label s c.args.label) c.args.self.now.lines.items c.as_slice-line-items.result.now
+    c.loop-line.line-index _ c.loop-line.position c.as_slice-line-items.ensures.value c.loop-line-test.true c.loop-line.invariant.at c.if-has_label.ensures
     c.loop-line.invariant.rest
 
 pub loop-line-preserved : goal.loop-line-preserved
@@ -20,5 +20,5 @@ loop-line-preserved c = record {
 
 pub returns : goal.returns
 returns c =
-    first-none line_by (λ s. has_example_label s c.args.label) c.args.self.now.lines.items c.as_slice-line-items.result.now c.loop-line.line-index
-    c.as_slice-line-items.ensures.value c.loop-line-test.false c.loop-line.invariant.rest
+    first-none line_by (λ s. has_example_label s c.args.label) c.args.self.now.lines.items c.as_slice-line-items.result.now
+    c.loop-line.line-index c.as_slice-line-items.ensures.value c.loop-line-test.false c.loop-line.invariant.rest

@@ -10,6 +10,7 @@ abbrev pub invariant-loop-line : goal.invariant-loop-line
 invariant-loop-line l = record {
   at : l.position ≡ l.line-index;
   rest :
-      option_map (λ n. n + l.line-index) (first_where (λ s. has_example_label s l.label) (map line_by (drop l.line-index l.self.lines.items)))
+      option_map (λ n. n + l.line-index)
+      (first_where (λ s. has_example_label s l.label) (map line_by (drop l.line-index l.self.lines.items)))
       ≡ first_where (λ s. has_example_label s l.label) (map line_by l.self.lines.items);
 }
