@@ -18,14 +18,14 @@ left_now before (Some rest) taken bytes gives told =
     ap Some (sym (drop-append_seam taken rest) ∙ ap (drop (length taken)) (sym is))
 
 -- a run whose answer is whole is the plain one of that input
-whole_completes : (status : Status) (w0 w1 : Option (List Bool)) (l0 l1 h0 h1 : Option (List ℕ)) (plain : IsPlainRun [] w0 w1 l0 l1 h0 h1 status)
-    → ((bytes : List ℕ) → l0 ≡ Some bytes → Whole plain.waits [] bytes status (length plain.taken) plain.output) → Completes [] w0 w1 l0 l1 h0 h1 status
-whole_completes status w0 w1 l0 l1 h0 h1 plain answer = (
+whole_completes : (status : Status) (b : ℕ) (w0 w1 : Option (List Bool)) (l0 l1 h0 h1 : Option (List ℕ)) (plain : IsPlainRun b [] w0 w1 l0 l1 h0 h1 status)
+    → ((bytes : List ℕ) → l0 ≡ Some bytes → Whole b plain.waits [] bytes status (length plain.taken) plain.output) → Completes b [] w0 w1 l0 l1 h0 h1 status
+whole_completes status b w0 w1 l0 l1 h0 h1 plain answer = (
   plain.waits,
   plain.asked,
   λ bytes replies wanted count told out.
       let whole = answer bytes told in
-      let same = one_out (beginning_with plain.waits) 0 [] bytes whole.replies replies status wanted (length plain.taken) count whole.out out in
+      let same = one_out (beginning_with b plain.waits) 0 [] bytes whole.replies replies status wanted (length plain.taken) count whole.out out in
       inr (
         same.1,
         subst (λ n. l1 ≡ Some (drop n bytes)) same.2 (left_now l0 l1 plain.taken bytes plain.read told),
@@ -33,14 +33,14 @@ whole_completes status w0 w1 l0 l1 h0 h1 plain answer = (
       ),
 )
 
-pub completes : (status : Status) (w0 w1 : Option (List Bool)) (l0 l1 h0 h1 : Option (List ℕ)) (f0 f1 k0 k1 : ℕ) → IsPlainRun [] w0 w1 l0 l1 h0 h1 status → HasStatusCause status f0 f1 k0 k1
-    → (HasRisen f0 f1 → ⊥) → (HasRisen k0 k1 → ⊥) → Completes [] w0 w1 l0 l1 h0 h1 status
-completes Done w0 w1 l0 l1 h0 h1 f0 f1 k0 k1 plain cause no_read no_write = whole_completes Done w0 w1 l0 l1 h0 h1 plain plain.answer
-completes NoShutdown w0 w1 l0 l1 h0 h1 f0 f1 k0 k1 plain cause no_read no_write = whole_completes NoShutdown w0 w1 l0 l1 h0 h1 plain plain.answer
-completes InputEnded w0 w1 l0 l1 h0 h1 f0 f1 k0 k1 plain cause no_read no_write = whole_completes InputEnded w0 w1 l0 l1 h0 h1 plain plain.answer
-completes (BadFrame at) w0 w1 l0 l1 h0 h1 f0 f1 k0 k1 plain cause no_read no_write = whole_completes (BadFrame at) w0 w1 l0 l1 h0 h1 plain plain.answer
-completes InputTooLong w0 w1 l0 l1 h0 h1 f0 f1 k0 k1 plain cause no_read no_write = whole_completes InputTooLong w0 w1 l0 l1 h0 h1 plain plain.answer
-completes OutOfMemory w0 w1 l0 l1 h0 h1 f0 f1 k0 k1 plain cause no_read no_write = (plain.waits, plain.asked, λ bytes replies wanted count told out. inl refl)
-completes ReadFault w0 w1 l0 l1 h0 h1 f0 f1 k0 k1 plain cause no_read no_write = absurd (no_read cause)
-completes WriteFault w0 w1 l0 l1 h0 h1 f0 f1 k0 k1 plain cause no_read no_write = absurd (no_write cause)
-completes BadWords w0 w1 l0 l1 h0 h1 f0 f1 k0 k1 plain cause no_read no_write = (plain.waits, plain.asked, λ bytes replies wanted count told out. absurd (plain.answer bytes told))
+pub completes : (status : Status) (b : ℕ) (w0 w1 : Option (List Bool)) (l0 l1 h0 h1 : Option (List ℕ)) (f0 f1 k0 k1 : ℕ) → IsPlainRun b [] w0 w1 l0 l1 h0 h1 status → HasStatusCause status f0 f1 k0 k1
+    → (HasRisen f0 f1 → ⊥) → (HasRisen k0 k1 → ⊥) → Completes b [] w0 w1 l0 l1 h0 h1 status
+completes Done b w0 w1 l0 l1 h0 h1 f0 f1 k0 k1 plain cause no_read no_write = whole_completes Done b w0 w1 l0 l1 h0 h1 plain plain.answer
+completes NoShutdown b w0 w1 l0 l1 h0 h1 f0 f1 k0 k1 plain cause no_read no_write = whole_completes NoShutdown b w0 w1 l0 l1 h0 h1 plain plain.answer
+completes InputEnded b w0 w1 l0 l1 h0 h1 f0 f1 k0 k1 plain cause no_read no_write = whole_completes InputEnded b w0 w1 l0 l1 h0 h1 plain plain.answer
+completes (BadFrame at) b w0 w1 l0 l1 h0 h1 f0 f1 k0 k1 plain cause no_read no_write = whole_completes (BadFrame at) b w0 w1 l0 l1 h0 h1 plain plain.answer
+completes InputTooLong b w0 w1 l0 l1 h0 h1 f0 f1 k0 k1 plain cause no_read no_write = whole_completes InputTooLong b w0 w1 l0 l1 h0 h1 plain plain.answer
+completes OutOfMemory b w0 w1 l0 l1 h0 h1 f0 f1 k0 k1 plain cause no_read no_write = (plain.waits, plain.asked, λ bytes replies wanted count told out. inl refl)
+completes ReadFault b w0 w1 l0 l1 h0 h1 f0 f1 k0 k1 plain cause no_read no_write = absurd (no_read cause)
+completes WriteFault b w0 w1 l0 l1 h0 h1 f0 f1 k0 k1 plain cause no_read no_write = absurd (no_write cause)
+completes BadWords b w0 w1 l0 l1 h0 h1 f0 f1 k0 k1 plain cause no_read no_write = (plain.waits, plain.asked, λ bytes replies wanted count told out. absurd (plain.answer bytes told))

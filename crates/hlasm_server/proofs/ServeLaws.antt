@@ -27,7 +27,7 @@ use Rattle.hlasm_server.proofs.WaitingLaws.{Asked-append}
 use Rattle.hlasm_server.proofs.OutputLaws.{brings, ends_by_frame, going, ending, effect_of, some_out, Out-here, Out-behind, Leads-append, met_frame}
 
 -- What was heard and written so far, where the session stands open between two frames.
-pub record IsServing (left_before left_now held_before held_now : Option (List ℕ)) (waits_before waits_now : Option (List Bool))
+pub record IsServing (budget : ℕ) (left_before left_now held_before held_now : Option (List ℕ)) (waits_before waits_now : Option (List Bool))
     (source_before source_now sink_before sink_now : ℕ) (session : Held) (since : ℕ) (reader : Reading) : Type 0 where
   pub front : List ℕ
   pub bodies : List (List ℕ)
@@ -35,7 +35,7 @@ pub record IsServing (left_before left_now held_before held_now : Option (List �
   pub answers : List Bool
   pub asked : Asked waits_before answers waits_now
   pub whole : IsFrames front bodies
-  pub heard : (more : List Bool) → Leads (beginning_with (answers ++ more)) bodies (at_rest session.state more since) replies
+  pub heard : (more : List Bool) → Leads (beginning_with budget (answers ++ more)) bodies (at_rest session.state more since) replies
   pub ready : IsReady session
   pub read : Gives left_before front left_now
   pub wrote : Gains held_before (written replies) held_now
@@ -124,9 +124,9 @@ between_at_first r is = (
   ap (λ (z : Reading). z.fed) is,
 )
 
-pub serving_begins : (left held : Option (List ℕ)) (waits : Option (List Bool)) (source sink : ℕ) (reader : Reading) → IsBetweenFrames reader → reader.fed ≡ 0
-    → IsServing left left held held waits waits source source sink sink beginning 0 reader
-serving_begins left held waits source sink reader between fed = record {
+pub serving_begins : (b : ℕ) (left held : Option (List ℕ)) (waits : Option (List Bool)) (source sink : ℕ) (reader : Reading) → IsBetweenFrames reader → reader.fed ≡ 0
+    → IsServing b left left held held waits waits source source sink sink (beginning b) 0 reader
+serving_begins b left held waits source sink reader between fed = record {
   front = [];
   bodies = [];
   replies = [];
@@ -145,20 +145,20 @@ serving_begins left held waits source sink reader between fed = record {
 }
 
 -- reading asks nothing
-pub nothing_asked : (l0 l1 h0 h1 : Option (List ℕ)) (w0 w1 w2 : Option (List Bool)) (f0 f1 k0 k1 : ℕ) (s : Held) (n : ℕ) (r : Reading) → w2 ≡ w1
-    → IsServing l0 l1 h0 h1 w0 w1 f0 f1 k0 k1 s n r → IsServing l0 l1 h0 h1 w0 w2 f0 f1 k0 k1 s n r
-nothing_asked l0 l1 h0 h1 w0 w1 w2 f0 f1 k0 k1 s n r same serving = subst (λ (z : Option (List Bool)). IsServing l0 l1 h0 h1 w0 z f0 f1 k0 k1 s n r) (sym same) serving
+pub nothing_asked : (b : ℕ) (l0 l1 h0 h1 : Option (List ℕ)) (w0 w1 w2 : Option (List Bool)) (f0 f1 k0 k1 : ℕ) (s : Held) (n : ℕ) (r : Reading) → w2 ≡ w1
+    → IsServing b l0 l1 h0 h1 w0 w1 f0 f1 k0 k1 s n r → IsServing b l0 l1 h0 h1 w0 w2 f0 f1 k0 k1 s n r
+nothing_asked b l0 l1 h0 h1 w0 w1 w2 f0 f1 k0 k1 s n r same serving = subst (λ (z : Option (List Bool)). IsServing b l0 l1 h0 h1 w0 z f0 f1 k0 k1 s n r) (sym same) serving
 
 -- one message, behind those before it
 heard_more : (from s t : Running) (bodies : List (List ℕ)) (body : List ℕ) (replies more : List (List ℕ)) → Leads from bodies s replies → hear s body ≡ Goes t more
     → Leads from (bodies ++ body ∷ []) t (replies ++ more)
 heard_more from s t bodies body replies more leads goes = Leads-append bodies (body ∷ []) from s t replies more leads (t, more, [], goes, (refl, refl), sym (append-nil more))
 
-pub serving_goes_on : (l0 l1 l2 h0 h1 h2 : Option (List ℕ)) (w0 w1 w2 : Option (List Bool)) (f0 f1 f2 k0 k1 k2 : ℕ) (s t : Held) (n m : ℕ) (r q : Reading) (f body : List ℕ)
-    → IsServing l0 l1 h0 h1 w0 w1 f0 f1 k0 k1 s n r → IsFrame f body → Gives l1 f l2 → IsBetweenFrames q → q.fed ≡ r.fed + length f → q.fed ≤ most_input
+pub serving_goes_on : (b : ℕ) (l0 l1 l2 h0 h1 h2 : Option (List ℕ)) (w0 w1 w2 : Option (List Bool)) (f0 f1 f2 k0 k1 k2 : ℕ) (s t : Held) (n m : ℕ) (r q : Reading) (f body : List ℕ)
+    → IsServing b l0 l1 h0 h1 w0 w1 f0 f1 k0 k1 s n r → IsFrame f body → Gives l1 f l2 → IsBetweenFrames q → q.fed ≡ r.fed + length f → q.fed ≤ most_input
     → IsReady t → GoesOn s.state n body t.state m w1 w2 h1 h2 → f1 ≤ f2 → k1 ≤ k2
-    → IsServing l0 l2 h0 h2 w0 w2 f0 f2 k0 k2 t m q
-serving_goes_on l0 l1 l2 h0 h1 h2 w0 w1 w2 f0 f1 f2 k0 k1 k2 s t n m r q f body serving is gives between fed room ready goes source sink = record {
+    → IsServing b l0 l2 h0 h2 w0 w2 f0 f2 k0 k2 t m q
+serving_goes_on b l0 l1 l2 h0 h1 h2 w0 w1 w2 f0 f1 f2 k0 k1 k2 s t n m r q f body serving is gives between fed room ready goes source sink = record {
   front = serving.front ++ f;
   bodies = serving.bodies ++ body ∷ [];
   replies = serving.replies ++ goes.bodies;
@@ -166,8 +166,8 @@ serving_goes_on l0 l1 l2 h0 h1 h2 w0 w1 w2 f0 f1 f2 k0 k1 k2 s t n m r q f body 
   asked = Asked-append w0 w1 w2 serving.answers goes.answers serving.asked goes.asked;
   whole = IsFrames-append serving.bodies (body ∷ []) serving.front f serving.whole (IsFrames-one f body is);
   ready = ready;
-  heard = λ more. subst (λ z. Leads (beginning_with z) (serving.bodies ++ body ∷ []) (at_rest t.state more m) (serving.replies ++ goes.bodies)) (sym (append_assoc serving.answers goes.answers more))
-      (heard_more (beginning_with (serving.answers ++ (goes.answers ++ more))) (at_rest s.state (goes.answers ++ more) n) (at_rest t.state more m) serving.bodies body serving.replies goes.bodies
+  heard = λ more. subst (λ z. Leads (beginning_with b z) (serving.bodies ++ body ∷ []) (at_rest t.state more m) (serving.replies ++ goes.bodies)) (sym (append_assoc serving.answers goes.answers more))
+      (heard_more (beginning_with b (serving.answers ++ (goes.answers ++ more))) (at_rest s.state (goes.answers ++ more) n) (at_rest t.state more m) serving.bodies body serving.replies goes.bodies
       (serving.heard (goes.answers ++ more)) (goes.heard more));
   read = Gives-append l0 l1 l2 serving.front f serving.read gives;
   wrote = subst (λ z. Gains h0 z h2) (sym (flat_map-append frame serving.replies goes.bodies))
@@ -184,33 +184,33 @@ pub frame_falls : (fed more : ℕ) (f body : List ℕ) → IsFrame f body → mo
 frame_falls fed more f body is sum room = let some = (length-IsFrame f body is).0 in omega arith
 
 -- what was heard, with the answers that were given so far and no others
-heard_so_far : (l0 l1 h0 h1 : Option (List ℕ)) (w0 w1 : Option (List Bool)) (f0 f1 k0 k1 : ℕ) (s : Held) (n : ℕ) (r : Reading) (serving : IsServing l0 l1 h0 h1 w0 w1 f0 f1 k0 k1 s n r)
-    → Leads (beginning_with serving.answers) serving.bodies (at_rest s.state [] n) serving.replies
-heard_so_far l0 l1 h0 h1 w0 w1 f0 f1 k0 k1 s n r serving =
-    subst (λ z. Leads (beginning_with z) serving.bodies (at_rest s.state [] n) serving.replies) (append-nil serving.answers) (serving.heard [])
+heard_so_far : (b : ℕ) (l0 l1 h0 h1 : Option (List ℕ)) (w0 w1 : Option (List Bool)) (f0 f1 k0 k1 : ℕ) (s : Held) (n : ℕ) (r : Reading) (serving : IsServing b l0 l1 h0 h1 w0 w1 f0 f1 k0 k1 s n r)
+    → Leads (beginning_with b serving.answers) serving.bodies (at_rest s.state [] n) serving.replies
+heard_so_far b l0 l1 h0 h1 w0 w1 f0 f1 k0 k1 s n r serving =
+    subst (λ z. Leads (beginning_with b z) serving.bodies (at_rest s.state [] n) serving.replies) (append-nil serving.answers) (serving.heard [])
 
 -- ---- the ends
 
 -- the input ended within a frame, or the source refused there
-ends_within_frame : (l0 l1 h0 h1 : Option (List ℕ)) (w0 w1 : Option (List Bool)) (f0 f1 k0 k1 : ℕ) (s : Held) (n : ℕ) (r : Reading) (t : List ℕ)
-    → (serving : IsServing l0 l1 h0 h1 w0 w1 f0 f1 k0 k1 s n r) → IsPartial t → r.fed + length t < most_input
-    → Whole serving.answers [] (serving.front ++ t) InputEnded (length (serving.front ++ t)) (written serving.replies)
-ends_within_frame l0 l1 h0 h1 w0 w1 f0 f1 k0 k1 s n r t serving partial few =
+ends_within_frame : (b : ℕ) (l0 l1 h0 h1 : Option (List ℕ)) (w0 w1 : Option (List Bool)) (f0 f1 k0 k1 : ℕ) (s : Held) (n : ℕ) (r : Reading) (t : List ℕ)
+    → (serving : IsServing b l0 l1 h0 h1 w0 w1 f0 f1 k0 k1 s n r) → IsPartial t → r.fed + length t < most_input
+    → Whole b serving.answers [] (serving.front ++ t) InputEnded (length (serving.front ++ t)) (written serving.replies)
+ends_within_frame b l0 l1 h0 h1 w0 w1 f0 f1 k0 k1 s n r t serving partial few =
     let fed = serving.fed in
     let less : length serving.front + length t < most_input = omega arith in
     let size : length serving.front + length t ≡ length (serving.front ++ t) = sym (length-append serving.front t) in
-    let so_far = heard_so_far l0 l1 h0 h1 w0 w1 f0 f1 k0 k1 s n r serving in
+    let so_far = heard_so_far b l0 l1 h0 h1 w0 w1 f0 f1 k0 k1 s n r serving in
     record {
       replies = serving.replies;
-      out = subst (Out (beginning_with serving.answers) 0 [] (serving.front ++ t) serving.replies InputEnded) size
-          (whole_at (beginning_with serving.answers) (at_rest s.state [] n) serving.bodies serving.front t serving.replies InputEnded (length t) serving.whole so_far (omega arith) (partial, refl, less));
+      out = subst (Out (beginning_with b serving.answers) 0 [] (serving.front ++ t) serving.replies InputEnded) size
+          (whole_at (beginning_with b serving.answers) (at_rest s.state [] n) serving.bodies serving.front t serving.replies InputEnded (length t) serving.whole so_far (omega arith) (partial, refl, less));
       all = refl;
     }
 
 -- the input had less than a whole frame left
-pub ends_with_input : (l0 l1 l2 h0 h1 : Option (List ℕ)) (w0 w1 : Option (List Bool)) (f0 f1 k0 k1 : ℕ) (s : Held) (n : ℕ) (r : Reading) (t : List ℕ)
-    → IsServing l0 l1 h0 h1 w0 w1 f0 f1 k0 k1 s n r → Gives l1 t l2 → IsPartial t → IsAtEnd l2 → r.fed + length t < most_input → IsPlainRun [] w0 w1 l0 l2 h0 h1 InputEnded
-ends_with_input l0 l1 l2 h0 h1 w0 w1 f0 f1 k0 k1 s n r t serving gives partial end few = record {
+pub ends_with_input : (b : ℕ) (l0 l1 l2 h0 h1 : Option (List ℕ)) (w0 w1 : Option (List Bool)) (f0 f1 k0 k1 : ℕ) (s : Held) (n : ℕ) (r : Reading) (t : List ℕ)
+    → IsServing b l0 l1 h0 h1 w0 w1 f0 f1 k0 k1 s n r → Gives l1 t l2 → IsPartial t → IsAtEnd l2 → r.fed + length t < most_input → IsPlainRun b [] w0 w1 l0 l2 h0 h1 InputEnded
+ends_with_input b l0 l1 l2 h0 h1 w0 w1 f0 f1 k0 k1 s n r t serving gives partial end few = record {
   taken = serving.front ++ t;
   output = written serving.replies;
   waits = serving.answers;
@@ -219,27 +219,27 @@ ends_with_input l0 l1 l2 h0 h1 w0 w1 f0 f1 k0 k1 s n r t serving gives partial e
   wrote = serving.wrote;
   answer = λ bytes told.
       let all = took_all l0 l2 (serving.front ++ t) bytes (Gives-append l0 l1 l2 serving.front t serving.read gives) end told in
-      subst (λ z. Whole serving.answers [] z InputEnded (length (serving.front ++ t)) (written serving.replies)) (sym all)
-      (ends_within_frame l0 l1 h0 h1 w0 w1 f0 f1 k0 k1 s n r t serving partial few);
+      subst (λ z. Whole b serving.answers [] z InputEnded (length (serving.front ++ t)) (written serving.replies)) (sym all)
+      (ends_within_frame b l0 l1 h0 h1 w0 w1 f0 f1 k0 k1 s n r t serving partial few);
 }
 
 -- the source refused within a frame
-pub ends_with_read_fault : (l0 l1 l2 h0 h1 : Option (List ℕ)) (w0 w1 : Option (List Bool)) (f0 f1 k0 k1 : ℕ) (s : Held) (n : ℕ) (r : Reading) (t : List ℕ)
-    → IsServing l0 l1 h0 h1 w0 w1 f0 f1 k0 k1 s n r → Gives l1 t l2 → IsPartial t → r.fed + length t < most_input → IsPlainRun [] w0 w1 l0 l2 h0 h1 ReadFault
-ends_with_read_fault l0 l1 l2 h0 h1 w0 w1 f0 f1 k0 k1 s n r t serving gives partial few = record {
+pub ends_with_read_fault : (b : ℕ) (l0 l1 l2 h0 h1 : Option (List ℕ)) (w0 w1 : Option (List Bool)) (f0 f1 k0 k1 : ℕ) (s : Held) (n : ℕ) (r : Reading) (t : List ℕ)
+    → IsServing b l0 l1 h0 h1 w0 w1 f0 f1 k0 k1 s n r → Gives l1 t l2 → IsPartial t → r.fed + length t < most_input → IsPlainRun b [] w0 w1 l0 l2 h0 h1 ReadFault
+ends_with_read_fault b l0 l1 l2 h0 h1 w0 w1 f0 f1 k0 k1 s n r t serving gives partial few = record {
   taken = serving.front ++ t;
   output = written serving.replies;
   waits = serving.answers;
   asked = serving.asked;
   read = Gives-append l0 l1 l2 serving.front t serving.read gives;
   wrote = serving.wrote;
-  answer = λ bytes told. ends_within_frame l0 l1 h0 h1 w0 w1 f0 f1 k0 k1 s n r t serving partial few;
+  answer = λ bytes told. ends_within_frame b l0 l1 h0 h1 w0 w1 f0 f1 k0 k1 s n r t serving partial few;
 }
 
 -- memory ran out before anything was written for the next message
-pub ends_without_memory : (l0 l1 l2 h0 h1 : Option (List ℕ)) (w0 w1 : Option (List Bool)) (f0 f1 k0 k1 : ℕ) (s : Held) (n : ℕ) (r : Reading) (t : List ℕ)
-    → IsServing l0 l1 h0 h1 w0 w1 f0 f1 k0 k1 s n r → Gives l1 t l2 → IsPlainRun [] w0 w1 l0 l2 h0 h1 OutOfMemory
-ends_without_memory l0 l1 l2 h0 h1 w0 w1 f0 f1 k0 k1 s n r t serving gives = record {
+pub ends_without_memory : (b : ℕ) (l0 l1 l2 h0 h1 : Option (List ℕ)) (w0 w1 : Option (List Bool)) (f0 f1 k0 k1 : ℕ) (s : Held) (n : ℕ) (r : Reading) (t : List ℕ)
+    → IsServing b l0 l1 h0 h1 w0 w1 f0 f1 k0 k1 s n r → Gives l1 t l2 → IsPlainRun b [] w0 w1 l0 l2 h0 h1 OutOfMemory
+ends_without_memory b l0 l1 l2 h0 h1 w0 w1 f0 f1 k0 k1 s n r t serving gives = record {
   taken = serving.front ++ t;
   output = written serving.replies;
   waits = serving.answers;
@@ -252,30 +252,30 @@ ends_without_memory l0 l1 l2 h0 h1 w0 w1 f0 f1 k0 k1 s n r t serving gives = rec
       let fed = serving.fed in
       let within = serving.within in
       let o = some_out (at_rest s.state [] n) (0 + length serving.front) (t ++ there.rest) (omega arith) in
-      let so_far = heard_so_far l0 l1 h0 h1 w0 w1 f0 f1 k0 k1 s n r serving in
+      let so_far = heard_so_far b l0 l1 h0 h1 w0 w1 f0 f1 k0 k1 s n r serving in
       record {
         first = serving.replies;
         others = o.replies;
         status = o.status;
         taken = length serving.front + o.taken;
-        out = subst (λ z. Out (beginning_with serving.answers) 0 [] z (serving.replies ++ o.replies) o.status (length serving.front + o.taken)) cut
-            (out_at (beginning_with serving.answers) (at_rest s.state [] n) serving.bodies serving.front (t ++ there.rest) serving.replies o.replies o.status o.taken serving.whole so_far o.out);
+        out = subst (λ z. Out (beginning_with b serving.answers) 0 [] z (serving.replies ++ o.replies) o.status (length serving.front + o.taken)) cut
+            (out_at (beginning_with b serving.answers) (at_rest s.state [] n) serving.bodies serving.front (t ++ there.rest) serving.replies o.replies o.status o.taken serving.whole so_far o.out);
         all = refl;
       };
 }
 
 -- there was no memory for a session
-pub ends_at_once : (left held : Option (List ℕ)) (waits : Option (List Bool)) → IsPlainRun [] waits waits left left held held OutOfMemory
-ends_at_once left held waits =
+pub ends_at_once : (b : ℕ) (left held : Option (List ℕ)) (waits : Option (List Bool)) → IsPlainRun b [] waits waits left left held held OutOfMemory
+ends_at_once b left held waits =
     let reader : Reading = record { ready = []; rest = []; fed = 0; fault = None } in
     let at_first = between_at_first reader refl in
-    ends_without_memory left left left held held waits waits 0 0 0 0 beginning 0 reader [] (serving_begins left held waits 0 0 reader at_first.0 at_first.1) (Gives-nil left)
+    ends_without_memory b left left left held held waits waits 0 0 0 0 (beginning b) 0 reader [] (serving_begins b left held waits 0 0 reader at_first.0 at_first.1) (Gives-nil left)
 
 -- memory ran out while the message was answered
-pub ends_without_memory_within : (l0 l1 l2 h0 h1 h2 : Option (List ℕ)) (w0 w1 w2 : Option (List Bool)) (f0 f1 k0 k1 : ℕ) (s : Held) (n : ℕ) (r : Reading) (f body : List ℕ) (answers : List Bool)
-    → IsServing l0 l1 h0 h1 w0 w1 f0 f1 k0 k1 s n r → Gives l1 f l2 → IsFrame f body → r.fed + length f ≤ most_input → Asked w1 answers w2
-    → PutsFirst h1 (said (hear (at_rest s.state answers n) body)) h2 → IsPlainRun [] w0 w2 l0 l2 h0 h2 OutOfMemory
-ends_without_memory_within l0 l1 l2 h0 h1 h2 w0 w1 w2 f0 f1 k0 k1 s n r f body answers serving gives is room asked (first, others, cut_said, gains) = record {
+pub ends_without_memory_within : (b : ℕ) (l0 l1 l2 h0 h1 h2 : Option (List ℕ)) (w0 w1 w2 : Option (List Bool)) (f0 f1 k0 k1 : ℕ) (s : Held) (n : ℕ) (r : Reading) (f body : List ℕ) (answers : List Bool)
+    → IsServing b l0 l1 h0 h1 w0 w1 f0 f1 k0 k1 s n r → Gives l1 f l2 → IsFrame f body → r.fed + length f ≤ most_input → Asked w1 answers w2
+    → PutsFirst h1 (said (hear (at_rest s.state answers n) body)) h2 → IsPlainRun b [] w0 w2 l0 l2 h0 h2 OutOfMemory
+ends_without_memory_within b l0 l1 l2 h0 h1 h2 w0 w1 w2 f0 f1 k0 k1 s n r f body answers serving gives is room asked (first, others, cut_said, gains) = record {
   taken = serving.front ++ f;
   output = written (serving.replies ++ first);
   waits = serving.answers ++ answers;
@@ -285,7 +285,7 @@ ends_without_memory_within l0 l1 l2 h0 h1 h2 w0 w1 w2 f0 f1 k0 k1 s n r f body a
       (Gains-append h0 h1 h2 (written serving.replies) (written first) serving.wrote gains);
   answer = λ bytes told.
       let now : Running = at_rest s.state answers n in
-      let from : Running = beginning_with (serving.answers ++ answers) in
+      let from : Running = beginning_with b (serving.answers ++ answers) in
       let there = took l0 l2 (serving.front ++ f) bytes (Gives-append l0 l1 l2 serving.front f serving.read gives) told in
       let cut : serving.front ++ (f ++ there.rest) ≡ bytes = sym (append_assoc serving.front f there.rest) ∙ sym there.is in
       let fed = serving.fed in
@@ -305,10 +305,10 @@ ends_without_memory_within l0 l1 l2 h0 h1 h2 w0 w1 w2 f0 f1 k0 k1 s n r f body a
 }
 
 -- the sink refused while the answer was written
-pub ends_with_write_fault : (l0 l1 l2 h0 h1 h2 : Option (List ℕ)) (w0 w1 w2 : Option (List Bool)) (f0 f1 k0 k1 : ℕ) (s : Held) (n : ℕ) (r : Reading) (f body : List ℕ) (answers : List Bool)
-    → IsServing l0 l1 h0 h1 w0 w1 f0 f1 k0 k1 s n r → Gives l1 f l2 → IsFrame f body → r.fed + length f ≤ most_input → Asked w1 answers w2
-    → PutsFront h1 (written (said (hear (at_rest s.state answers n) body))) h2 → IsPlainRun [] w0 w2 l0 l2 h0 h2 WriteFault
-ends_with_write_fault l0 l1 l2 h0 h1 h2 w0 w1 w2 f0 f1 k0 k1 s n r f body answers serving gives is room asked (first, others, cut_said, gains) = record {
+pub ends_with_write_fault : (b : ℕ) (l0 l1 l2 h0 h1 h2 : Option (List ℕ)) (w0 w1 w2 : Option (List Bool)) (f0 f1 k0 k1 : ℕ) (s : Held) (n : ℕ) (r : Reading) (f body : List ℕ) (answers : List Bool)
+    → IsServing b l0 l1 h0 h1 w0 w1 f0 f1 k0 k1 s n r → Gives l1 f l2 → IsFrame f body → r.fed + length f ≤ most_input → Asked w1 answers w2
+    → PutsFront h1 (written (said (hear (at_rest s.state answers n) body))) h2 → IsPlainRun b [] w0 w2 l0 l2 h0 h2 WriteFault
+ends_with_write_fault b l0 l1 l2 h0 h1 h2 w0 w1 w2 f0 f1 k0 k1 s n r f body answers serving gives is room asked (first, others, cut_said, gains) = record {
   taken = serving.front ++ f;
   output = written serving.replies ++ first;
   waits = serving.answers ++ answers;
@@ -317,7 +317,7 @@ ends_with_write_fault l0 l1 l2 h0 h1 h2 w0 w1 w2 f0 f1 k0 k1 s n r f body answer
   wrote = Gains-append h0 h1 h2 (written serving.replies) first serving.wrote gains;
   answer = λ bytes told.
       let now : Running = at_rest s.state answers n in
-      let from : Running = beginning_with (serving.answers ++ answers) in
+      let from : Running = beginning_with b (serving.answers ++ answers) in
       let there = took l0 l2 (serving.front ++ f) bytes (Gives-append l0 l1 l2 serving.front f serving.read gives) told in
       let cut : serving.front ++ (f ++ there.rest) ≡ bytes = sym (append_assoc serving.front f there.rest) ∙ sym there.is in
       let fed = serving.fed in
@@ -338,69 +338,69 @@ ends_with_write_fault l0 l1 l2 h0 h1 h2 w0 w1 w2 f0 f1 k0 k1 s n r f body answer
 }
 
 -- what was taken ends at this place, and so does the session
-ended : (l0 l1 l2 h0 h1 : Option (List ℕ)) (w0 w1 : Option (List Bool)) (f0 f1 k0 k1 : ℕ) (s : Held) (n : ℕ) (r : Reading) (t : List ℕ) (status : Status)
-    → (serving : IsServing l0 l1 h0 h1 w0 w1 f0 f1 k0 k1 s n r) → Gives l1 t l2 → r.fed + length t ≤ most_input
+ended : (b : ℕ) (l0 l1 l2 h0 h1 : Option (List ℕ)) (w0 w1 : Option (List Bool)) (f0 f1 k0 k1 : ℕ) (s : Held) (n : ℕ) (r : Reading) (t : List ℕ) (status : Status)
+    → (serving : IsServing b l0 l1 h0 h1 w0 w1 f0 f1 k0 k1 s n r) → Gives l1 t l2 → r.fed + length t ≤ most_input
     → ((rest : List ℕ) → EndsAt (at_rest s.state [] n) (length serving.front) (t ++ rest) status (length t))
-    → (bytes : List ℕ) → l0 ≡ Some bytes → Whole serving.answers [] bytes status (length (serving.front ++ t)) (written serving.replies)
-ended l0 l1 l2 h0 h1 w0 w1 f0 f1 k0 k1 s n r t status serving gives room end bytes told =
+    → (bytes : List ℕ) → l0 ≡ Some bytes → Whole b serving.answers [] bytes status (length (serving.front ++ t)) (written serving.replies)
+ended b l0 l1 l2 h0 h1 w0 w1 f0 f1 k0 k1 s n r t status serving gives room end bytes told =
     let fed = serving.fed in
     let there = took l0 l2 (serving.front ++ t) bytes (Gives-append l0 l1 l2 serving.front t serving.read gives) told in
     let cut : serving.front ++ (t ++ there.rest) ≡ bytes = sym (append_assoc serving.front t there.rest) ∙ sym there.is in
     let size : length serving.front + length t ≡ length (serving.front ++ t) = sym (length-append serving.front t) in
-    let so_far = heard_so_far l0 l1 h0 h1 w0 w1 f0 f1 k0 k1 s n r serving in
+    let so_far = heard_so_far b l0 l1 h0 h1 w0 w1 f0 f1 k0 k1 s n r serving in
     record {
       replies = serving.replies;
-      out = subst (λ z. Out (beginning_with serving.answers) 0 [] z serving.replies status (length (serving.front ++ t))) cut
-          (subst (Out (beginning_with serving.answers) 0 [] (serving.front ++ (t ++ there.rest)) serving.replies status) size
-          (whole_at (beginning_with serving.answers) (at_rest s.state [] n) serving.bodies serving.front (t ++ there.rest) serving.replies status (length t) serving.whole so_far (omega arith) (end there.rest)));
+      out = subst (λ z. Out (beginning_with b serving.answers) 0 [] z serving.replies status (length (serving.front ++ t))) cut
+          (subst (Out (beginning_with b serving.answers) 0 [] (serving.front ++ (t ++ there.rest)) serving.replies status) size
+          (whole_at (beginning_with b serving.answers) (at_rest s.state [] n) serving.bodies serving.front (t ++ there.rest) serving.replies status (length t) serving.whole so_far (omega arith) (end there.rest)));
       all = refl;
     }
 
-exit_answer : (closed : Bool) (waits : List Bool) (bytes taken output : List ℕ) → Whole waits [] bytes (brings (Ends closed)) (length taken) output → IsAnswer (brings (Ends closed)) waits [] bytes taken output
-exit_answer true waits bytes taken output whole = whole
-exit_answer false waits bytes taken output whole = whole
+exit_answer : (closed : Bool) (b : ℕ) (waits : List Bool) (bytes taken output : List ℕ) → Whole b waits [] bytes (brings (Ends closed)) (length taken) output → IsAnswer (brings (Ends closed)) b waits [] bytes taken output
+exit_answer true b waits bytes taken output whole = whole
+exit_answer false b waits bytes taken output whole = whole
 
 -- the exit was heard
-pub ends_with_exit : (closed : Bool) (l0 l1 l2 h0 h1 h2 : Option (List ℕ)) (w0 w1 w2 : Option (List Bool)) (f0 f1 k0 k1 : ℕ) (s : Held) (n : ℕ) (r : Reading) (f body : List ℕ)
-    → IsServing l0 l1 h0 h1 w0 w1 f0 f1 k0 k1 s n r → Gives l1 f l2 → IsFrame f body → r.fed + length f ≤ most_input → Closes s.state n body closed w1 w2 h1 h2
-    → IsPlainRun [] w0 w2 l0 l2 h0 h2 (brings (Ends closed))
-ends_with_exit closed l0 l1 l2 h0 h1 h2 w0 w1 w2 f0 f1 k0 k1 s n r f body serving gives is room closes = record {
+pub ends_with_exit : (closed : Bool) (b : ℕ) (l0 l1 l2 h0 h1 h2 : Option (List ℕ)) (w0 w1 w2 : Option (List Bool)) (f0 f1 k0 k1 : ℕ) (s : Held) (n : ℕ) (r : Reading) (f body : List ℕ)
+    → IsServing b l0 l1 h0 h1 w0 w1 f0 f1 k0 k1 s n r → Gives l1 f l2 → IsFrame f body → r.fed + length f ≤ most_input → Closes s.state n body closed w1 w2 h1 h2
+    → IsPlainRun b [] w0 w2 l0 l2 h0 h2 (brings (Ends closed))
+ends_with_exit closed b l0 l1 l2 h0 h1 h2 w0 w1 w2 f0 f1 k0 k1 s n r f body serving gives is room closes = record {
   taken = serving.front ++ f;
   output = written serving.replies;
   waits = serving.answers;
   asked = subst (λ (z : Option (List Bool)). Asked w0 serving.answers z) (sym closes.asked) serving.asked;
   read = Gives-append l0 l1 l2 serving.front f serving.read gives;
   wrote = subst (λ (z : Option (List ℕ)). Gains h0 (written serving.replies) z) (sym closes.sent) serving.wrote;
-  answer = λ bytes told. exit_answer closed serving.answers bytes (serving.front ++ f) (written serving.replies)
-      (ended l0 l1 l2 h0 h1 w0 w1 f0 f1 k0 k1 s n r f (brings (Ends closed)) serving gives room
+  answer = λ bytes told. exit_answer closed b serving.answers bytes (serving.front ++ f) (written serving.replies)
+      (ended b l0 l1 l2 h0 h1 w0 w1 f0 f1 k0 k1 s n r f (brings (Ends closed)) serving gives room
       (λ rest. ends_by_frame closed (at_rest s.state [] n) (length serving.front) (f ++ rest) (length f) (met_frame body (at_rest s.state [] n) f rest (Ends closed) is (closes.heard []))) bytes told);
 }
 
 -- bytes came that begin no frame
-pub ends_with_bad_start : (l0 l1 l2 h0 h1 : Option (List ℕ)) (w0 w1 : Option (List Bool)) (f0 f1 k0 k1 : ℕ) (s : Held) (n : ℕ) (r : Reading) (t : List ℕ) (at : ℕ)
-    → IsServing l0 l1 h0 h1 w0 w1 f0 f1 k0 k1 s n r → Gives l1 t l2 → IsBadStart t (length t) → at ≡ r.fed + length t → at ≤ most_input → IsPlainRun [] w0 w1 l0 l2 h0 h1 (BadFrame at)
-ends_with_bad_start l0 l1 l2 h0 h1 w0 w1 f0 f1 k0 k1 s n r t at serving gives bad place room = record {
+pub ends_with_bad_start : (b : ℕ) (l0 l1 l2 h0 h1 : Option (List ℕ)) (w0 w1 : Option (List Bool)) (f0 f1 k0 k1 : ℕ) (s : Held) (n : ℕ) (r : Reading) (t : List ℕ) (at : ℕ)
+    → IsServing b l0 l1 h0 h1 w0 w1 f0 f1 k0 k1 s n r → Gives l1 t l2 → IsBadStart t (length t) → at ≡ r.fed + length t → at ≤ most_input → IsPlainRun b [] w0 w1 l0 l2 h0 h1 (BadFrame at)
+ends_with_bad_start b l0 l1 l2 h0 h1 w0 w1 f0 f1 k0 k1 s n r t at serving gives bad place room = record {
   taken = serving.front ++ t;
   output = written serving.replies;
   waits = serving.answers;
   asked = serving.asked;
   read = Gives-append l0 l1 l2 serving.front t serving.read gives;
   wrote = serving.wrote;
-  answer = λ bytes told. ended l0 l1 l2 h0 h1 w0 w1 f0 f1 k0 k1 s n r t (BadFrame at) serving gives (omega arith)
+  answer = λ bytes told. ended b l0 l1 l2 h0 h1 w0 w1 f0 f1 k0 k1 s n r t (BadFrame at) serving gives (omega arith)
       (λ rest. (IsBadStart-append t rest (length t) bad, place ∙ ap (λ k. k + length t) serving.fed)) bytes told;
 }
 
 -- all was taken that may be
-pub ends_with_limit : (l0 l1 l2 h0 h1 : Option (List ℕ)) (w0 w1 : Option (List Bool)) (f0 f1 k0 k1 : ℕ) (s : Held) (n : ℕ) (r : Reading) (t : List ℕ)
-    → IsServing l0 l1 h0 h1 w0 w1 f0 f1 k0 k1 s n r → Gives l1 t l2 → IsPartial t → r.fed + length t ≡ most_input → IsPlainRun [] w0 w1 l0 l2 h0 h1 InputTooLong
-ends_with_limit l0 l1 l2 h0 h1 w0 w1 f0 f1 k0 k1 s n r t serving gives partial most = record {
+pub ends_with_limit : (b : ℕ) (l0 l1 l2 h0 h1 : Option (List ℕ)) (w0 w1 : Option (List Bool)) (f0 f1 k0 k1 : ℕ) (s : Held) (n : ℕ) (r : Reading) (t : List ℕ)
+    → IsServing b l0 l1 h0 h1 w0 w1 f0 f1 k0 k1 s n r → Gives l1 t l2 → IsPartial t → r.fed + length t ≡ most_input → IsPlainRun b [] w0 w1 l0 l2 h0 h1 InputTooLong
+ends_with_limit b l0 l1 l2 h0 h1 w0 w1 f0 f1 k0 k1 s n r t serving gives partial most = record {
   taken = serving.front ++ t;
   output = written serving.replies;
   waits = serving.answers;
   asked = serving.asked;
   read = Gives-append l0 l1 l2 serving.front t serving.read gives;
   wrote = serving.wrote;
-  answer = λ bytes told. ended l0 l1 l2 h0 h1 w0 w1 f0 f1 k0 k1 s n r t InputTooLong serving gives (omega arith) (λ rest. limit rest) bytes told;
+  answer = λ bytes told. ended b l0 l1 l2 h0 h1 w0 w1 f0 f1 k0 k1 s n r t InputTooLong serving gives (omega arith) (λ rest. limit rest) bytes told;
 }
   where
     limit : (rest : List ℕ) → EndsAt (at_rest s.state [] n) (length serving.front) (t ++ rest) InputTooLong (length t)
@@ -410,12 +410,12 @@ ends_with_limit l0 l1 l2 h0 h1 w0 w1 f0 f1 k0 k1 s n r t serving gives partial m
         (subst IsPartial (sym all) partial, omega (arith, length-append t rest), omega arith)
 
 -- output stopped within the answer to a message
-pub ends_stopped : (e : Stop) (l0 l1 l2 h0 h1 h2 : Option (List ℕ)) (w0 w1 w2 : Option (List Bool)) (f0 f1 k0 k1 : ℕ) (s : Held) (n : ℕ) (r : Reading) (f body : List ℕ)
-    → IsServing l0 l1 h0 h1 w0 w1 f0 f1 k0 k1 s n r → Gives l1 f l2 → IsFrame f body → r.fed + length f ≤ most_input → StopsHearing e s.state n body w1 w2 h1 h2 → IsPlainRun [] w0 w2 l0 l2 h0 h2 (status_of e)
-ends_stopped stop.OutOfMemory l0 l1 l2 h0 h1 h2 w0 w1 w2 f0 f1 k0 k1 s n r f body serving gives is room stops =
-    ends_without_memory_within l0 l1 l2 h0 h1 h2 w0 w1 w2 f0 f1 k0 k1 s n r f body stops.answers serving gives is room stops.asked stops.put
-ends_stopped stop.WriteFault l0 l1 l2 h0 h1 h2 w0 w1 w2 f0 f1 k0 k1 s n r f body serving gives is room stops =
-    ends_with_write_fault l0 l1 l2 h0 h1 h2 w0 w1 w2 f0 f1 k0 k1 s n r f body stops.answers serving gives is room stops.asked stops.put
+pub ends_stopped : (e : Stop) (b : ℕ) (l0 l1 l2 h0 h1 h2 : Option (List ℕ)) (w0 w1 w2 : Option (List Bool)) (f0 f1 k0 k1 : ℕ) (s : Held) (n : ℕ) (r : Reading) (f body : List ℕ)
+    → IsServing b l0 l1 h0 h1 w0 w1 f0 f1 k0 k1 s n r → Gives l1 f l2 → IsFrame f body → r.fed + length f ≤ most_input → StopsHearing e s.state n body w1 w2 h1 h2 → IsPlainRun b [] w0 w2 l0 l2 h0 h2 (status_of e)
+ends_stopped stop.OutOfMemory b l0 l1 l2 h0 h1 h2 w0 w1 w2 f0 f1 k0 k1 s n r f body serving gives is room stops =
+    ends_without_memory_within b l0 l1 l2 h0 h1 h2 w0 w1 w2 f0 f1 k0 k1 s n r f body stops.answers serving gives is room stops.asked stops.put
+ends_stopped stop.WriteFault b l0 l1 l2 h0 h1 h2 w0 w1 w2 f0 f1 k0 k1 s n r f body serving gives is room stops =
+    ends_with_write_fault b l0 l1 l2 h0 h1 h2 w0 w1 w2 f0 f1 k0 k1 s n r f body stops.answers serving gives is room stops.asked stops.put
 
 pub HasStatusCause-stopped : (e : Stop) (f0 f1 k0 k1 k2 : ℕ) → k0 ≤ k1 → k1 ≤ k2 → HasStopCause {T = Phase} (Err e) k1 k2 → HasStatusCause (status_of e) f0 f1 k0 k2
 HasStatusCause-stopped stop.OutOfMemory f0 f1 k0 k1 k2 earlier later cause = tt

@@ -11,55 +11,55 @@ use Rattle.hlasm_server.specs.Output.{Out}
 use Rattle.hlasm_server.specs.Waiting.{Asked}
 
 -- the whole output of the input, with this status
-pub record Whole (waits : List Bool) (calls : List LibraryCall) (bytes : List ℕ) (status : Status) (taken : ℕ) (output : List ℕ) : Type 0 where
+pub record Whole (budget : ℕ) (waits : List Bool) (calls : List LibraryCall) (bytes : List ℕ) (status : Status) (taken : ℕ) (output : List ℕ) : Type 0 where
   pub replies : List (List ℕ)
-  pub out : Out (beginning_with waits) 0 calls bytes replies status taken
+  pub out : Out (beginning_with budget waits) 0 calls bytes replies status taken
   pub all : output ≡ written replies
 
 -- the first bodies of the output, each a whole frame
-pub record FirstFrames (waits : List Bool) (calls : List LibraryCall) (bytes output : List ℕ) : Type 0 where
+pub record FirstFrames (budget : ℕ) (waits : List Bool) (calls : List LibraryCall) (bytes output : List ℕ) : Type 0 where
   pub first : List (List ℕ)
   pub others : List (List ℕ)
   pub status : Status
   pub taken : ℕ
-  pub out : Out (beginning_with waits) 0 calls bytes (first ++ others) status taken
+  pub out : Out (beginning_with budget waits) 0 calls bytes (first ++ others) status taken
   pub all : output ≡ written first
 
 -- the first bytes of the output
-pub record FirstBytes (waits : List Bool) (calls : List LibraryCall) (bytes output : List ℕ) : Type 0 where
+pub record FirstBytes (budget : ℕ) (waits : List Bool) (calls : List LibraryCall) (bytes output : List ℕ) : Type 0 where
   pub replies : List (List ℕ)
   pub status : Status
   pub taken : ℕ
   pub rest : List ℕ
-  pub out : Out (beginning_with waits) 0 calls bytes replies status taken
+  pub out : Out (beginning_with budget waits) 0 calls bytes replies status taken
   pub all : written replies ≡ output ++ rest
 
 -- What a run with this status has written, `bytes` being the input that was there and `taken` what it took of it.
-abbrev pub IsAnswer : Status → List Bool → List LibraryCall → (bytes taken output : List ℕ) → Type 0
+abbrev pub IsAnswer : Status → (budget : ℕ) → List Bool → List LibraryCall → (bytes taken output : List ℕ) → Type 0
 -- want of memory ends it at a whole frame
-IsAnswer OutOfMemory waits calls bytes taken output = FirstFrames waits calls bytes output
+IsAnswer OutOfMemory budget waits calls bytes taken output = FirstFrames budget waits calls bytes output
 -- a sink that failed has taken some beginning
-IsAnswer WriteFault waits calls bytes taken output = FirstBytes waits calls bytes output
+IsAnswer WriteFault budget waits calls bytes taken output = FirstBytes budget waits calls bytes output
 -- a source that failed is as an input that ended there
-IsAnswer ReadFault waits calls bytes taken output = Whole waits calls taken InputEnded (length taken) output
+IsAnswer ReadFault budget waits calls bytes taken output = Whole budget waits calls taken InputEnded (length taken) output
 -- with right words no answer speaks of the words
-IsAnswer BadWords waits calls bytes taken output = ⊥
-IsAnswer Done waits calls bytes taken output = Whole waits calls bytes Done (length taken) output
-IsAnswer NoShutdown waits calls bytes taken output = Whole waits calls bytes NoShutdown (length taken) output
-IsAnswer InputEnded waits calls bytes taken output = Whole waits calls bytes InputEnded (length taken) output
-IsAnswer (BadFrame at) waits calls bytes taken output = Whole waits calls bytes (BadFrame at) (length taken) output
-IsAnswer InputTooLong waits calls bytes taken output = Whole waits calls bytes InputTooLong (length taken) output
+IsAnswer BadWords budget waits calls bytes taken output = ⊥
+IsAnswer Done budget waits calls bytes taken output = Whole budget waits calls bytes Done (length taken) output
+IsAnswer NoShutdown budget waits calls bytes taken output = Whole budget waits calls bytes NoShutdown (length taken) output
+IsAnswer InputEnded budget waits calls bytes taken output = Whole budget waits calls bytes InputEnded (length taken) output
+IsAnswer (BadFrame at) budget waits calls bytes taken output = Whole budget waits calls bytes (BadFrame at) (length taken) output
+IsAnswer InputTooLong budget waits calls bytes taken output = Whole budget waits calls bytes InputTooLong (length taken) output
 
 -- What a run took of the source and put into the sink, as they tell it, is the plain session's for the answers of
 -- `waiting` that the source gave.
-pub record IsPlainRun (calls : List LibraryCall) (waits_before waits_now : Option (List Bool)) (left_before left_now held_before held_now : Option (List ℕ)) (status : Status) : Type 0 where
+pub record IsPlainRun (budget : ℕ) (calls : List LibraryCall) (waits_before waits_now : Option (List Bool)) (left_before left_now held_before held_now : Option (List ℕ)) (status : Status) : Type 0 where
   pub taken : List ℕ
   pub output : List ℕ
   pub waits : List Bool
   pub asked : Asked waits_before waits waits_now
   pub read : Gives left_before taken left_now
   pub wrote : Gains held_before output held_now
-  pub answer : (bytes : List ℕ) → left_before ≡ Some bytes → IsAnswer status waits calls bytes taken output
+  pub answer : (bytes : List ℕ) → left_before ≡ Some bytes → IsAnswer status budget waits calls bytes taken output
 
 -- Faults come only where the count of that object rose.
 abbrev pub HasStatusCause : Status → (source_before source_now sink_before sink_now : ℕ) → Type 0
@@ -75,8 +75,8 @@ HasStatusCause InputTooLong a b c d = Unit {0}
 
 -- Completeness: where no fault was counted, the run ends as the plain session does for the input that was there and the
 -- answers of `waiting` that were given, has written all of its output, and has taken what it takes, unless memory ran out.
-abbrev pub Completes : List LibraryCall → (waits_before waits_now : Option (List Bool)) → (left_before left_now held_before held_now : Option (List ℕ)) → Status → Type 0
-Completes calls waits_before waits_now left_before left_now held_before held_now status =
+abbrev pub Completes : (budget : ℕ) → List LibraryCall → (waits_before waits_now : Option (List Bool)) → (left_before left_now held_before held_now : Option (List ℕ)) → Status → Type 0
+Completes budget calls waits_before waits_now left_before left_now held_before held_now status =
     (waits : List Bool) × Asked waits_before waits waits_now
-    × ((bytes : List ℕ) (replies : List (List ℕ)) (wanted : Status) (taken : ℕ) → left_before ≡ Some bytes → Out (beginning_with waits) 0 calls bytes replies wanted taken
+    × ((bytes : List ℕ) (replies : List (List ℕ)) (wanted : Status) (taken : ℕ) → left_before ≡ Some bytes → Out (beginning_with budget waits) 0 calls bytes replies wanted taken
     → (status ≡ OutOfMemory) ⊎ ((status ≡ wanted) × (left_now ≡ Some (drop taken bytes)) × Gains held_before (written replies) held_now))

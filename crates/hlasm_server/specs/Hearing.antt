@@ -20,9 +20,9 @@ pub record Running : Type 0 where
 abbrev pub at_rest : State → (waits : List Bool) → (since : ℕ) → Running
 at_rest s waits since = record { state = s; waits = waits; since = since }
 
--- before the first message
-abbrev pub beginning_with : (waits : List Bool) → Running
-beginning_with waits = at_rest start waits 0
+-- before the first message, where a program may be given so many statements
+abbrev pub beginning_with : (budget : ℕ) (waits : List Bool) → Running
+beginning_with budget waits = at_rest (start budget) waits 0
 
 -- ---- Turns
 

@@ -1,5 +1,5 @@
 //! The top call: from the bytes that come in to the bytes that go out.
-ghost use Rattle.std.specs.Prelude.{◌≡◌, ◌≢◌, ◌≤◌, ◌↔◌, [], Some, None, map, string_bytes};
+ghost use Rattle.std.specs.Prelude.{◌≡◌, ◌≢◌, ◌≤◌, ◌↔◌, ℕ, [], Some, None, map, string_bytes};
 ghost use Rattle.hlasm_server.specs.Status.{status_of};
 ghost use Rattle.io_edge.specs.Told.{HasRisen};
 ghost use Rattle.hlasm_server.specs.declared.words.Command.TheVariants.{Serve as ServeCommand};
@@ -16,9 +16,6 @@ use rpc_framing::FrameReader;
 use session_core::{Phase, Session};
 use std::alloc::Global;
 
-/// How many statements a program may be given in a Turn.
-const BUDGET: u32 = 100_000;
-
 /// The most bytes that are taken of an input.
 const MOST_INPUT: u64 = 1 << 40;
 
@@ -32,15 +29,16 @@ fn stopped(stop: Stop) -> Status
     }
 }
 
-/// The session, until it ends.
+/// The session, until it ends. A program may be given so many statements.
 fn serve<S: Source, K: Sink, B: Library, L: Ledger>(
     alloc: Global,
+    budget: u32,
     source: &mut S,
     sink: &mut K,
     library: &mut B,
     steps: &mut Steps<L>,
 ) -> Status
-    ensures plain { IsPlainRun [] (S.waits source.old) (S.waits source.new)
+    ensures plain { IsPlainRun budget [] (S.waits source.old) (S.waits source.new)
         (S.left source.old) (S.left source.new) (K.held sink.old) (K.held sink.new) result }
     ensures cause { HasStatusCause result (S.faults source.old) (S.faults source.new) (K.faults sink.old) (K.faults sink.new) }
     ensures words { result ≢ Status.BadWords }
@@ -50,7 +48,7 @@ fn serve<S: Source, K: Sink, B: Library, L: Ledger>(
     ensures later_sink { K.faults sink.old ≤ K.faults sink.new }
 {
     let mut buffer = [0; LARGEST_PIECE];
-    let mut session = match Session::new(alloc, BUDGET) {
+    let mut session = match Session::new(alloc, budget) {
         Ok(session) => session,
         Err(OutOfMemory) => return Status::OutOfMemory,
     };
@@ -99,7 +97,7 @@ pub fn run<S: Source, K: Sink, B: Library, L: Ledger>(
     steps: &mut Steps<L>,
 ) -> Status
     // The headline.
-    ensures plain { command_of (map string_bytes words.now) ≡ Some ServeCommand → IsPlainRun [] (S.waits source.old) (S.waits source.new)
+    ensures plain { (budget : ℕ) → command_of (map string_bytes words.now) ≡ Some (ServeCommand budget) → IsPlainRun budget [] (S.waits source.old) (S.waits source.new)
         (S.left source.old) (S.left source.new) (K.held sink.old) (K.held sink.new) result }
 
     // Each fault has its cause.
@@ -107,10 +105,10 @@ pub fn run<S: Source, K: Sink, B: Library, L: Ledger>(
     ensures cause { HasStatusCause result (S.faults source.old) (S.faults source.new) (K.faults sink.old) (K.faults sink.new) }
 
     // A whole session is answered whole.
-    ensures complete { command_of (map string_bytes words.now) ≡ Some ServeCommand
+    ensures complete { (budget : ℕ) → command_of (map string_bytes words.now) ≡ Some (ServeCommand budget)
         → (HasRisen (S.faults source.old) (S.faults source.new) → ⊥)
         → (HasRisen (K.faults sink.old) (K.faults sink.new) → ⊥)
-        → Completes [] (S.waits source.old) (S.waits source.new)
+        → Completes budget [] (S.waits source.old) (S.waits source.new)
         (S.left source.old) (S.left source.new) (K.held sink.old) (K.held sink.new) result }
 
     // With wrong words nothing is read, asked or written.
@@ -125,7 +123,7 @@ pub fn run<S: Source, K: Sink, B: Library, L: Ledger>(
     ensures later_sink { K.faults sink.old ≤ K.faults sink.new }
 {
     match read_words(words) {
-        Some(Command::Serve) => serve(alloc, source, sink, library, steps),
+        Some(Command::Serve { budget }) => serve(alloc, budget, source, sink, library, steps),
         None => Status::BadWords,
     }
 }

@@ -315,8 +315,8 @@ pub fresh_message : (s : State) (body : List ℕ) (calls : List LibraryCall) →
 unfolding message
 fresh_message s body calls fresh = good_cond (is_ended s.stage) (quiet s) (received s (reading body)) (λ alive. fresh) (good_received s (reading body) fresh)
 
-pub fresh_start : AreFresh start
-fresh_start n document found program free = cc
+pub fresh_start : (budget : ℕ) → AreFresh (start budget)
+fresh_start budget n document found program free = cc
 
 -- ---- changes
 

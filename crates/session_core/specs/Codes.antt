@@ -1,6 +1,6 @@
 -- How a state and a session are told apart from others of their kind: as the tuples of their fields (this project).
-use Rattle.std.specs.Prelude.{ℕ, Bool, List, refl}
-use Rattle.std.specs.Coded.{Coded, code_by, coded×, coded_ℕ, coded_bool, coded_list}
+use Rattle.std.specs.Prelude.{ℕ, Bool, List, Option, refl}
+use Rattle.std.specs.Coded.{Coded, code_by, coded×, coded_ℕ, coded_bool, coded_list, coded_option}
 use Rattle.hl_base.specs.declared.place.PathId.{PathId}
 use Rattle.document_store.specs.Holdings.{store_code}
 use Rattle.document_store.specs.Store.{Store}
@@ -17,10 +17,11 @@ path_code = code_by ℕ coded_ℕ (λ n. n.0) (λ n. record { 0 = n }) (λ _. re
 abbrev pub state_code : Coded State
 state_code =
     code_by
-    (Stage × (Store × (List PathId × List LastList)))
-    (coded× stage.the_row.coded (coded× store_code (coded× (coded_list path_code) (coded_list last_list.the_row.coded))))
-    (λ s. (s.stage, (s.store, (s.queue, s.published))))
-    (λ t. record { stage = t.0; store = t.1.0; queue = t.1.1.0; published = t.1.1.1 })
+    (Stage × (Option (List ℕ) × (ℕ × (Store × (List PathId × List LastList)))))
+    (coded× stage.the_row.coded (coded× (coded_option (coded_list coded_ℕ)) (coded× coded_ℕ
+    (coded× store_code (coded× (coded_list path_code) (coded_list last_list.the_row.coded))))))
+    (λ s. (s.stage, (s.root, (s.budget, (s.store, (s.queue, s.published))))))
+    (λ t. record { stage = t.0; root = t.1.0; budget = t.1.1.0; store = t.1.1.1.0; queue = t.1.1.1.1.0; published = t.1.1.1.1.1 })
     (λ _. refl)
 
 abbrev pub held_code : Coded Held

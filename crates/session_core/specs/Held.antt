@@ -15,9 +15,9 @@ pub record Held : Type 0 where
   pub output : List ℕ
   pub spent : Bool
 
--- before the first message
-abbrev pub beginning : Held
-beginning = record { state = start; output = []; spent = false }
+-- before the first message, where a program may be given so many statements
+abbrev pub beginning : (budget : ℕ) → Held
+beginning budget = record { state = start budget; output = []; spent = false }
 
 -- how a session in this state stands to its client
 abbrev pub phase_of : State → Phase

@@ -68,7 +68,7 @@ ended s = record s { stage = Ended (is_closing s.stage); queue = [] }
 
 -- each message has its line
 abbrev pub effect : State → LspIn → Step
-effect s (Initialize id root) = says (record s { stage = Active }) (initialize_reply id)
+effect s (Initialize id root) = says (record s { stage = Active; root = root }) (initialize_reply id)
 effect s (Shutdown id) = shut s id
 effect s Initialized = quiet (queue_all s)
 effect s Exit = quiet (ended s)

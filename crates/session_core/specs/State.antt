@@ -10,17 +10,20 @@ use Rattle.session_core.specs.declared.state.Stage.{Stage}
 use Rattle.session_core.specs.declared.state.Stage.TheVariants.{Fresh}
 use Rattle.session_core.specs.declared.state.LastList.{LastList}
 
--- How far the session has come, the documents, the programs whose list is still to be made, in order, and what was last
--- published of each program since it was opened. A program is named by the number of its path.
+-- How far the session has come, the URI of the folder that the client works in, how many statements a program may be given,
+-- the documents, the programs whose list is still to be made, in order, and what was last published of each program since it
+-- was opened. A program is named by the number of its path.
 pub record State : Type 0 where
   pub stage : Stage
+  pub root : Option (List ℕ)
+  pub budget : ℕ
   pub store : Store
   pub queue : List PathId
   pub published : List LastList
 
--- before the first message
-abbrev pub start : State
-start = record { stage = Fresh; store = empty_store; queue = []; published = [] }
+-- before the first message, where a program may be given so many statements
+abbrev pub start : (budget : ℕ) → State
+start budget = record { stage = Fresh; root = None; budget = budget; store = empty_store; queue = []; published = [] }
 
 -- ---- programs
 

@@ -25,7 +25,7 @@ pub fn the_end_is_final()
 /// text as they are. It is so at first; each message keeps it so, but `exit`, and so does each Turn. So with an empty
 /// queue every list is of the texts present then.
 pub fn lists_are_fresh()
-    ensures at_first { AreFresh start }
+    ensures at_first { (budget : ℕ) → AreFresh (start budget) }
     ensures message { (s : State) (body : List ℕ) (calls : List LibraryCall) → AreFresh s
         → is_ended (message s body calls).state.stage ≡ false → AreFresh (message s body calls).state }
     ensures turn { (s : State) → AreFresh s → AreFresh (turn s).state }

@@ -1,5 +1,5 @@
 //! How a session begins and ends (LSP 3.17, "Lifecycle Messages").
-ghost use Rattle.std.specs.Prelude.{◌≡◌, ℕ, List, Option, Ok, IfOk};
+ghost use Rattle.std.specs.Prelude.{◌≡◌, Ok, IfOk};
 ghost use Rattle.lsp_messages.specs.declared.incoming.LspIn.TheVariants as said;
 ghost use Rattle.session_core.specs.Message as messages;
 ghost use Rattle.session_core.specs.Refusals.{is_active};
@@ -10,7 +10,7 @@ use crate::replies;
 use crate::requests::{out_of_place, too_early};
 use crate::standing::Standing;
 use crate::state::Stage;
-use hl_base::OutOfMemory;
+use hl_base::{OutOfMemory, Text};
 use lsp_messages::Id;
 use std::alloc::Global;
 
@@ -28,11 +28,16 @@ impl Standing {
     }
 
     /// `initialize`: what the server offers, once.
-    pub(crate) fn initialize(&mut self, alloc: Global, id: Id) -> Result<Bodies, OutOfMemory>
-        ensures { IfOk result (λ bodies. (root : Option (List ℕ)) → IsStep (messages.asked self.old (Ok (said.Initialize id root))) self.new bodies) }
+    pub(crate) fn initialize(
+        &mut self,
+        alloc: Global,
+        id: Id,
+        root: Option<Text>,
+    ) -> Result<Bodies, OutOfMemory>
+        ensures { IfOk result (λ bodies. IsStep (messages.asked self.old (Ok (said.Initialize id root))) self.new bodies) }
     {
         match self.stage {
-            Stage::Fresh => self.begin(alloc, id),
+            Stage::Fresh => self.begin(alloc, id, root),
             Stage::Active => out_of_place(alloc, id),
             Stage::Closing => out_of_place(alloc, id),
             Stage::Ended { .. } => out_of_place(alloc, id),
@@ -40,12 +45,13 @@ impl Standing {
     }
 
     /// The session begins.
-    fn begin(&mut self, alloc: Global, id: Id) -> Result<Bodies, OutOfMemory>
-        ensures { IfOk result (λ bodies. (root : Option (List ℕ)) → IsStep (messages.effect self.old (said.Initialize id root)) self.new bodies) }
+    fn begin(&mut self, alloc: Global, id: Id, root: Option<Text>) -> Result<Bodies, OutOfMemory>
+        ensures { IfOk result (λ bodies. IsStep (messages.effect self.old (said.Initialize id root)) self.new bodies) }
     {
         let reply = replies::initialize_reply(alloc, id)?;
         let bodies = Bodies::one(alloc, reply)?;
         self.stage = Stage::Active;
+        self.root = root;
         Ok(bodies)
     }
 

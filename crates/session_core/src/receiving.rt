@@ -77,7 +77,7 @@ impl Standing {
         ensures { IfOk result (λ bodies. IsStep (messages.asked self.old (Ok message)) self.new bodies) }
     {
         match message {
-            LspIn::Initialize { id, root: _root } => self.initialize(alloc, id),
+            LspIn::Initialize { id, root } => self.initialize(alloc, id, root),
             LspIn::Shutdown { id } => self.shutdown(alloc, id),
             LspIn::Exit => Ok(self.exit(alloc)),
             LspIn::Initialized => self.initialized(alloc),

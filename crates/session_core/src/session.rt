@@ -49,11 +49,10 @@ fn phase_of(standing: &Standing) -> Phase
 impl Session {
     /// Before the first message. A program may be given so many statements in a Turn, once statements are processed.
     pub fn new(alloc: Global, budget: u32) -> Result<Session, OutOfMemory>
-        ensures { IfOk result (λ session. session ≡ beginning) }
+        ensures { IfOk result (λ session. session ≡ beginning budget) }
     {
-        let _ = budget;
         Ok(Session {
-            standing: Standing::new(alloc),
+            standing: Standing::new(alloc, budget),
             output: Vec::new(alloc),
             spent: false,
             alloc,

@@ -14,15 +14,18 @@ use crate::replies;
 use crate::same::is_same_list;
 use crate::state::{LastList, Stage};
 use document_store::{Document, DocumentStore};
-use hl_base::{OutOfMemory, PathId};
+use hl_base::{OutOfMemory, PathId, Text};
 use lsp_messages::{Diagnostic, Diagnostics};
 use std::alloc::Global;
 use std::marker::Model;
 
-/// How far the session has come, the documents, the queue and what was published. Contracts see the state.
+/// How far the session has come, the folder of the client, the budget of a program, the documents, the queue and what was
+/// published. Contracts see the state.
 #[derive(Drop)]
 pub(crate) struct Standing {
     pub(crate) stage: Stage,
+    pub(crate) root: Option<Text>,
+    budget: u32,
     pub(crate) store: DocumentStore,
     pub(crate) queue: Vec<PathId>,
     pub(crate) published: Vec<LastList>,
@@ -37,7 +40,7 @@ impl Model for Standing {
 
     ghost coded = { state_code };
 
-    ghost view = { λ s. record { stage = s.stage; store = s.store.store; queue = s.queue.items; published = s.published.items } };
+    ghost view = { λ s. record { stage = s.stage; root = s.root; budget = s.budget; store = s.store.store; queue = s.queue.items; published = s.published.items } };
 
     ghost invariant = { λ s. length s.store.store.documents ≤ 64 };
 }
@@ -72,12 +75,14 @@ fn listed_body(
 }
 
 impl Standing {
-    /// Before the first message.
-    pub(crate) fn new(alloc: Global) -> Standing
-        ensures { result ≡ start }
+    /// Before the first message, where a program may be given so many statements.
+    pub(crate) fn new(alloc: Global, budget: u32) -> Standing
+        ensures { result ≡ start budget }
     {
         Standing {
             stage: Stage::Fresh,
+            root: None,
+            budget,
             store: DocumentStore::new(alloc),
             queue: Vec::new(alloc),
             published: Vec::new(alloc),

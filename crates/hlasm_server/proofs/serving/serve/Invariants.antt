@@ -11,7 +11,7 @@ invariant-loop-body g l =
     let k = g.K.Sink in
     let b = g.B.Library in
     record {
-      serving : IsServing (s.left l.initial.source) (s.left l.source) (k.held l.initial.sink) (k.held l.sink) (s.waits l.initial.source) (s.waits l.source)
+      serving : IsServing l.fn.budget (s.left l.initial.source) (s.left l.source) (k.held l.initial.sink) (k.held l.sink) (s.waits l.initial.source) (s.waits l.source)
           (s.faults l.initial.source) (s.faults l.source) (k.faults l.initial.sink) (k.faults l.sink) l.session l.since l.reader;
       buffer : length l.buffer ≡ LARGEST_PIECE;
       calls : b.calls l.library ≡ b.calls l.initial.library;

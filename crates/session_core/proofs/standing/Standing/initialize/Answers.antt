@@ -7,4 +7,4 @@ use Rattle.session_core.proofs.ListLaws.{if_ok}
 use Rattle.session_core.proofs.standing.Standing.initialize.Goals as goal
 
 pub returns-in-Fresh : goal.returns-in-Fresh
-returns-in-Fresh c = if_ok c.begin.result (λ bodies step root. asked_in Fresh c.args.self.now c.begin.new.self (Ok (Initialize c.args.id root)) bodies (ap (λ (z : State). z.stage) (sym c.self.view_is) ∙ c.in-Fresh.is) (step root)) c.begin.ensures
+returns-in-Fresh c = if_ok c.begin.result (λ bodies step. asked_in Fresh c.args.self.now c.begin.new.self (Ok (Initialize c.args.id c.args.root)) bodies (ap (λ (z : State). z.stage) (sym c.self.view_is) ∙ c.in-Fresh.is) step) c.begin.ensures

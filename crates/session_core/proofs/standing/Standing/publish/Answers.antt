@@ -10,7 +10,7 @@ use Rattle.session_core.proofs.standing.Standing.publish.Goals as goal
 pub returns-then-is_published : goal.returns-then-is_published
 returns-then-is_published c =
     let fields = c.self.inside in
-    let s : State = record { stage = fields.stage; store = fields.store.store; queue = fields.queue.items; published = fields.published.items } in
+    let s : State = record { stage = fields.stage; root = fields.root; budget = fields.budget; store = fields.store.store; queue = fields.queue.items; published = fields.published.items } in
     let n = c.args.path in
     let shown = c.in-Some.document in
     let list = c.in_ok-list.list in
@@ -24,7 +24,7 @@ returns-then-is_published c =
 pub returns : goal.returns
 returns c =
     let fields = c.self.inside in
-    let s : State = record { stage = fields.stage; store = fields.store.store; queue = fields.queue.items; published = fields.published.items } in
+    let s : State = record { stage = fields.stage; root = fields.root; budget = fields.budget; store = fields.store.store; queue = fields.queue.items; published = fields.published.items } in
     let n = c.args.path in
     let shown = c.in-Some.document in
     let list = c.in_ok-list.list in
