@@ -1,0 +1,10 @@
+-- the rows so far, and then what is left
+use Rattle.std.proofs.Common.{◌≡◌, map, drop}
+use Rattle.serde_json.specs.View.{view}
+use Rattle.program_config.specs.Members.{each}
+use Rattle.program_config.specs.Files.{library_in}
+use Rattle.program_config.proofs.ListLaws.{behind}
+use Rattle.program_config.proofs.files.libraries_among.Given as goal
+
+abbrev pub invariant-loop-element : goal.invariant-loop-element
+invariant-loop-element l = each library_in (map view l.elements) ≡ behind l.libraries (each library_in (map view (drop l.element-index l.elements)))
