@@ -3,3 +3,4 @@ pub mod Searching
 pub mod KeptLists
 pub mod Reused
 pub mod Walking
+pub mod Absorbed

@@ -1,6 +1,9 @@
 -- A kept outcome that is taken in place of running a nested call. This project.
-use Rattle.std.specs.Prelude.{◌≡◌, ◌≢◌, ℕ, ◌+◌, ◌-◌, Option, Some, List}
+use Rattle.std.specs.Prelude.{◌≡◌, ◌≢◌, ℕ, ◌+◌, ◌-◌, Option, Some, List, ◌++◌, map}
 use Rattle.kept_values.specs.Trees.{Tree}
+use Rattle.trace_arena.specs.Nodes.{Node, IsLive, IsUnshared}
+use Rattle.trace_arena.specs.Points.{points, within}
+use Rattle.trace_arena.specs.Changes.{last_item}
 use Rattle.asking_core.specs.Worlds.{WorldModel}
 use Rattle.asking_core.specs.Machines.{MachineModel}
 use Rattle.asking_core.specs.Runs.{Ending}
@@ -19,3 +22,11 @@ pub record JoinsIn (M : MachineModel) (W : WorldModel) (rebased : Tree → Tree 
   pub after_is : after ≡ come_back rebased before child
   pub ended_is : child.ended ≡ ended
   pub wanting_is : child.wanting ≡ wanting
+
+-- A nested call's node stands in its caller's node, behind what was there, and owes its life to that alone; all other nodes
+-- that were live still are, with their points.
+pub record Absorbs {I : Type 0} (old new : List (Node I)) (x child : ℕ) : Type 0 where
+  pub unshared : IsUnshared new x
+  pub behind : points new x ≡ points old x ++ map (within (last_item old x)) (points old child)
+  pub last : last_item new x ≡ last_item old x
+  pub lasts : (y : ℕ) → y ≢ x → IsLive old y → IsLive new y × (points new y ≡ points old y)

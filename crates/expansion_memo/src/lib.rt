@@ -23,4 +23,4 @@ pub use entry::Entry;
 pub use memo::Memo;
 pub use outcome::{Ended, Outcome};
 pub use walk::{Next, Walk, advance, begin};
-pub use within::reuse_within;
+pub use within::{absorb, reuse_within};

@@ -1,5 +1,5 @@
-//! A kept outcome in place of a nested call.
-ghost use Rattle.std.specs.Prelude.{◌≡◌, ℕ, ◌+◌, ◌-◌, ◌<◌, ◌≤◌, None, [], IfOk, OnOk, MatchOption};
+//! Nested calls: a kept outcome in place of one, and one that ran.
+ghost use Rattle.std.specs.Prelude.{◌≡◌, ◌≢◌, ℕ, ◌^◌, ◌+◌, ◌-◌, ◌<◌, ◌≤◌, None, [], IfOk, OnOk, MatchOption};
 ghost use Rattle.trace_arena.specs.Nodes.{IsUnshared};
 ghost use Rattle.trace_arena.specs.Changes.{Links};
 ghost use Rattle.asking_core.specs.Worlds.{Fits};
@@ -8,13 +8,14 @@ ghost use Rattle.asking_core.specs.Runs.{deepest_depth};
 ghost use Rattle.expansion_memo.specs.Kept.{AllStand, NoneHolds};
 ghost use Rattle.expansion_memo.specs.Entries.{ending_of};
 ghost use Rattle.expansion_memo.specs.Walks.{moment_at};
-ghost use Rattle.expansion_memo.specs.Within.{NotKept, JoinsIn};
+ghost use Rattle.kept_outcomes.specs.Moments.{joined};
+ghost use Rattle.expansion_memo.specs.Within.{NotKept, JoinsIn, Absorbs};
 
 use crate::{Ended, Memo, Walk};
 use asking_core::{AskMachine, World};
 use hl_base::OutOfMemory;
 use std::alloc::Global;
-use trace_arena::TraceArena;
+use trace_arena::{TraceArena, live_nodes_are_reached};
 
 /// Takes a kept outcome in place of running a nested call, if one holds: its node stands in the caller's then, and what it
 /// left is joined with what the caller left. How the nested call ended.
@@ -62,4 +63,31 @@ pub fn reuse_within<M: AskMachine, W: World<Key = M::Key, Value = M::Value>>(
     walk.summary
         .join(machine, alloc, &entry.summary, walk.frames)?;
     Ok(Some(entry.ended))
+}
+
+/// A nested call that ran is taken into its caller: its points stand behind those of the caller's node, which is its only
+/// owner then, and what it left is joined with what the caller left.
+pub fn absorb<M: AskMachine>(
+    machine: &M,
+    alloc: Global,
+    walk: &mut Walk<M::Local, M::Key, M::Value>,
+    child: &Walk<M::Local, M::Key, M::Value>,
+    arena: &mut TraceArena<M::Item>,
+) -> Result<(), OutOfMemory>
+    requires unshared { IsUnshared arena.old.nodes walk.old.node.0 }
+    requires child { IsUnshared arena.old.nodes child.now.node.0 }
+    requires other { child.now.node.0 ≢ walk.old.node.0 }
+    requires units { walk.old.summary.units + child.now.summary.units < 2 ^ 32 }
+    requires levels { walk.old.frames + 1 + child.now.summary.levels < 2 ^ 32 }
+    ensures joined { OnOk result (walk.new.summary ≡ joined M.rebased walk.old.frames walk.old.summary child.now.summary) }
+    ensures absorbed { OnOk result (Absorbs arena.old.nodes arena.new.nodes walk.old.node.0 child.now.node.0) }
+    ensures kept { (walk.new.node ≡ walk.old.node) × (walk.new.local ≡ walk.old.local) × (walk.new.frames ≡ walk.old.frames) }
+    ensures made { arena.new.made ≡ arena.old.made }
+{
+    arena.link(walk.node, child.node)?;
+    live_nodes_are_reached(arena);
+    arena.release(child.node);
+    walk.summary
+        .join(machine, alloc, &child.summary, walk.frames)?;
+    Ok(())
 }
