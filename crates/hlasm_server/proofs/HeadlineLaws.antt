@@ -6,7 +6,7 @@ use Rattle.hlasm_server.specs.declared.status.Status.{Status}
 use Rattle.hlasm_server.specs.declared.status.Status.TheVariants.{Done, NoShutdown, InputEnded, OutOfMemory, ReadFault, WriteFault, BadFrame, BadWords, InputTooLong}
 use Rattle.session_core.specs.Step.{written}
 use Rattle.hlasm_server.specs.Hearing.{beginning_with}
-use Rattle.hlasm_server.specs.Headline.{Whole, IsPlainRun, HasStatusCause, Completes}
+use Rattle.hlasm_server.specs.Headline.{Whole, IsPlainRunWith, HasStatusCause, CompletesWith}
 use Rattle.hlasm_server.proofs.OutputLaws.{one_out}
 
 -- what is left behind what was taken
@@ -18,8 +18,8 @@ left_now before (Some rest) taken bytes gives told =
     ap Some (sym (drop-append_seam taken rest) ∙ ap (drop (length taken)) (sym is))
 
 -- a run whose answer is whole is the plain one of that input
-whole_completes : (status : Status) (b : ℕ) (w0 w1 : Option (List Bool)) (l0 l1 h0 h1 : Option (List ℕ)) (plain : IsPlainRun b [] w0 w1 l0 l1 h0 h1 status)
-    → ((bytes : List ℕ) → l0 ≡ Some bytes → Whole b plain.waits [] bytes status (length plain.taken) plain.output) → Completes b [] w0 w1 l0 l1 h0 h1 status
+whole_completes : (status : Status) (b : ℕ) (w0 w1 : Option (List Bool)) (l0 l1 h0 h1 : Option (List ℕ)) (plain : IsPlainRunWith b [] w0 w1 l0 l1 h0 h1 status)
+    → ((bytes : List ℕ) → l0 ≡ Some bytes → Whole b plain.waits [] bytes status (length plain.taken) plain.output) → CompletesWith b [] w0 w1 l0 l1 h0 h1 status
 whole_completes status b w0 w1 l0 l1 h0 h1 plain answer = (
   plain.waits,
   plain.asked,
@@ -33,8 +33,8 @@ whole_completes status b w0 w1 l0 l1 h0 h1 plain answer = (
       ),
 )
 
-pub completes : (status : Status) (b : ℕ) (w0 w1 : Option (List Bool)) (l0 l1 h0 h1 : Option (List ℕ)) (f0 f1 k0 k1 : ℕ) → IsPlainRun b [] w0 w1 l0 l1 h0 h1 status → HasStatusCause status f0 f1 k0 k1
-    → (HasRisen f0 f1 → ⊥) → (HasRisen k0 k1 → ⊥) → Completes b [] w0 w1 l0 l1 h0 h1 status
+pub completes : (status : Status) (b : ℕ) (w0 w1 : Option (List Bool)) (l0 l1 h0 h1 : Option (List ℕ)) (f0 f1 k0 k1 : ℕ) → IsPlainRunWith b [] w0 w1 l0 l1 h0 h1 status → HasStatusCause status f0 f1 k0 k1
+    → (HasRisen f0 f1 → ⊥) → (HasRisen k0 k1 → ⊥) → CompletesWith b [] w0 w1 l0 l1 h0 h1 status
 completes Done b w0 w1 l0 l1 h0 h1 f0 f1 k0 k1 plain cause no_read no_write = whole_completes Done b w0 w1 l0 l1 h0 h1 plain plain.answer
 completes NoShutdown b w0 w1 l0 l1 h0 h1 f0 f1 k0 k1 plain cause no_read no_write = whole_completes NoShutdown b w0 w1 l0 l1 h0 h1 plain plain.answer
 completes InputEnded b w0 w1 l0 l1 h0 h1 f0 f1 k0 k1 plain cause no_read no_write = whole_completes InputEnded b w0 w1 l0 l1 h0 h1 plain plain.answer

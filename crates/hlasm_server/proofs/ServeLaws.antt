@@ -16,7 +16,7 @@ use Rattle.session_core.specs.Step.{written}
 use Rattle.session_core.specs.Held.{Held, beginning}
 use Rattle.hlasm_server.specs.Hearing.{Running, Goes, Ends, at_rest, beginning_with, hear, said}
 use Rattle.hlasm_server.specs.Output.{Leads, most_input, EndsAt, Out}
-use Rattle.hlasm_server.specs.Headline.{Whole, IsAnswer, IsPlainRun, HasStatusCause}
+use Rattle.hlasm_server.specs.Headline.{Whole, IsAnswer, IsPlainRunWith, HasStatusCause}
 use Rattle.hlasm_server.specs.Status.{status_of}
 use Rattle.hlasm_server.specs.declared.sending.Stop.{Stop}
 use Rattle.hlasm_server.specs.declared.sending.Stop.TheVariants as stop
@@ -209,7 +209,7 @@ ends_within_frame b l0 l1 h0 h1 w0 w1 f0 f1 k0 k1 s n r t serving partial few =
 
 -- the input had less than a whole frame left
 pub ends_with_input : (b : ℕ) (l0 l1 l2 h0 h1 : Option (List ℕ)) (w0 w1 : Option (List Bool)) (f0 f1 k0 k1 : ℕ) (s : Held) (n : ℕ) (r : Reading) (t : List ℕ)
-    → IsServing b l0 l1 h0 h1 w0 w1 f0 f1 k0 k1 s n r → Gives l1 t l2 → IsPartial t → IsAtEnd l2 → r.fed + length t < most_input → IsPlainRun b [] w0 w1 l0 l2 h0 h1 InputEnded
+    → IsServing b l0 l1 h0 h1 w0 w1 f0 f1 k0 k1 s n r → Gives l1 t l2 → IsPartial t → IsAtEnd l2 → r.fed + length t < most_input → IsPlainRunWith b [] w0 w1 l0 l2 h0 h1 InputEnded
 ends_with_input b l0 l1 l2 h0 h1 w0 w1 f0 f1 k0 k1 s n r t serving gives partial end few = record {
   taken = serving.front ++ t;
   output = written serving.replies;
@@ -225,7 +225,7 @@ ends_with_input b l0 l1 l2 h0 h1 w0 w1 f0 f1 k0 k1 s n r t serving gives partial
 
 -- the source refused within a frame
 pub ends_with_read_fault : (b : ℕ) (l0 l1 l2 h0 h1 : Option (List ℕ)) (w0 w1 : Option (List Bool)) (f0 f1 k0 k1 : ℕ) (s : Held) (n : ℕ) (r : Reading) (t : List ℕ)
-    → IsServing b l0 l1 h0 h1 w0 w1 f0 f1 k0 k1 s n r → Gives l1 t l2 → IsPartial t → r.fed + length t < most_input → IsPlainRun b [] w0 w1 l0 l2 h0 h1 ReadFault
+    → IsServing b l0 l1 h0 h1 w0 w1 f0 f1 k0 k1 s n r → Gives l1 t l2 → IsPartial t → r.fed + length t < most_input → IsPlainRunWith b [] w0 w1 l0 l2 h0 h1 ReadFault
 ends_with_read_fault b l0 l1 l2 h0 h1 w0 w1 f0 f1 k0 k1 s n r t serving gives partial few = record {
   taken = serving.front ++ t;
   output = written serving.replies;
@@ -238,7 +238,7 @@ ends_with_read_fault b l0 l1 l2 h0 h1 w0 w1 f0 f1 k0 k1 s n r t serving gives pa
 
 -- memory ran out before anything was written for the next message
 pub ends_without_memory : (b : ℕ) (l0 l1 l2 h0 h1 : Option (List ℕ)) (w0 w1 : Option (List Bool)) (f0 f1 k0 k1 : ℕ) (s : Held) (n : ℕ) (r : Reading) (t : List ℕ)
-    → IsServing b l0 l1 h0 h1 w0 w1 f0 f1 k0 k1 s n r → Gives l1 t l2 → IsPlainRun b [] w0 w1 l0 l2 h0 h1 OutOfMemory
+    → IsServing b l0 l1 h0 h1 w0 w1 f0 f1 k0 k1 s n r → Gives l1 t l2 → IsPlainRunWith b [] w0 w1 l0 l2 h0 h1 OutOfMemory
 ends_without_memory b l0 l1 l2 h0 h1 w0 w1 f0 f1 k0 k1 s n r t serving gives = record {
   taken = serving.front ++ t;
   output = written serving.replies;
@@ -265,7 +265,7 @@ ends_without_memory b l0 l1 l2 h0 h1 w0 w1 f0 f1 k0 k1 s n r t serving gives = r
 }
 
 -- there was no memory for a session
-pub ends_at_once : (b : ℕ) (left held : Option (List ℕ)) (waits : Option (List Bool)) → IsPlainRun b [] waits waits left left held held OutOfMemory
+pub ends_at_once : (b : ℕ) (left held : Option (List ℕ)) (waits : Option (List Bool)) → IsPlainRunWith b [] waits waits left left held held OutOfMemory
 ends_at_once b left held waits =
     let reader : Reading = record { ready = []; rest = []; fed = 0; fault = None } in
     let at_first = between_at_first reader refl in
@@ -274,7 +274,7 @@ ends_at_once b left held waits =
 -- memory ran out while the message was answered
 pub ends_without_memory_within : (b : ℕ) (l0 l1 l2 h0 h1 h2 : Option (List ℕ)) (w0 w1 w2 : Option (List Bool)) (f0 f1 k0 k1 : ℕ) (s : Held) (n : ℕ) (r : Reading) (f body : List ℕ) (answers : List Bool)
     → IsServing b l0 l1 h0 h1 w0 w1 f0 f1 k0 k1 s n r → Gives l1 f l2 → IsFrame f body → r.fed + length f ≤ most_input → Asked w1 answers w2
-    → PutsFirst h1 (said (hear (at_rest s.state answers n) body)) h2 → IsPlainRun b [] w0 w2 l0 l2 h0 h2 OutOfMemory
+    → PutsFirst h1 (said (hear (at_rest s.state answers n) body)) h2 → IsPlainRunWith b [] w0 w2 l0 l2 h0 h2 OutOfMemory
 ends_without_memory_within b l0 l1 l2 h0 h1 h2 w0 w1 w2 f0 f1 k0 k1 s n r f body answers serving gives is room asked (first, others, cut_said, gains) = record {
   taken = serving.front ++ f;
   output = written (serving.replies ++ first);
@@ -307,7 +307,7 @@ ends_without_memory_within b l0 l1 l2 h0 h1 h2 w0 w1 w2 f0 f1 k0 k1 s n r f body
 -- the sink refused while the answer was written
 pub ends_with_write_fault : (b : ℕ) (l0 l1 l2 h0 h1 h2 : Option (List ℕ)) (w0 w1 w2 : Option (List Bool)) (f0 f1 k0 k1 : ℕ) (s : Held) (n : ℕ) (r : Reading) (f body : List ℕ) (answers : List Bool)
     → IsServing b l0 l1 h0 h1 w0 w1 f0 f1 k0 k1 s n r → Gives l1 f l2 → IsFrame f body → r.fed + length f ≤ most_input → Asked w1 answers w2
-    → PutsFront h1 (written (said (hear (at_rest s.state answers n) body))) h2 → IsPlainRun b [] w0 w2 l0 l2 h0 h2 WriteFault
+    → PutsFront h1 (written (said (hear (at_rest s.state answers n) body))) h2 → IsPlainRunWith b [] w0 w2 l0 l2 h0 h2 WriteFault
 ends_with_write_fault b l0 l1 l2 h0 h1 h2 w0 w1 w2 f0 f1 k0 k1 s n r f body answers serving gives is room asked (first, others, cut_said, gains) = record {
   taken = serving.front ++ f;
   output = written serving.replies ++ first;
@@ -363,7 +363,7 @@ exit_answer false b waits bytes taken output whole = whole
 -- the exit was heard
 pub ends_with_exit : (closed : Bool) (b : ℕ) (l0 l1 l2 h0 h1 h2 : Option (List ℕ)) (w0 w1 w2 : Option (List Bool)) (f0 f1 k0 k1 : ℕ) (s : Held) (n : ℕ) (r : Reading) (f body : List ℕ)
     → IsServing b l0 l1 h0 h1 w0 w1 f0 f1 k0 k1 s n r → Gives l1 f l2 → IsFrame f body → r.fed + length f ≤ most_input → Closes s.state n body closed w1 w2 h1 h2
-    → IsPlainRun b [] w0 w2 l0 l2 h0 h2 (brings (Ends closed))
+    → IsPlainRunWith b [] w0 w2 l0 l2 h0 h2 (brings (Ends closed))
 ends_with_exit closed b l0 l1 l2 h0 h1 h2 w0 w1 w2 f0 f1 k0 k1 s n r f body serving gives is room closes = record {
   taken = serving.front ++ f;
   output = written serving.replies;
@@ -378,7 +378,7 @@ ends_with_exit closed b l0 l1 l2 h0 h1 h2 w0 w1 w2 f0 f1 k0 k1 s n r f body serv
 
 -- bytes came that begin no frame
 pub ends_with_bad_start : (b : ℕ) (l0 l1 l2 h0 h1 : Option (List ℕ)) (w0 w1 : Option (List Bool)) (f0 f1 k0 k1 : ℕ) (s : Held) (n : ℕ) (r : Reading) (t : List ℕ) (at : ℕ)
-    → IsServing b l0 l1 h0 h1 w0 w1 f0 f1 k0 k1 s n r → Gives l1 t l2 → IsBadStart t (length t) → at ≡ r.fed + length t → at ≤ most_input → IsPlainRun b [] w0 w1 l0 l2 h0 h1 (BadFrame at)
+    → IsServing b l0 l1 h0 h1 w0 w1 f0 f1 k0 k1 s n r → Gives l1 t l2 → IsBadStart t (length t) → at ≡ r.fed + length t → at ≤ most_input → IsPlainRunWith b [] w0 w1 l0 l2 h0 h1 (BadFrame at)
 ends_with_bad_start b l0 l1 l2 h0 h1 w0 w1 f0 f1 k0 k1 s n r t at serving gives bad place room = record {
   taken = serving.front ++ t;
   output = written serving.replies;
@@ -392,7 +392,7 @@ ends_with_bad_start b l0 l1 l2 h0 h1 w0 w1 f0 f1 k0 k1 s n r t at serving gives 
 
 -- all was taken that may be
 pub ends_with_limit : (b : ℕ) (l0 l1 l2 h0 h1 : Option (List ℕ)) (w0 w1 : Option (List Bool)) (f0 f1 k0 k1 : ℕ) (s : Held) (n : ℕ) (r : Reading) (t : List ℕ)
-    → IsServing b l0 l1 h0 h1 w0 w1 f0 f1 k0 k1 s n r → Gives l1 t l2 → IsPartial t → r.fed + length t ≡ most_input → IsPlainRun b [] w0 w1 l0 l2 h0 h1 InputTooLong
+    → IsServing b l0 l1 h0 h1 w0 w1 f0 f1 k0 k1 s n r → Gives l1 t l2 → IsPartial t → r.fed + length t ≡ most_input → IsPlainRunWith b [] w0 w1 l0 l2 h0 h1 InputTooLong
 ends_with_limit b l0 l1 l2 h0 h1 w0 w1 f0 f1 k0 k1 s n r t serving gives partial most = record {
   taken = serving.front ++ t;
   output = written serving.replies;
@@ -411,7 +411,7 @@ ends_with_limit b l0 l1 l2 h0 h1 w0 w1 f0 f1 k0 k1 s n r t serving gives partial
 
 -- output stopped within the answer to a message
 pub ends_stopped : (e : Stop) (b : ℕ) (l0 l1 l2 h0 h1 h2 : Option (List ℕ)) (w0 w1 w2 : Option (List Bool)) (f0 f1 k0 k1 : ℕ) (s : Held) (n : ℕ) (r : Reading) (f body : List ℕ)
-    → IsServing b l0 l1 h0 h1 w0 w1 f0 f1 k0 k1 s n r → Gives l1 f l2 → IsFrame f body → r.fed + length f ≤ most_input → StopsHearing e s.state n body w1 w2 h1 h2 → IsPlainRun b [] w0 w2 l0 l2 h0 h2 (status_of e)
+    → IsServing b l0 l1 h0 h1 w0 w1 f0 f1 k0 k1 s n r → Gives l1 f l2 → IsFrame f body → r.fed + length f ≤ most_input → StopsHearing e s.state n body w1 w2 h1 h2 → IsPlainRunWith b [] w0 w2 l0 l2 h0 h2 (status_of e)
 ends_stopped stop.OutOfMemory b l0 l1 l2 h0 h1 h2 w0 w1 w2 f0 f1 k0 k1 s n r f body serving gives is room stops =
     ends_without_memory_within b l0 l1 l2 h0 h1 h2 w0 w1 w2 f0 f1 k0 k1 s n r f body stops.answers serving gives is room stops.asked stops.put
 ends_stopped stop.WriteFault b l0 l1 l2 h0 h1 h2 w0 w1 w2 f0 f1 k0 k1 s n r f body serving gives is room stops =

@@ -51,8 +51,8 @@ IsAnswer (BadFrame at) budget waits calls bytes taken output = Whole budget wait
 IsAnswer InputTooLong budget waits calls bytes taken output = Whole budget waits calls bytes InputTooLong (length taken) output
 
 -- What a run took of the source and put into the sink, as they tell it, is the plain session's for the answers of
--- `waiting` that the source gave.
-pub record IsPlainRun (budget : ℕ) (calls : List LibraryCall) (waits_before waits_now : Option (List Bool)) (left_before left_now held_before held_now : Option (List ℕ)) (status : Status) : Type 0 where
+-- `waiting` that the source gave, where these calls of the library were made.
+pub record IsPlainRunWith (budget : ℕ) (calls : List LibraryCall) (waits_before waits_now : Option (List Bool)) (left_before left_now held_before held_now : Option (List ℕ)) (status : Status) : Type 0 where
   pub taken : List ℕ
   pub output : List ℕ
   pub waits : List Bool
@@ -75,8 +75,20 @@ HasStatusCause InputTooLong a b c d = Unit {0}
 
 -- Completeness: where no fault was counted, the run ends as the plain session does for the input that was there and the
 -- answers of `waiting` that were given, has written all of its output, and has taken what it takes, unless memory ran out.
-abbrev pub Completes : (budget : ℕ) → List LibraryCall → (waits_before waits_now : Option (List Bool)) → (left_before left_now held_before held_now : Option (List ℕ)) → Status → Type 0
-Completes budget calls waits_before waits_now left_before left_now held_before held_now status =
+abbrev pub CompletesWith : (budget : ℕ) → List LibraryCall → (waits_before waits_now : Option (List Bool)) → (left_before left_now held_before held_now : Option (List ℕ)) → Status → Type 0
+CompletesWith budget calls waits_before waits_now left_before left_now held_before held_now status =
     (waits : List Bool) × Asked waits_before waits waits_now
     × ((bytes : List ℕ) (replies : List (List ℕ)) (wanted : Status) (taken : ℕ) → left_before ≡ Some bytes → Out (beginning_with budget waits) 0 calls bytes replies wanted taken
     → (status ≡ OutOfMemory) ⊎ ((status ≡ wanted) × (left_now ≡ Some (drop taken bytes)) × Gains held_before (written replies) held_now))
+
+-- ---- the calls
+
+-- a run is the plain session's for the calls that the library tells it has gained, with their answers
+abbrev pub IsPlainRun : (budget : ℕ) (calls_before calls_now : Option (List LibraryCall)) (waits_before waits_now : Option (List Bool)) (left_before left_now held_before held_now : Option (List ℕ)) → Status → Type 0
+IsPlainRun budget calls_before calls_now waits_before waits_now left_before left_now held_before held_now status =
+    (calls : List LibraryCall) × Gains calls_before calls calls_now × IsPlainRunWith budget calls waits_before waits_now left_before left_now held_before held_now status
+
+-- and completeness is said for these
+abbrev pub Completes : (budget : ℕ) (calls_before calls_now : Option (List LibraryCall)) (waits_before waits_now : Option (List Bool)) (left_before left_now held_before held_now : Option (List ℕ)) → Status → Type 0
+Completes budget calls_before calls_now waits_before waits_now left_before left_now held_before held_now status =
+    (calls : List LibraryCall) × Gains calls_before calls calls_now × CompletesWith budget calls waits_before waits_now left_before left_now held_before held_now status

@@ -3,7 +3,7 @@ ghost use Rattle.std.specs.Prelude.{◌≡◌, ◌≢◌, ◌≤◌, ◌↔◌, 
 ghost use Rattle.hlasm_server.specs.Status.{status_of};
 ghost use Rattle.io_edge.specs.Told.{HasRisen};
 ghost use Rattle.hlasm_server.specs.declared.words.Command.TheVariants.{Serve as ServeCommand};
-ghost use Rattle.hlasm_server.specs.Headline.{IsPlainRun, HasStatusCause, Completes};
+ghost use Rattle.hlasm_server.specs.Headline.{IsPlainRun, IsPlainRunWith, HasStatusCause, Completes};
 ghost use Rattle.hlasm_server.specs.Words.{command_of};
 
 use crate::Status;
@@ -38,7 +38,7 @@ fn serve<S: Source, K: Sink, B: Library, L: Ledger>(
     library: &mut B,
     steps: &mut Steps<L>,
 ) -> Status
-    ensures plain { IsPlainRun budget [] (S.waits source.old) (S.waits source.new)
+    ensures plain { IsPlainRunWith budget [] (S.waits source.old) (S.waits source.new)
         (S.left source.old) (S.left source.new) (K.held sink.old) (K.held sink.new) result }
     ensures cause { HasStatusCause result (S.faults source.old) (S.faults source.new) (K.faults sink.old) (K.faults sink.new) }
     ensures words { result ≢ Status.BadWords }
@@ -97,7 +97,8 @@ pub fn run<S: Source, K: Sink, B: Library, L: Ledger>(
     steps: &mut Steps<L>,
 ) -> Status
     // The headline.
-    ensures plain { (budget : ℕ) → command_of (map string_bytes words.now) ≡ Some (ServeCommand budget) → IsPlainRun budget [] (S.waits source.old) (S.waits source.new)
+    ensures plain { (budget : ℕ) → command_of (map string_bytes words.now) ≡ Some (ServeCommand budget) → IsPlainRun budget
+        (B.calls library.old) (B.calls library.new) (S.waits source.old) (S.waits source.new)
         (S.left source.old) (S.left source.new) (K.held sink.old) (K.held sink.new) result }
 
     // Each fault has its cause.
@@ -108,7 +109,7 @@ pub fn run<S: Source, K: Sink, B: Library, L: Ledger>(
     ensures complete { (budget : ℕ) → command_of (map string_bytes words.now) ≡ Some (ServeCommand budget)
         → (HasRisen (S.faults source.old) (S.faults source.new) → ⊥)
         → (HasRisen (K.faults sink.old) (K.faults sink.new) → ⊥)
-        → Completes budget [] (S.waits source.old) (S.waits source.new)
+        → Completes budget (B.calls library.old) (B.calls library.new) (S.waits source.old) (S.waits source.new)
         (S.left source.old) (S.left source.new) (K.held sink.old) (K.held sink.new) result }
 
     // With wrong words nothing is read, asked or written.
