@@ -1,11 +1,13 @@
-//! Compares tables of cases with what `json_view`, `lsp_messages` and `dap_messages` answer: `message_cases TABLE` reads the cases of one
-//! table from standard input, prints each whose answer differs, and at the end `N passed, M failed`.
+//! Compares tables of cases with what `json_view`, `lsp_messages`, `dap_messages` and `program_config` answer:
+//! `message_cases TABLE` reads the cases of one table from standard input, prints each whose answer differs, and at the end
+//! `N passed, M failed`.
 //!
 //! tests/cases/README.md says what each table reads. What the crates promise stands on their own functions; here is only
 //! how an answer is written down.
 #![tactic(auto)]
 
 mod bodies;
+mod config;
 mod debug_bodies;
 mod debug_requests;
 mod json;

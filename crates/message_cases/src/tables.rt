@@ -1,5 +1,5 @@
 //! The tables by their words.
-use crate::{bodies, debug_bodies, debug_requests, json, members, messages};
+use crate::{bodies, config, debug_bodies, debug_requests, json, members, messages};
 use case_lines::CaseTable;
 use hl_base::OutOfMemory;
 use std::alloc::Global;
@@ -39,6 +39,15 @@ pub enum Table {
 
     /// Debug messages that are written.
     DebugBodies,
+
+    /// Texts, read as the file of groups.
+    ConfigGroups,
+
+    /// Texts, read as the file of programs.
+    ConfigPrograms,
+
+    /// The groups of paths.
+    ConfigChoices,
 }
 
 /// What is answered where the fields are not those of the table.
@@ -56,9 +65,13 @@ fn answer_of_text(alloc: Global, table: Table, text: &str) -> Result<String, Out
         Table::Responses => messages::is_answer(alloc, text),
         Table::Ids => messages::copied(alloc, text),
         Table::DebugRequests => debug_requests::read(alloc, text),
-        Table::Parameters | Table::Bodies | Table::DebugArguments | Table::DebugBodies => {
-            other_fields(alloc)
-        }
+        Table::ConfigGroups => config::groups_read(alloc, text),
+        Table::ConfigPrograms => config::programs_read(alloc, text),
+        Table::Parameters
+        | Table::Bodies
+        | Table::DebugArguments
+        | Table::DebugBodies
+        | Table::ConfigChoices => other_fields(alloc),
     }
 }
 
@@ -76,6 +89,9 @@ impl CaseTable for Table {
             "debug_requests" => Some(Table::DebugRequests),
             "debug_arguments" => Some(Table::DebugArguments),
             "debug_bodies" => Some(Table::DebugBodies),
+            "config_groups" => Some(Table::ConfigGroups),
+            "config_programs" => Some(Table::ConfigPrograms),
+            "config_choices" => Some(Table::ConfigChoices),
             _ => None,
         }
     }
@@ -91,6 +107,9 @@ impl CaseTable for Table {
             }
             (Table::DebugArguments, [command, arguments]) => {
                 debug_requests::of_arguments(alloc, command.as_str(), arguments.as_str())
+            }
+            (Table::ConfigChoices, [entries, groups, path]) => {
+                config::place(alloc, entries.as_str(), groups.as_str(), path.as_str())
             }
             (table, [text]) => answer_of_text(alloc, table, text.as_str()),
             _ => other_fields(alloc),
