@@ -8,6 +8,7 @@ program_of() {
     case $1 in
         json | json_bytes | members | messages | parameters | responses | ids | bodies) echo message_cases ;;
         sources | sinks | libraries) echo io_cases ;;
+        nodes | chains) echo trace_cases ;;
         frames | pieces | written_frames) echo text_cases ;;
         statements | fields | places) echo text_cases ;;
         changes | columns | positions | store) echo text_cases ;;
