@@ -15,6 +15,3 @@ mod link;
 
 pub use chains::{Chains, links_are_listed};
 pub use link::{Link, LinkId};
-
-#[cfg(test)]
-mod tests;

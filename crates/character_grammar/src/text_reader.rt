@@ -8,6 +8,7 @@ ghost use Rattle.expression_grammar.specs.Parts as parts;
 ghost use Rattle.expression_grammar.specs.Reading as reading;
 ghost use Rattle.expression_grammar.specs.Stacks.{stack_of, stand};
 ghost use Rattle.character_grammar.specs.TextReading as texts;
+ghost use Rattle.character_grammar.specs.declared.text_point.TextPoint.TheVariants as points;
 ghost use Rattle.character_grammar.specs.TextViews.{TextMoves, Settles, left_of, opened_of, holder_of, frame_of, text_state};
 ghost use Rattle.expression_grammar.specs.Trees.{NoItems, NoTrees, Quoted, size, size_items};
 ghost use Rattle.expression_grammar.specs.Views.{tree_of, trees_in, items_in};
@@ -17,7 +18,7 @@ use crate::text_point::{Frame, Holder, Opened, TextPoint, built, typed, typed_na
 use expression_grammar::character::{Grammar, Kind, kind_of};
 use expression_grammar::part::Part;
 use expression_grammar::pending::{Pending, Point, fold};
-use expression_grammar::reader::step;
+use expression_grammar::reader::{Moved, step};
 use expression_grammar::spelled::{LONGEST, Spelled};
 use expression_grammar::tree::{Expr, Item, Operator, Symbol, quoted, substring, substring_to_end};
 use hl_base::OutOfMemory;
@@ -372,6 +373,19 @@ fn leave(
     }
 }
 
+/// Where an arithmetic expression stands within a text, if it goes on.
+fn within(frame: Frame, stack: Vec<Pending>, next: Option<Moved>) -> Option<TextMoved>
+    ensures { result ≡ option_map (λ next. record { point = points.Within frame next.point stack; more = next.more }) next }
+{
+    match next {
+        Some(next) => moved(
+            TextPoint::Within(frame, next.point, stack),
+            u64::from(next.more),
+        ),
+        None => None,
+    }
+}
+
 /// One character more of an arithmetic expression.
 fn step_within(
     alloc: Global,
@@ -387,13 +401,8 @@ fn step_within(
     ensures small { IfOk result (λ found. IfSome found (λ moved. moved.more < 2 ^ 32)) }
 {
     let mut above = stack;
-    match step(alloc, Grammar::Arithmetic, inner, c, at, &mut above)? {
-        Some(next) => Ok(moved(
-            TextPoint::Within(frame, next.point, above),
-            u64::from(next.more),
-        )),
-        None => Ok(None),
-    }
+    let next = step(alloc, Grammar::Arithmetic, inner, c, at, &mut above)?;
+    Ok(within(frame, above, next))
 }
 
 /// An arithmetic expression that may end here, or where it stands.
@@ -665,17 +674,46 @@ fn finish_name(
     alloc: Global,
     holder: Holder,
     place: u32,
-    name: &Spelled,
+    name: Spelled,
 ) -> Result<Option<Expr>, OutOfMemory>
-    ensures { IfOk result (λ found. option_map tree_of found ≡ texts.text_accept (texts.Naming (holder_of holder) place name.now)) }
+    ensures { IfOk result (λ found. option_map tree_of found ≡ texts.text_accept (texts.Naming (holder_of holder) place name)) }
 {
     match holder {
         Holder::InText(..) => Ok(None),
         Holder::AsType(left) => {
-            let part = typed(alloc, left, symbol(place, name), Vec::new(alloc))?;
+            let part = typed(alloc, left, symbol(place, &name), Vec::new(alloc))?;
             Ok(Some(part))
         }
     }
+}
+
+/// The tree of a text that ends behind a closing apostrophe.
+#[tactic(auto, unfolding(crate::specs::TextReading::text_accept))]
+fn finish_quotation(
+    alloc: Global,
+    opened: Opened,
+    items: Vec<Item>,
+    plain: Characters,
+) -> Result<Option<Expr>, OutOfMemory>
+    ensures { IfOk result (λ found. option_map tree_of found
+        ≡ texts.text_accept (texts.Closed (opened_of opened) (items_in NoItems items.items) plain)) }
+{
+    let whole = quotation_built(alloc, opened, items, plain)?;
+    Ok(Some(whole))
+}
+
+/// The tree of a text that ends behind an ordinary symbol whose type is asked for.
+#[tactic(auto, unfolding(crate::specs::TextReading::text_accept))]
+fn finish_word(
+    alloc: Global,
+    left: Option<Expr>,
+    place: u32,
+    name: Spelled,
+) -> Result<Option<Expr>, OutOfMemory>
+    ensures { IfOk result (λ found. option_map tree_of found ≡ texts.text_accept (texts.Word (left_of left) place name)) }
+{
+    let part = typed_name(alloc, left, place, &name)?;
+    Ok(Some(part))
 }
 
 /// The tree of a text that ends here.
@@ -684,20 +722,14 @@ pub fn text_finish(alloc: Global, point: TextPoint) -> Result<Option<Expr>, OutO
     ensures { IfOk result (λ found. option_map tree_of found ≡ texts.text_accept (text_state point)) }
 {
     match point {
-        TextPoint::Naming(holder, place, name) => {
-            let found = finish_name(alloc, holder, place, &name)?;
-            Ok(found)
-        }
-        TextPoint::Closed(opened, items, plain) => {
-            let whole = quotation_built(alloc, opened, items, plain)?;
-            Ok(Some(whole))
-        }
-        TextPoint::Word(left, place, name) => {
-            let part = typed_name(alloc, left, place, &name)?;
-            Ok(Some(part))
-        }
+        TextPoint::Naming(holder, place, name) => finish_name(alloc, holder, place, name),
+        TextPoint::Closed(opened, items, plain) => finish_quotation(alloc, opened, items, plain),
+        TextPoint::Word(left, place, name) => finish_word(alloc, left, place, name),
         TextPoint::Done(tree) => Ok(Some(tree)),
-        _ => Ok(None),
+        point => {
+            drop(point);
+            Ok(None)
+        }
     }
 }
 

@@ -18,6 +18,3 @@ mod slot;
 pub use arena::TraceArena;
 pub use laws::{arena_is_whole, live_nodes_are_reached};
 pub use node::{Link, NodeId};
-
-#[cfg(test)]
-mod tests;

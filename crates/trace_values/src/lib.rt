@@ -24,6 +24,3 @@ pub use occurrence::{Entity, Occurrence, Occurrences, Role, Scope};
 pub use section::{Reloc, Section, SectionId, Sections};
 pub use symbol_row::{SymbolRow, SymbolRows};
 pub use variable::{Setting, Settings, Variable, Variables};
-
-#[cfg(test)]
-mod tests;
