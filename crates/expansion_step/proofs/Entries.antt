@@ -9,11 +9,11 @@ use Rattle.plain_expansion.specs.Engine.{Tail, puts_then, opened, stack_levels, 
 use Rattle.plain_expansion.specs.Marks.{is_quiet, is_ready_quiet}
 use Rattle.expansion_step.specs.declared.phase.Onward.{Onward}
 use Rattle.expansion_step.specs.declared.phase.Onward.TheVariants as onward
-use Rattle.expansion_step.specs.declared.phase.Todo.{Todo}
+use Rattle.expansion_step.specs.declared.phase.Pending.{Pending}
 use Rattle.expansion_step.specs.declared.phase.Phase.{Phase}
 use Rattle.expansion_step.specs.declared.phase.Phase.TheVariants as phase
 use Rattle.expansion_step.specs.Meaning.{Means, call_by, pairs_by}
-use Rattle.expansion_step.specs.Places.{onward_by, counted_first, todo_by, hearing, keys_left, placing, deciding, waiting, phase_by}
+use Rattle.expansion_step.specs.Places.{onward_by, counted_first, pending_by, hearing, keys_left, placing, deciding, waiting, phase_by}
 use Rattle.expansion_step.specs.Watch.{call_at_entry}
 
 -- whether something is left of a list
@@ -85,8 +85,8 @@ module _ {L : Language} {T B N S I C K V : Type 0} (m : Means L T B N S I C K V)
   loud x phase.Placed is = placing-loud (statement_at L x.here) x
   loud x (phase.Decides answers) is = deciding-loud (statement_at L x.here) x (pairs_by m answers.items)
   loud x (phase.Waits answers key) is = waiting-loud (statement_at L x.here) x (pairs_by m answers.items) (m.key key)
-  loud x (phase.Tells item todo) is = refl
-  loud x (phase.Does todo) is = refl
+  loud x (phase.Tells item pending) is = refl
+  loud x (phase.Does pending) is = refl
   loud x (phase.Tried limited item entry) is = refl
   loud x phase.Inside is = refl
 
@@ -105,8 +105,8 @@ module _ {L : Language} {T B N S I C K V : Type 0} (m : Means L T B N S I C K V)
   counted-levels true rest = refl
   counted-levels false rest = refl
 
-  todo-levels : (t : Todo C K V) (x : StackOf L.words) → tail_levels L (todo_by m t x) ≡ stack_levels L x
-  todo-levels t x =
+  pending-levels : (t : Pending C K V) (x : StackOf L.words) → tail_levels L (pending_by m t x) ≡ stack_levels L x
+  pending-levels t x =
       counted-levels t.counts (puts_then (reverse (pairs_by m t.puts.items)) (onward_by m t.onward x))
       ∙ puts-levels (reverse (pairs_by m t.puts.items)) (onward_by m t.onward x)
       ∙ onward-levels t.onward x
@@ -133,8 +133,8 @@ module _ {L : Language} {T B N S I C K V : Type 0} (m : Means L T B N S I C K V)
   levels-phase x phase.Placed is = placing-levels (statement_at L x.here) x
   levels-phase x (phase.Decides answers) is = deciding-levels (statement_at L x.here) x (pairs_by m answers.items)
   levels-phase x (phase.Waits answers key) is = waiting-levels (statement_at L x.here) x (pairs_by m answers.items) (m.key key)
-  levels-phase x (phase.Tells item todo) is = todo-levels todo x
-  levels-phase x (phase.Does todo) is = todo-levels todo x
+  levels-phase x (phase.Tells item pending) is = pending-levels pending x
+  levels-phase x (phase.Does pending) is = pending-levels pending x
   levels-phase x (phase.Tried limited item entry) is = refl
   levels-phase x phase.Inside is = refl
 
@@ -158,7 +158,7 @@ module _ {L : Language} {T B N S I C K V : Type 0} (m : Means L T B N S I C K V)
   levels-entry x phase.Placed c is = cc
   levels-entry x (phase.Decides answers) c is = cc
   levels-entry x (phase.Waits answers key) c is = cc
-  levels-entry x (phase.Tells item todo) c is = cc
-  levels-entry x (phase.Does todo) c is = cc
+  levels-entry x (phase.Tells item pending) c is = cc
+  levels-entry x (phase.Does pending) c is = cc
   levels-entry x (phase.Tried limited item entry) c is = cc
   levels-entry x phase.Inside c is = cc

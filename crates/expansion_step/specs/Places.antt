@@ -7,7 +7,7 @@ use Rattle.plain_expansion.specs.Engine as engine
 use Rattle.plain_expansion.specs.Engine.{Tail, Putting, Adding, Entering, GoingOn, Leaving, Finishing, Step, Performing, Telling, Ready, Doing, Placing, Deciding, Place, Standing, Hearing, Waiting, puts_then, opened, heard, next_place, levels_of}
 use Rattle.expansion_step.specs.declared.phase.Onward.{Onward}
 use Rattle.expansion_step.specs.declared.phase.Onward.TheVariants as onward
-use Rattle.expansion_step.specs.declared.phase.Todo.{Todo}
+use Rattle.expansion_step.specs.declared.phase.Pending.{Pending}
 use Rattle.expansion_step.specs.declared.phase.Phase.{Phase}
 use Rattle.expansion_step.specs.declared.phase.Phase.TheVariants as phase
 use Rattle.expansion_step.specs.declared.phase.Local.{Local}
@@ -25,8 +25,8 @@ module _ {L : Language} {T B N S I C K V : Type 0} (m : Means L T B N S I C K V)
   counted_first true rest = Adding rest
   counted_first false rest = rest
 
-  abbrev pub todo_by : Todo C K V → StackOf L.words → Tail L.words
-  todo_by t x = counted_first t.counts (puts_then (reverse (pairs_by m t.puts.items)) (onward_by t.onward x))
+  abbrev pub pending_by : Pending C K V → StackOf L.words → Tail L.words
+  pending_by t x = counted_first t.counts (puts_then (reverse (pairs_by m t.puts.items)) (onward_by t.onward x))
 
   -- a call at its entry, with the keys that are left
   abbrev pub hearing : C → List Tree → List Pair → Place L.words L.Item
@@ -57,8 +57,8 @@ module _ {L : Language} {T B N S I C K V : Type 0} (m : Means L T B N S I C K V)
   phase_by x phase.Placed = Standing (placing (statement_at L x.here) x)
   phase_by x (phase.Decides answers) = Standing (deciding (statement_at L x.here) x (pairs_by m answers.items))
   phase_by x (phase.Waits answers key) = waiting (statement_at L x.here) x (pairs_by m answers.items) (m.key key)
-  phase_by x (phase.Tells item t) = Standing (Doing (Telling (m.reads.item item) (todo_by t x)))
-  phase_by x (phase.Does t) = Standing (Doing (Performing (todo_by t x)))
+  phase_by x (phase.Tells item t) = Standing (Doing (Telling (m.reads.item item) (pending_by t x)))
+  phase_by x (phase.Does t) = Standing (Doing (Performing (pending_by t x)))
   phase_by x (phase.Tried limited item entry) = engine.Tried (m.reads.item limited) (m.reads.item item) (entry_by m entry) x
   phase_by x phase.Inside = engine.Inside x
 

@@ -21,8 +21,8 @@ call_at_entry phase.Ready = None
 call_at_entry phase.Placed = None
 call_at_entry (phase.Decides answers) = None
 call_at_entry (phase.Waits answers key) = None
-call_at_entry (phase.Tells item todo) = None
-call_at_entry (phase.Does todo) = None
+call_at_entry (phase.Tells item pending) = None
+call_at_entry (phase.Does pending) = None
 call_at_entry (phase.Tried limited item entry) = None
 call_at_entry phase.Inside = None
 

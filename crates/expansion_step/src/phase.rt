@@ -14,7 +14,7 @@ pub(crate) enum Onward<C> {
 /// What is left of a statement once its point was told: a call is counted, values are put, the last of the list first, and
 /// then the call goes on.
 #[derive(Drop)]
-pub(crate) struct Todo<C, K, V> {
+pub(crate) struct Pending<C, K, V> {
     pub(crate) counts: bool,
     pub(crate) puts: Vec<Noted<K, V>>,
     pub(crate) onward: Onward<C>,
@@ -29,8 +29,8 @@ pub(crate) enum Phase<T, C, K, V, I> {
     Placed,
     Decides(Vec<Noted<K, V>>),
     Waits(Vec<Noted<K, V>>, K),
-    Tells(I, Todo<C, K, V>),
-    Does(Todo<C, K, V>),
+    Tells(I, Pending<C, K, V>),
+    Does(Pending<C, K, V>),
     Tried(I, I, Entry<T, C, K, V>),
     Inside,
 }

@@ -5,10 +5,10 @@ ghost use Rattle.plain_expansion.specs.Language.{Stack as StackOf};
 ghost use Rattle.plain_expansion.specs.Expansion.{stepped, copying, statement_at, branched, first_stack as first_stack_of, outermost as outermost_of};
 ghost use Rattle.plain_expansion.specs.Engine.{GoingOn, Performing, Telling, Doing, opened, heard, with_answer, step_by, step_of, tried, roomy_step, puts_then};
 ghost use Rattle.expansion_step.specs.Meaning.{meaning, call_by, pairs_by, stack_by, entry_by, effect_by, point_by};
-ghost use Rattle.expansion_step.specs.Places.{onward_by, todo_by, counted_first, keys_left, hearing, placing, deciding, phase_by};
+ghost use Rattle.expansion_step.specs.Places.{onward_by, pending_by, counted_first, keys_left, hearing, placing, deciding, phase_by};
 ghost use Rattle.expansion_step.specs.Takes.{Takes};
 
-use crate::phase::{Onward, Phase, Taken, Todo};
+use crate::phase::{Onward, Pending, Phase, Taken};
 use crate::{Act, CodedLanguage, Entry, Expander, Fault, Level, Performed, Stack};
 use asking_core::{Action, Given, Noted};
 use hl_base::OutOfMemory;
@@ -173,10 +173,10 @@ impl<X: CodedLanguage> Expander<X> {
     }
 
     /// Nothing is left to do but this.
-    fn nothing_but(alloc: Global, onward: Onward<X::Call>) -> Todo<X::Call, X::Key, X::Value>
-        ensures { let m = meaning X.reads X.call_of X.Call.code X.Key.code X.Value.code in (x : StackOf X.language.words) → todo_by m result x ≡ onward_by m onward x }
+    fn nothing_but(alloc: Global, onward: Onward<X::Call>) -> Pending<X::Call, X::Key, X::Value>
+        ensures { let m = meaning X.reads X.call_of X.Call.code X.Key.code X.Value.code in (x : StackOf X.language.words) → pending_by m result x ≡ onward_by m onward x }
     {
-        Todo {
+        Pending {
             counts: false,
             puts: Vec::new(alloc),
             onward,
@@ -195,7 +195,7 @@ impl<X: CodedLanguage> Expander<X> {
         puts.reverse();
         Taken {
             action: Action::Emit(item),
-            phase: Phase::Does(Todo {
+            phase: Phase::Does(Pending {
                 counts,
                 puts,
                 onward,
@@ -297,24 +297,24 @@ impl<X: CodedLanguage> Expander<X> {
         &self,
         alloc: Global,
         stack: &mut Stack<X::Listing, X::Known>,
-        mut todo: Todo<X::Call, X::Key, X::Value>,
+        mut pending: Pending<X::Call, X::Key, X::Value>,
     ) -> Taken<X::Listing, X::Call, X::Key, X::Value, X::Item>
-        ensures { let m = meaning X.reads X.call_of X.Call.code X.Key.code X.Value.code in Takes m (Doing (Performing (todo_by m todo (stack_by m stack.old)))) stack.new result }
+        ensures { let m = meaning X.reads X.call_of X.Call.code X.Key.code X.Value.code in Takes m (Doing (Performing (pending_by m pending (stack_by m stack.old)))) stack.new result }
     {
-        if todo.counts {
-            todo.counts = false;
+        if pending.counts {
+            pending.counts = false;
             return Taken {
                 action: Action::Bump,
-                phase: Phase::Does(todo),
+                phase: Phase::Does(pending),
             };
         }
-        if let Some(put) = todo.puts.pop() {
+        if let Some(put) = pending.puts.pop() {
             return Taken {
                 action: Action::Put(put.key, put.value),
-                phase: Phase::Does(todo),
+                phase: Phase::Does(pending),
             };
         }
-        self.go_onward(alloc, stack, todo.onward)
+        self.go_onward(alloc, stack, pending.onward)
     }
 
     /// Goes on once nothing is left to put.
@@ -367,7 +367,7 @@ impl<X: CodedLanguage> Expander<X> {
                     action: Action::Rise,
                     phase: Phase::Tells(
                         item,
-                        Todo {
+                        Pending {
                             counts: true,
                             puts,
                             onward: Onward::Enter(call),
@@ -452,11 +452,11 @@ impl<X: CodedLanguage> Expander<X> {
                 let answers = Self::hear_key(answers, key, given)?;
                 self.decide(alloc, stack, answers)
             }
-            Phase::Tells(item, todo) => Ok(Taken {
+            Phase::Tells(item, pending) => Ok(Taken {
                 action: Action::Emit(item),
-                phase: Phase::Does(todo),
+                phase: Phase::Does(pending),
             }),
-            Phase::Does(todo) => Ok(self.do_next(alloc, stack, todo)),
+            Phase::Does(pending) => Ok(self.do_next(alloc, stack, pending)),
             Phase::Tried(limited, item, entry) => {
                 self.enter_or_pass(alloc, stack, limited, item, entry, given)
             }
