@@ -1,5 +1,5 @@
 -- Effects of statements go along trees of questions, over each frame.
-use Rattle.std.proofs.Common.{◌≡◌, refl, ℕ, Bool, true, false, List, [], ◌∷◌, ◌++◌, Option, Some, None}
+use Rattle.std.proofs.Common.{◌≡◌, refl, ℕ, Bool, List, [], ◌∷◌, ◌++◌, Option, Some, None}
 use Rattle.std.specs.Prelude.{pos, chars, if◌then◌else◌}
 use Rattle.hl_base.specs.declared.note.Severity.{Severity}
 use Rattle.hl_base.specs.declared.note.Severity.TheVariants.{Information}

@@ -11,6 +11,7 @@ use Rattle.conditional_asm.specs.declared.act.Act.{Act}
 use Rattle.conditional_asm.specs.declared.act.Act.TheVariants as act
 use Rattle.conditional_asm.specs.declared.act.Effect.{Effect}
 use Rattle.conditional_asm.specs.Effects.{shown}
+use Rattle.conditional_asm.specs.Repeating.{once}
 
 -- an operation that may be replaced, where it is known whether it is defined
 pub replaced : (lasting is found : Bool) (defined : Outcome Bool) (x y z : Outcome Act) (before after : List Note) (r : Result Act Stop) → lasting ≡ false → found ≡ is →
@@ -25,12 +26,12 @@ unknown true defined x next before after stop other first = cc
 unknown false defined x next before after stop other first = Tells-stop defined next before before after stop first
 
 -- an act with its notes
-pub shows : (o : Outcome Act) (before notes : List Note) (done : Act) → before ≡ [] → Tells o before notes (Ok done) → record { act = done; notes = notes } ≡ shown o
-shows (Gives v more) before notes done none tells =
-    let one : Act → Effect = λ a. record { act = a; notes = notes } in
+pub shows : (o : Outcome Act) (before notes left : List Note) (done : Act) → before ≡ [] → left ≡ once notes → Tells o before notes (Ok done) → record { act = done; notes = left } ≡ shown o
+shows (Gives v more) before notes left done none is tells =
+    let one : Act → Effect = λ a. record { act = a; notes = left } in
     let two : List Note → Effect = λ n. record { act = v; notes = n } in
-    ap one tells.0 ∙ ap two (tells.1 ∙ ap (λ b. b ++ more) none)
-shows (Asks key) before notes done none tells = absurd tells
+    ap one tells.0 ∙ ap two (is ∙ ap once (tells.1 ∙ ap (λ b. b ++ more) none))
+shows (Asks key) before notes left done none is tells = absurd tells
 
 -- a key that is asked, and no note
 pub shows_asked : (o : Outcome Act) (before after fresh : List Note) (key : Key) → fresh ≡ [] → Tells o before after (Err (Asked key)) → record { act = act.Ask key; notes = fresh } ≡ shown o

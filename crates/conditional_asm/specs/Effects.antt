@@ -1,7 +1,7 @@
 -- What one statement does (HLASM Language Reference SC26-4940, "Conditional assembly instructions", "Model statements"), as
 -- a function of the statement as it was read and of what is told: its operation gets the values of its variable symbols
 -- first, and then decides what happens.
-use Rattle.std.specs.Prelude.{◌≡◌, ℕ, Bool, true, false, List, [], ◌∷◌, Option, Some, None, chars, if◌then◌else◌}
+use Rattle.std.specs.Prelude.{ℕ, Bool, List, [], ◌∷◌, Option, Some, None, chars, if◌then◌else◌}
 use Rattle.hl_base.specs.declared.note.Note.{Note}
 use Rattle.instruction_table.specs.Operations.{operation_of}
 use Rattle.cond_expr.specs.Told.{Told}
@@ -18,6 +18,7 @@ use Rattle.conditional_asm.specs.Branching.{going, counting}
 use Rattle.conditional_asm.specs.Conditions.{choosing}
 use Rattle.conditional_asm.specs.Generating.{defined, judged, lined}
 use Rattle.conditional_asm.specs.Messages.{saying}
+use Rattle.conditional_asm.specs.Repeating.{once}
 use Rattle.conditional_asm.specs.Setting.{assigning}
 use Rattle.conditional_asm.specs.Substitution.{substituted}
 use Rattle.conditional_asm.specs.Troubles.{no_operation, undefined, left_out, unreadable}
@@ -93,7 +94,8 @@ instructed (readings.varying parts label operands open_end) told = varying parts
 abbrev pub effect_of : readings.Reading → Told → Outcome Act
 effect_of reading told = instructed reading.instruction told
 
--- how an outcome is shown: the act with its notes; or the key that is asked, and no note
+-- how an outcome is shown: the act with its notes, those once that say that a symbol is not defined; or the key that is
+-- asked, and no note
 abbrev pub shown : Outcome Act → Effect
-shown (Gives done notes) = record { act = done; notes = notes }
+shown (Gives done notes) = record { act = done; notes = once notes }
 shown (Asks key) = record { act = act.Ask key; notes = [] }

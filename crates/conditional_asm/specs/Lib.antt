@@ -5,4 +5,5 @@ pub mod Generating
 pub mod Setting
 pub mod Messages
 pub mod Conditions
+pub mod Repeating
 pub mod Effects

@@ -19,6 +19,7 @@ mod generating;
 mod laws;
 mod message;
 mod performing;
+mod repeating;
 mod setting;
 mod substitution;
 mod trouble;

@@ -16,6 +16,7 @@ use crate::branching::{counting, going};
 use crate::condition::choosing;
 use crate::generating::{defined, judge, lined};
 use crate::message::saying;
+use crate::repeating::once;
 use crate::setting::assigning;
 use crate::substitution::substitute;
 use crate::trouble;
@@ -309,7 +310,10 @@ pub fn perform<Q: Lookups>(
 {
     let mut notes = Notes::new(alloc);
     match instructed(alloc, &read.instruction, q, &mut notes) {
-        Ok(act) => Ok(Effect { act, notes }),
+        Ok(act) => {
+            let left = once(alloc, &notes)?;
+            Ok(Effect { act, notes: left })
+        }
         Err(Stop::Asked(key)) => Ok(Effect {
             act: Act::Ask(key),
             notes: Notes::new(alloc),

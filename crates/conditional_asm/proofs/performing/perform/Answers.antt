@@ -12,7 +12,7 @@ use Rattle.conditional_asm.proofs.performing.perform.Goals as goal
 pub returns-in-Ok-clause-effect : goal.returns-in-Ok-clause-effect
 returns-in-Ok-clause-effect g c =
     let o = effect_of (reading_of c.args.read.now) (g.Q.Lookups.told c.args.q.now) in
-    shows o c.new-notes.result c.instructed.new.notes c.in-Ok.act c.new-notes.ensures c.in-Ok.ensures.tells
+    shows o c.new-notes.result c.instructed.new.notes c.in_ok-left-in-Ok.left c.in-Ok.act c.new-notes.ensures c.in_ok-left-in-Ok.ensures c.in-Ok.ensures.tells
 
 pub returns-in-Err-Asked-clause-effect : goal.returns-in-Err-Asked-clause-effect
 returns-in-Err-Asked-clause-effect g c =

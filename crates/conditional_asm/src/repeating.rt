@@ -1,0 +1,38 @@
+//! Notes that are said once.
+ghost use Rattle.std.specs.Prelude.{◌≡◌, IfOk};
+ghost use Rattle.conditional_asm.specs.Repeating as said;
+
+use hl_base::{Note, Notes, OutOfMemory};
+use std::alloc::Global;
+
+/// The note that a symbol is not defined.
+const NOT_DEFINED: u16 = 24;
+
+/// Whether two notes say that a symbol is not defined, in the same words.
+fn repeats(earlier: &Note, note: &Note) -> bool
+    ensures { result ≡ said.repeats earlier.now note.now }
+{
+    earlier.code == NOT_DEFINED
+        && note.code == NOT_DEFINED
+        && earlier.text.as_str() == note.text.as_str()
+}
+
+/// Whether a note was given already.
+fn is_given(given: &[Note], note: &Note) -> bool
+    ensures { result ≡ said.is_given given.now note.now }
+{
+    given.iter().any(|earlier| repeats(earlier, note))
+}
+
+/// The notes without those that say again that a symbol is not defined.
+pub fn once(alloc: Global, notes: &Notes) -> Result<Notes, OutOfMemory>
+    ensures { IfOk result (λ left. left ≡ said.once notes.now) }
+{
+    let mut left = Notes::new(alloc);
+    for note in notes.as_slice() {
+        if !is_given(left.as_slice(), note) {
+            left.push(note.copy(alloc)?)?;
+        }
+    }
+    Ok(left)
+}
