@@ -21,4 +21,6 @@ pub use serving::run;
 pub use status::Status;
 
 #[cfg(test)]
+mod held_tests;
+#[cfg(test)]
 mod tests;

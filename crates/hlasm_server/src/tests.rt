@@ -13,18 +13,18 @@ use std::rc::Rc;
 use std::sync::ledger::Blank;
 use std::test::Fail;
 
-const INITIALIZE: &str = r#"{"id":1,"jsonrpc":"2.0","method":"initialize","params":{}}"#;
+pub(crate) const INITIALIZE: &str = r#"{"id":1,"jsonrpc":"2.0","method":"initialize","params":{}}"#;
 
-const SHUTDOWN: &str = r#"{"id":2,"jsonrpc":"2.0","method":"shutdown"}"#;
+pub(crate) const SHUTDOWN: &str = r#"{"id":2,"jsonrpc":"2.0","method":"shutdown"}"#;
 
-const EXIT: &str = r#"{"jsonrpc":"2.0","method":"exit"}"#;
+pub(crate) const EXIT: &str = r#"{"jsonrpc":"2.0","method":"exit"}"#;
 
-const INITIALIZED: &str =
+pub(crate) const INITIALIZED: &str =
     r#"{"id":1,"jsonrpc":"2.0","result":{"capabilities":{"definitionProvider":true,"documentSymbolProvider":true,"hoverProvider":true,"positionEncoding":"utf-16","referencesProvider":true,"textDocumentSync":{"change":2,"openClose":true}},"serverInfo":{"name":"hlasm_ls","version":"1"}}}"#;
 
-const SHUT: &str = r#"{"id":2,"jsonrpc":"2.0","result":null}"#;
+pub(crate) const SHUT: &str = r#"{"id":2,"jsonrpc":"2.0","result":null}"#;
 
-const PARSE_ERROR: &str =
+pub(crate) const PARSE_ERROR: &str =
     r#"{"error":{"code":-32700,"message":"parse error"},"id":null,"jsonrpc":"2.0"}"#;
 
 /// What comes in: 370 bytes, whose frames begin at 0, 80, 249 and 315.
@@ -93,7 +93,7 @@ fn run_words<S: Source, K: Sink>(
 }
 
 /// Runs `serve`.
-fn serve<S: Source, K: Sink>(
+pub(crate) fn serve<S: Source, K: Sink>(
     alloc: Global,
     source: &mut S,
     sink: &mut K,
@@ -103,7 +103,7 @@ fn serve<S: Source, K: Sink>(
 }
 
 /// The sizes, with 1 for 0.
-fn positive(alloc: Global, sizes: &[usize]) -> Result<Vec<usize>, AllocError>
+pub(crate) fn positive(alloc: Global, sizes: &[usize]) -> Result<Vec<usize>, AllocError>
     ensures { IfOk result (λ sizes. All (λ size. 0 < size) sizes.items) }
 {
     let mut result = Vec::new(alloc);
@@ -126,7 +126,12 @@ fn source_of(
 }
 
 /// A sink with this room, that takes at most so many bytes a call, of which the listed puts fail.
-fn sink_of(alloc: Global, room: usize, most: usize, failing: &[u64]) -> Result<MemorySink, Fail> {
+pub(crate) fn sink_of(
+    alloc: Global,
+    room: usize,
+    most: usize,
+    failing: &[u64],
+) -> Result<MemorySink, Fail> {
     let failing = Vec::from_slice(alloc, failing)?;
     Ok(MemorySink::new(alloc, room, most.max(1), failing)?)
 }
@@ -355,7 +360,7 @@ const SESSIONS: [(&[&str], &[&str], Status); 9] = [
 ];
 
 /// Bodies, each in a frame.
-fn framed(alloc: Global, bodies: &[&str]) -> Result<Vec<u8>, Fail> {
+pub(crate) fn framed(alloc: Global, bodies: &[&str]) -> Result<Vec<u8>, Fail> {
     let mut bytes = Vec::new(alloc);
     for body in bodies {
         let header = format!(in alloc; "Content-Length: {}\r\n\r\n", body.len())?;
@@ -378,135 +383,6 @@ fn sessions_are_answered_message_by_message(rt: HostRuntime) -> Result<(), Fail>
             assert_eq!(rt; status, wanted, "{bodies:?}");
             assert!(rt; sink.contents() == output.as_slice(), "{bodies:?}");
             assert!(rt; source.rest().is_empty(), "{bodies:?}");
-        }
-    }
-    Ok(())
-}
-
-const OPEN_A: &str =
-    r#"{"jsonrpc":"2.0","method":"textDocument/didOpen","params":{"textDocument":{"languageId":"hlasm","text":" END","uri":"file:///w/a.hlasm","version":1}}}"#;
-
-const OPEN_B: &str =
-    r#"{"jsonrpc":"2.0","method":"textDocument/didOpen","params":{"textDocument":{"languageId":"hlasm","text":" END","uri":"file:///w/b.hlasm","version":4}}}"#;
-
-const CHANGE_A: &str =
-    r#"{"jsonrpc":"2.0","method":"textDocument/didChange","params":{"contentChanges":[{"text":"* a comment\n END"}],"textDocument":{"uri":"file:///w/a.hlasm","version":2}}}"#;
-
-const CLOSE_A: &str =
-    r#"{"jsonrpc":"2.0","method":"textDocument/didClose","params":{"textDocument":{"uri":"file:///w/a.hlasm"}}}"#;
-
-const UNKNOWN: &str = r#"{"id":"x","jsonrpc":"2.0","method":"textDocument/none"}"#;
-
-const NOT_KNOWN: &str =
-    r#"{"error":{"code":-32601,"message":"unknown method"},"id":"x","jsonrpc":"2.0"}"#;
-
-/// A notification that is passed over.
-const PASSED: &str = r#"{"jsonrpc":"2.0","method":"$/x"}"#;
-
-const LIST_A: &str =
-    r#"{"jsonrpc":"2.0","method":"textDocument/publishDiagnostics","params":{"diagnostics":[],"uri":"file:///w/a.hlasm","version":1}}"#;
-
-const NEXT_LIST_A: &str =
-    r#"{"jsonrpc":"2.0","method":"textDocument/publishDiagnostics","params":{"diagnostics":[],"uri":"file:///w/a.hlasm","version":2}}"#;
-
-const LIST_B: &str =
-    r#"{"jsonrpc":"2.0","method":"textDocument/publishDiagnostics","params":{"diagnostics":[],"uri":"file:///w/b.hlasm","version":4}}"#;
-
-/// Sessions whose Turns are held back: the answers of `waiting`, the bodies that come in, those that go out, and the
-/// status.
-const HELD: [(&[bool], &[&str], &[&str], Status); 9] = [
-    // one Turn for two messages
-    (
-        &[true],
-        &[INITIALIZE, OPEN_A, CHANGE_A, SHUTDOWN, EXIT],
-        &[INITIALIZED, NEXT_LIST_A, SHUT],
-        Status::Done,
-    ),
-    // the Turn is made at shutdown
-    (
-        &[true, true],
-        &[INITIALIZE, OPEN_A, CHANGE_A, SHUTDOWN, EXIT],
-        &[INITIALIZED, NEXT_LIST_A, SHUT],
-        Status::Done,
-    ),
-    // the first is not held back, the second is
-    (
-        &[false, true],
-        &[INITIALIZE, OPEN_A, OPEN_B, "[", SHUTDOWN, EXIT],
-        &[INITIALIZED, LIST_A, PARSE_ERROR, LIST_B, SHUT],
-        Status::Done,
-    ),
-    // between the Turns of two programs it is asked again
-    (
-        &[true, false, true],
-        &[INITIALIZE, OPEN_A, OPEN_B, "[", SHUTDOWN, EXIT],
-        &[INITIALIZED, LIST_A, PARSE_ERROR, LIST_B, SHUT],
-        Status::Done,
-    ),
-    // behind a message that is refused it is asked, too
-    (
-        &[true, true],
-        &[INITIALIZE, OPEN_A, "[", UNKNOWN, SHUTDOWN, EXIT],
-        &[INITIALIZED, PARSE_ERROR, NOT_KNOWN, LIST_A, SHUT],
-        Status::Done,
-    ),
-    // a program that is closed before its Turn
-    (
-        &[true],
-        &[INITIALIZE, OPEN_A, CLOSE_A, SHUTDOWN, EXIT],
-        &[INITIALIZED, SHUT],
-        Status::Done,
-    ),
-    // no Turn is made behind exit
-    (
-        &[true],
-        &[INITIALIZE, OPEN_A, EXIT],
-        &[INITIALIZED],
-        Status::NoShutdown,
-    ),
-    // nor where the input ends
-    (
-        &[true],
-        &[INITIALIZE, OPEN_A],
-        &[INITIALIZED],
-        Status::InputEnded,
-    ),
-    // a Turn is made behind the thirty-second message, and then it is counted anew
-    (
-        &[true; 40],
-        &[
-            INITIALIZE, OPEN_A, PASSED, PASSED, PASSED, PASSED, PASSED, PASSED, PASSED, PASSED,
-            PASSED, PASSED, PASSED, PASSED, PASSED, PASSED, PASSED, PASSED, PASSED, PASSED, PASSED,
-            PASSED, PASSED, PASSED, PASSED, PASSED, PASSED, PASSED, PASSED, PASSED, PASSED, "[",
-            CHANGE_A, UNKNOWN, SHUTDOWN, EXIT,
-        ],
-        &[
-            INITIALIZED,
-            PARSE_ERROR,
-            LIST_A,
-            NOT_KNOWN,
-            NEXT_LIST_A,
-            SHUT,
-        ],
-        Status::Done,
-    ),
-];
-
-#[test]
-fn turns_are_held_back_while_input_waits(rt: HostRuntime) -> Result<(), Fail> {
-    let alloc = rt.alloc();
-    let cuttings: [&[usize]; 2] = [&[], &[23, 1, 40]];
-    for (waits, bodies, replies, wanted) in HELD {
-        let output = framed(alloc, replies)?;
-        for sizes in cuttings {
-            let input = framed(alloc, bodies)?;
-            let sizes = positive(alloc, sizes)?;
-            let waits = Vec::from_slice(alloc, waits)?;
-            let mut source = MemorySource::new(input, sizes, waits, Vec::new(alloc));
-            let mut sink = sink_of(alloc, 4_000, 8_192, &[])?;
-            let status = serve(alloc, &mut source, &mut sink)?;
-            assert_eq!(rt; status, wanted, "{bodies:?}");
-            assert!(rt; sink.contents() == output.as_slice(), "{bodies:?}");
         }
     }
     Ok(())
