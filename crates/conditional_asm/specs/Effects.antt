@@ -94,8 +94,8 @@ instructed (readings.varying parts label operands open_end) told = varying parts
 abbrev pub effect_of : readings.Reading → Told → Outcome Act
 effect_of reading told = instructed reading.instruction told
 
--- how an outcome is shown: the act with its notes, those once that say that a symbol is not defined; or the key that is
--- asked, and no note
+-- how an outcome is shown: the act with its notes, those once that say that a symbol has no length attribute; or the
+-- key that is asked, and no note
 abbrev pub shown : Outcome Act → Effect
 shown (Gives done notes) = record { act = done; notes = once notes }
 shown (Asks key) = record { act = act.Ask key; notes = [] }

@@ -1,5 +1,5 @@
 -- Generated statements (HLASM Language Reference SC26-4940, "Model statements"): name entry and operands with the values of
--- their variable symbols. Operands with variable symbols end again at their first blank outside quotes, and may then end
+-- their variable symbols. Operands with an ampersand end again at their first blank outside quotes, and may then end
 -- within quotes; whether those without do is known when they are read.
 use Rattle.std.specs.Prelude.{ℕ, Bool, true, false, List, [], ◌∷◌, Option, Some, None, if◌then◌else◌}
 use Rattle.hl_base.specs.declared.set.Answer.{Answer}
@@ -27,7 +27,7 @@ entry_text (varying parts) told = substituted parts told
 abbrev pub judged_line : Line → Outcome Line
 judged_line line = and_then (judged (ends_quoted line.operands)) (λ open_end. gives line)
 
--- a line with these texts: operands whose variable symbols got their values end anew
+-- a line with these texts: operands with an ampersand end anew
 abbrev pub line_with : Entry → (op label operands : List ℕ) → Outcome Line
 line_with (written text) op label operands = gives (record { label = label; op = op; operands = operands })
 line_with (varying parts) op label operands = judged_line (record { label = label; op = op; operands = field_of operands })

@@ -1,5 +1,5 @@
--- What is said of a name once (this project): that a symbol of a statement is not defined is one note for its name, however
--- often the statement uses it. All other notes come as often as there is cause.
+-- What is said of a name once (this project): that a symbol of a statement has no length attribute is one note for its name,
+-- however often the statement uses it. All other notes come as often as there is cause.
 use Rattle.std.specs.Prelude.{Bool, ◌==◌, ◌&&◌, List, [], ◌∷◌, ◌++◌, encode_utf8_all, if◌then◌else◌}
 use Rattle.std.specs.List.{list_any}
 use Rattle.std.specs.Str.{bytes_eq}

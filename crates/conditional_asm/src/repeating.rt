@@ -5,10 +5,10 @@ ghost use Rattle.conditional_asm.specs.Repeating as said;
 use hl_base::{Note, Notes, OutOfMemory};
 use std::alloc::Global;
 
-/// The note that a symbol is not defined.
+/// The note that a symbol has no length attribute.
 const NOT_DEFINED: u16 = 24;
 
-/// Whether two notes say that a symbol is not defined, in the same words.
+/// Whether two notes say that a symbol has no length attribute, in the same words.
 fn repeats(earlier: &Note, note: &Note) -> bool
     ensures { result ≡ said.repeats earlier.now note.now }
 {
@@ -24,7 +24,7 @@ fn is_given(given: &[Note], note: &Note) -> bool
     given.iter().any(|earlier| repeats(earlier, note))
 }
 
-/// The notes without those that say again that a symbol is not defined.
+/// The notes without those that say again that a symbol has no length attribute.
 pub fn once(alloc: Global, notes: &Notes) -> Result<Notes, OutOfMemory>
     ensures { IfOk result (λ left. left ≡ said.once notes.now) }
 {

@@ -37,7 +37,7 @@ impl Programs {
         }
     }
 
-    /// Adds a entry behind those that are there. An `Err` changes nothing.
+    /// Adds an entry behind those that are there. An `Err` changes nothing.
     pub fn push(&mut self, entry: Entry) -> Result<(), OutOfMemory>
         ensures ok { OnOk result (self.new ≡ self.old ++ entry ∷ []) }
         ensures err { OnErr result (self.new ≡ self.old) }

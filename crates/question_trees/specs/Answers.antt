@@ -1,4 +1,5 @@
--- The answer that a tree is. A tree that is no answer's is read as that there is nothing. This project.
+-- The answer that a tree is read as: by its kind, and then by what that kind says. A tree that no answer has is read as some
+-- answer too. This project.
 use Rattle.std.specs.Prelude.{ℕ, ◌==◌, Bool, false, List, [], ◌∷◌, ℤ, pos, negsuc, if◌then◌else◌}
 use Rattle.hl_base.specs.declared.set.Answer.{Answer}
 use Rattle.hl_base.specs.declared.set.Answer.TheVariants as answer
