@@ -1,7 +1,8 @@
 -- A call that runs over a memo: what each part leaves, and what they come to together.
-use Rattle.std.proofs.Common.{IfOk, OnOk, Result, Ok, Err, ◌≡◌, ◌≢◌, ℕ, ◌+◌, ◌-◌, ◌<◌, ◌≤◌, ◌||◌, Bool, true, false, cond, List, [], ◌∷◌, ◌++◌, Option, Some, map, length, refl, sym, ap, ◌∙◌, subst, inl, inr, arith}
+use Rattle.std.proofs.Common.{IfOk, OnOk, Result, Ok, Err, ◌≡◌, ◌≢◌, ℕ, ◌+◌, ◌-◌, ◌<◌, ◌≤◌, ◌||◌, Bool, true, false, cond, List, [], ◌∷◌, ◌++◌, Option, Some, None, map, length, refl, sym, ap, ◌∙◌, subst, inl, inr, arith}
 use Rattle.std.proofs.lemmas.Bool.{cases_eq}
 use Rattle.std.proofs.lemmas.List.{map-append}
+use Rattle.std.proofs.Math.Seq.{get_or-append_seam}
 use Rattle.kept_values.specs.Trees.{Tree}
 use Rattle.trace_arena.specs.declared.node.NodeId.{NodeId}
 use Rattle.trace_arena.specs.Nodes.{Node, node_at, IsLive}
@@ -12,7 +13,7 @@ use Rattle.asking_core.specs.Worlds.{WorldModel, Fits}
 use Rattle.asking_core.specs.Machines.{MachineModel, Modest, Told, Nothing, Returned, Count, Enter}
 use Rattle.asking_core.specs.Actions.{told_of}
 use Rattle.asking_core.specs.Runs.{Ending, ByLeave, ByEnd, ByBudget, deepest_depth}
-use Rattle.kept_outcomes.specs.Outcomes.{CallSummary, IsOutcome, blank_summary}
+use Rattle.kept_outcomes.specs.Outcomes.{CallSummary, IsOutcome, HasRoom, blank_summary}
 use Rattle.kept_outcomes.specs.Moments.{Moment, Finish, Comes, Leads, begun, stepped, finished, come_back, counted, joined}
 use Rattle.kept_outcomes.proofs.Steps.{leads_count, comes_spent}
 use Rattle.kept_outcomes.proofs.Nested.{leads_enter, comes_end_within, comes_spent_within}
@@ -26,8 +27,8 @@ use Rattle.expansion_memo.specs.Kept.{KeptOutcome, kept_at, point_by, points_by,
 use Rattle.expansion_memo.specs.Entries.{ending_of}
 use Rattle.expansion_memo.specs.Walks.{moment_at, OnlyAppends}
 use Rattle.expansion_memo.specs.Within.{NotKept, JoinsIn, Absorbs}
-use Rattle.expansion_memo.specs.Running.{IsUnderway, Lasts, LeavesOthers, IsSound, WentOn, Passes, Progresses, TakesUnit, GoesBack, IsRun, IsHandedOut, is_wanting, with_outcome}
-use Rattle.expansion_memo.proofs.KeptLists.{kept_push}
+use Rattle.expansion_memo.specs.Running.{IsUnderway, Lasts, LeavesOthers, IsSound, WentOn, Passes, Progresses, TakesUnit, GoesBack, IsRun, IsHandedOut, MayBeKept, HoldsSomewhere, is_wanting, with_outcome}
+use Rattle.expansion_memo.proofs.KeptLists.{kept_push, kept_more}
 use Rattle.expansion_memo.proofs.Reused.{stand_push, point_within}
 use Rattle.expansion_memo.proofs.Walking.{same_moment}
 
@@ -53,6 +54,7 @@ module _ {I : Type 0} where
   others_stay old new kept x stays = record {
     lasts = λ y ne live. lasts_all old new y live (stays y ne);
     underway = λ y ne u. underway_stays old new kept y u (stays y ne);
+    still = λ i o at. at;
   }
 
   pub others_none : (nodes : List (Node I)) (kept : List (Option KeptOutcome)) (x : ℕ) → LeavesOthers x nodes nodes kept kept
@@ -68,6 +70,7 @@ module _ {I : Type 0} where
         let p = one.underway y ne u in
         let q = two.underway y ne p.0 in
         (q.0, q.1 ∙ p.1);
+    still = λ i o at. two.still i o (one.still i o at);
   }
 
   linked_lasts : (old new : List (Node I)) (x child : ℕ) → IsLive old child → Links old new x child → Lasts old new child
@@ -89,6 +92,7 @@ module _ {I : Type 0} where
       | inr differ ↦ lasts_all old new y live (l.others y ne differ)
     ];
     underway = λ y ne u. underway_stays old new kept y u (l.others y ne (λ e. u.apart i o at (is ∙ sym e)));
+    still = λ j p there. there;
   }
 
   pub not_free : (nodes : List (Node I)) (y c : ℕ) → 0 < (node_at nodes y).owners → (node_at nodes c).owners ≡ 0 → y ≢ c
@@ -101,8 +105,8 @@ module _ {I : Type 0} where
 
   -- where a nested call ran in a node that was free, and was absorbed
   pub others_absorbed : (old mid new : List (Node I)) (kept l m : List (Option KeptOutcome)) (x c : ℕ) → (node_at old c).owners ≡ 0 → LeavesOthers c old mid kept l →
-      Absorbs mid new x c → ((y : ℕ) → y ≢ c → NotKept l y → NotKept m y) → LeavesOthers x old new kept m
-  others_absorbed old mid new kept l m x c was_free one a more = record {
+      Absorbs mid new x c → ((y : ℕ) → y ≢ c → NotKept l y → NotKept m y) → ((i : ℕ) (o : KeptOutcome) → kept_at l i ≡ Some o → kept_at m i ≡ Some o) → LeavesOthers x old new kept m
+  others_absorbed old mid new kept l m x c was_free one a more still = record {
     lasts = λ y ne live.
         let differ = not_free old y c live was_free in
         let p = one.lasts y differ live in
@@ -113,6 +117,7 @@ module _ {I : Type 0} where
         let p = one.underway y differ u in
         let q = a.underway y ne differ p.0.unshared in
         (record { unshared = q.0; apart = more y differ p.0.apart }, q.1 ∙ p.1);
+    still = λ i o at. still i o (one.still i o at);
   }
 
   -- and its caller's node
@@ -175,6 +180,30 @@ apart_if false kept o y ne apart = λ i p at is. elim (kept_push kept o p i at) 
 -- what no outcome has, none has behind another one that is kept
 pub apart_with : (kept : List (Option KeptOutcome)) (o : KeptOutcome) (y : ℕ) → y ≢ o.node → NotKept kept y → NotKept (with_outcome kept o) y
 apart_with kept o y ne apart = apart_if (is_wanting o.ended || o.summary.at_told) kept o y ne apart
+
+still_if : (b : Bool) (kept : List (Option KeptOutcome)) (o : KeptOutcome) (i : ℕ) (p : KeptOutcome) → kept_at kept i ≡ Some p → kept_at (cond b kept (kept ++ Some o ∷ [])) i ≡ Some p
+still_if true kept o i p at = at
+still_if false kept o i p at = kept_more kept (Some o ∷ []) i p at
+
+pub still_with : (kept : List (Option KeptOutcome)) (o : KeptOutcome) (i : ℕ) (p : KeptOutcome) → kept_at kept i ≡ Some p → kept_at (with_outcome kept o) i ≡ Some p
+still_with kept o i p at = still_if (is_wanting o.ended || o.summary.at_told) kept o i p at
+
+last_if : (b : Bool) (kept : List (Option KeptOutcome)) (o : KeptOutcome) → b ≡ false → kept_at (cond b kept (kept ++ Some o ∷ [])) (length kept) ≡ Some o
+last_if true kept o is = cc
+last_if false kept o is = get_or-append_seam kept (Some o) [] None
+
+paid_is : (e : Ending) → (e ≡ ByBudget → ⊥) → is_wanting e ≡ false
+paid_is ByLeave paid = refl
+paid_is ByEnd paid = refl
+paid_is ByBudget paid = absurd (paid refl)
+
+neither : (a b : Bool) → a ≡ false → b ≡ false → (a || b) ≡ false
+neither true b is other = cc
+neither false b is other = other
+
+has_room : (b : Bool) (levels depth : ℕ) → depth + levels ≤ deepest_depth → HasRoom b depth levels depth
+has_room true levels depth le = refl
+has_room false levels depth le = le
 
 module _ (M : MachineModel) (rebased : Tree → Tree → ℕ → Tree) (call_of : Tree → M.Call) {I : Type 0} (item_of : I → M.Item) where
   -- all stands that stood, where other nodes last
@@ -437,7 +466,7 @@ module _ (M : MachineModel) (W : WorldModel) (rebased : Tree → Tree → ℕ �
         subst G (sym is)
         (went_make M rebased call_of item_of fuel depth v w old new kept (with_outcome l k) (omega arith) (omega arith) node (omega arith)
         (underway_absorbed old mid new kept l (with_outcome l k) x n is_run.was_free is_run.others absorbs more sound.underway) stand
-        (others_absorbed old mid new kept l (with_outcome l k) x n is_run.was_free is_run.others absorbs more))
+        (others_absorbed old mid new kept l (with_outcome l k) x n is_run.was_free is_run.others absorbs more (still_with l k)))
 
 -- the same run, told in other words
 pub run_as : (M : MachineModel) (W : WorldModel) (rebased : Tree → Tree → ℕ → Tree) (call_of : Tree → M.Call) {L K V I F : Type 0} (place : L → M.Place) (item_of : I → M.Item) (frames_of : F → M.Frames)
@@ -604,3 +633,32 @@ run_kept M W rebased call_of place item_of frames_of moving writable quiet modes
     stand_with M rebased call_of item_of new l (record { call = call; depth = depth; node = ran.walk.node.0; ended = ending_of ran.close.ended; summary = ran.walk.summary }) is_run.stand
     (λ may. run_stands M rebased call_of item_of W moving writable quiet modest fits new new call s t fuel depth ran.walk.node.0
     (ending_of ran.close.ended) ran.walk.summary (map frames_of ran.close.unpaid.items) is_run.comes (let o = is_run.underway.unshared.maker in omega arith) refl may)
+
+-- and it is, where it may be: then it holds where the call began
+pub run_held : (M : MachineModel) (W : WorldModel) (rebased : Tree → Tree → ℕ → Tree) (call_of : Tree → M.Call) {L K V I F : Type 0} (place : L → M.Place) (item_of : I → M.Item) (frames_of : F → M.Frames)
+    (moving writable : Tree → Bool) (quiet : M.Place → Bool) → Modest M moving writable quiet → Fits W moving writable rebased →
+    (fuel depth : ℕ) (call : Tree) (s t : W.State) (old new : List (Node I)) (kept l : List (Option KeptOutcome)) (ran : Ran L K V F) → depth ≤ deepest_depth →
+    IsRun M W rebased call_of place item_of frames_of fuel depth (call_of call) s t old new kept l ran → MayBeKept M W rebased fuel depth (call_of call) s (ending_of ran.close.ended) →
+    HoldsSomewhere W s fuel depth call (with_outcome l (record { call = call; depth = depth; node = ran.walk.node.0; ended = ending_of ran.close.ended; summary = ran.walk.summary }))
+run_held M W rebased call_of place item_of frames_of moving writable quiet modest fits fuel depth call s t old new kept l ran deep is_run may =
+    let z = finished (moment_at M W place item_of ran.walk Nothing t new) (ending_of ran.close.ended) (map frames_of ran.close.unpaid.items) in
+    let k : KeptOutcome = record { call = call; depth = depth; node = ran.walk.node.0; ended = ending_of ran.close.ended; summary = ran.walk.summary } in
+    let no_at : ran.walk.summary.at_told ≡ false = may.no_at z is_run.comes in
+    let begins = begun M W (call_of call) s in
+    let levels = levels_le M W rebased fuel depth begins z is_run.comes deep (omega arith) in
+    record {
+      at = length l;
+      there = record {
+        outcome = k;
+        at = last_if (is_wanting (ending_of ran.close.ended) || ran.walk.summary.at_told) l k
+            (neither (is_wanting (ending_of ran.close.ended)) ran.walk.summary.at_told (paid_is (ending_of ran.close.ended) may.paid) no_at);
+        holds = record {
+          same = refl;
+          holds = record {
+            answers = (runs_are_outcomes M W moving writable quiet rebased modest fits (call_of call) s fuel depth z is_run.comes no_at may.paid).1;
+            covered = units_le M W rebased fuel depth begins z is_run.comes (omega arith);
+            room = has_room ran.walk.summary.no_room ran.walk.summary.levels depth levels;
+          };
+        };
+      };
+    }

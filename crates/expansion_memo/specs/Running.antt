@@ -7,13 +7,13 @@ use Rattle.asking_core.specs.Worlds.{WorldModel}
 use Rattle.asking_core.specs.Machines.{MachineModel, Told, Nothing, Returned}
 use Rattle.asking_core.specs.Actions.{told_of}
 use Rattle.asking_core.specs.Runs.{Ending, ByLeave, ByEnd, ByBudget, deepest_depth}
-use Rattle.kept_outcomes.specs.Moments.{Moment, Comes, Leads, begun, finished, taking_unit}
+use Rattle.kept_outcomes.specs.Moments.{Moment, Finish, Comes, Leads, begun, finished, taking_unit}
 use Rattle.expansion_memo.specs.declared.walk.Walk.{Walk}
 use Rattle.expansion_memo.specs.declared.running.Closing.{Closing}
 use Rattle.expansion_memo.specs.declared.running.Ran.{Ran}
 use Rattle.expansion_memo.specs.declared.running.Passed.{Passed}
 use Rattle.expansion_memo.specs.declared.running.Passed.TheVariants as passed
-use Rattle.expansion_memo.specs.Kept.{KeptOutcome, AllStand}
+use Rattle.expansion_memo.specs.Kept.{KeptOutcome, kept_at, AllStand, HoldsThere}
 use Rattle.expansion_memo.specs.Entries.{ending_of}
 use Rattle.expansion_memo.specs.Walks.{moment_at}
 use Rattle.expansion_memo.specs.Within.{NotKept}
@@ -29,10 +29,11 @@ pub record Lasts {I : Type 0} (old new : List (Node I)) (y : ℕ) : Type 0 where
   pub points : points new y ≡ points old y
   pub owners : outside new y ≡ outside old y
 
--- all live nodes but one last, and the others under construction stay so, with their items
+-- all live nodes but one last, the others under construction stay so, with their items, and what is kept still is
 pub record LeavesOthers {I : Type 0} (x : ℕ) (old new : List (Node I)) (kept after : List (Option KeptOutcome)) : Type 0 where
   pub lasts : (y : ℕ) → y ≢ x → IsLive old y → Lasts old new y
   pub underway : (y : ℕ) → y ≢ x → IsUnderway old kept y → IsUnderway new after y × ((node_at new y).items ≡ (node_at old y).items)
+  pub still : (i : ℕ) (o : KeptOutcome) → kept_at kept i ≡ Some o → kept_at after i ≡ Some o
 
 -- What holds of a call under way: it took no more fuel than there is, its frames have room, its node is under
 -- construction, and all that is kept stands.
@@ -117,3 +118,13 @@ pub record IsHandedOut {I : Type 0} (old new : List (Node I)) (x : ℕ) : Type 0
   pub owned : outside new x ≡ outside old x + 1
   pub same : IsLive old x → points new x ≡ points old x
   pub lasts : (y : ℕ) → y ≢ x → IsLive old y → Lasts old new y
+
+-- What a call comes to may be kept: fuel is not wanting in it, and no outermost statement comes in its plain run.
+pub record MayBeKept (M : MachineModel) (W : WorldModel) (rebased : Tree → Tree → ℕ → Tree) (fuel depth : ℕ) (call : M.Call) (s : W.State) (ended : Ending) : Type 0 where
+  pub paid : ended ≡ ByBudget → ⊥
+  pub no_at : (z : Finish M W) → Comes M W rebased fuel depth (begun M W call s) z → z.summary.at_told ≡ false
+
+-- an outcome of this call is kept somewhere that holds
+pub record HoldsSomewhere (W : WorldModel) (s : W.State) (fuel depth : ℕ) (call : Tree) (kept : List (Option KeptOutcome)) : Type 0 where
+  pub at : ℕ
+  pub there : HoldsThere W s fuel depth call kept at

@@ -2,7 +2,8 @@
 //!
 //! A `Memo` keeps outcomes of one type of machine. `expand` runs a call: the world is then as its plain run leaves it, the
 //! node has the points of that, and the end and the cost are the run's, whatever of it ran and whatever was taken. Where an
-//! outcome of an equal call holds, no step is made. `retire` gives up exactly the outcomes whose nodes are no longer live.
+//! outcome of an equal call holds, no step is made; and what ran is kept, unless fuel was wanting in it or an outermost
+//! statement came. `retire` gives up exactly the outcomes whose nodes are no longer live.
 //!
 //! It knows nothing of HLASM, of what a key asks and of what an item says.
 #![tactic(auto)]

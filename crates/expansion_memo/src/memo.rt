@@ -6,6 +6,7 @@ ghost use Rattle.trace_arena.specs.Nodes.{Node, node_at, outside};
 ghost use Rattle.trace_arena.specs.Changes.{Recounts, Releases};
 ghost use Rattle.asking_core.specs.Worlds.{Fits};
 ghost use Rattle.expansion_memo.specs.Reuse.{ComesTo};
+ghost use Rattle.expansion_memo.specs.Running.{HoldsSomewhere};
 ghost use Rattle.expansion_memo.specs.Kept.{AllStand, HoldsThere, Stands, NoneHolds, kept_at, while_live};
 
 use crate::Outcome;
@@ -92,6 +93,7 @@ impl<M: AskMachine> Memo<M> {
             (λ o. ComesTo M.model W.model M.rebased M.item_of M.frames_of fuel depth (M.call_of (M.Call.code call.now)) (W.state world.old) (W.state world.new) arena.new.nodes o)) }
         ensures none { IfOk result (λ r. r ≡ None → (W.state world.new ≡ W.state world.old) × (arena.new ≡ arena.old)) }
         ensures owned { IfOk result (λ r. IfSome r (λ o. Recounts arena.old.nodes arena.new.nodes o.node.0 ((node_at arena.old.nodes o.node.0).owners + 1))) }
+        ensures held { IfOk result (λ r. IfSome r (λ o. HoldsSomewhere W.model (W.state world.old) fuel depth (M.Call.code call.now) self.now)) }
         ensures made { arena.new.made ≡ arena.old.made }
         ensures stand { AllStand M.model M.rebased M.call_of M.item_of arena.new.nodes self.now }
     {

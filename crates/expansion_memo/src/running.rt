@@ -1,15 +1,15 @@
 //! Running a call over a memo, with kept outcomes in place of nested calls.
-ghost use Rattle.std.specs.Prelude.{◌≡◌, ℕ, ◌+◌, ◌<◌, ◌≤◌, IfOk, OnOk, map};
+ghost use Rattle.std.specs.Prelude.{◌≡◌, Some, ℕ, ◌+◌, ◌<◌, ◌≤◌, IfOk, OnOk, map};
 ghost use Rattle.asking_core.specs.Worlds.{Fits};
 ghost use Rattle.asking_core.specs.Machines.{Nothing, Returned};
 ghost use Rattle.asking_core.specs.Actions.{told_of};
 ghost use Rattle.asking_core.specs.Runs.{deepest_depth};
-ghost use Rattle.expansion_memo.specs.Kept.{AllStand, HoldsThere};
+ghost use Rattle.expansion_memo.specs.Kept.{KeptOutcome, AllStand, HoldsThere, kept_at};
 ghost use Rattle.expansion_memo.specs.Reuse.{ComesTo};
 ghost use Rattle.expansion_memo.specs.Entries.{ending_of};
 ghost use Rattle.expansion_memo.specs.Walks.{moment_at};
 ghost use Rattle.expansion_memo.specs.Within.{JoinsIn};
-ghost use Rattle.expansion_memo.specs.Running.{IsSound, IsRun, WentOn, Passes, Progresses, TakesUnit, GoesBack, Closes, IsHandedOut, with_outcome};
+ghost use Rattle.expansion_memo.specs.Running.{IsSound, IsRun, WentOn, Passes, Progresses, TakesUnit, GoesBack, Closes, IsHandedOut, MayBeKept, HoldsSomewhere, with_outcome};
 
 use crate::entry::{DEEPEST, Entry};
 use crate::walk::{Next, Walk, advance, begin};
@@ -297,6 +297,9 @@ impl<M: AskMachine> Memo<M> {
         ensures comes { IfOk result (λ o. ComesTo M.model W.model M.rebased M.item_of M.frames_of fuel depth (M.call_of (M.Call.code call.now)) (W.state world.old) (W.state world.new) arena.new.nodes o) }
         ensures handed { IfOk result (λ o. IsHandedOut arena.old.nodes arena.new.nodes o.node.0) }
         ensures stand { OnOk result (AllStand M.model M.rebased M.call_of M.item_of arena.new.nodes self.new) }
+        ensures still_kept { OnOk result ((i : ℕ) (o : KeptOutcome) → kept_at self.old i ≡ Some o → kept_at self.new i ≡ Some o) }
+        ensures kept { IfOk result (λ o. MayBeKept M.model W.model M.rebased fuel depth (M.call_of (M.Call.code call.now)) (W.state world.old) (ending_of o.ended)
+            → HoldsSomewhere W.model (W.state world.old) fuel depth (M.Call.code call.now) self.new) }
         ensures unstepped { OnOk result ((i : ℕ) → HoldsThere W.model (W.state world.old) fuel depth (M.Call.code call.now) self.old i → (steps.new ≡ steps.old) × (arena.new.made ≡ arena.old.made)) }
     {
         arena_is_whole(arena);
