@@ -81,6 +81,21 @@ module _ {I : Type 0} (old mid new : List (Node I)) (x c : ℕ) (other : c ≢ x
     parent_live : IsLive mid x
     parent_live = let a = l.unshared.maker in omega arith
 
+    owners_same : (y : ℕ) → y ≢ x → y ≢ c → IsLive old y → outside new y ≡ outside old y
+    owners_same y ne differ live =
+        let same = l.others y ne differ in
+        let more = same.owners in
+        let links = same.parents in
+        r.outer y ∙ less_other (outside mid) c y (y == c) refl differ ∙ (let e : outside mid y ≡ outside old y = omega arith in e)
+
+    underway_same : (y : ℕ) → y ≢ x → y ≢ c → IsUnshared old y → IsUnshared new y × ((node_at new y).items ≡ (node_at old y).items)
+    underway_same y ne differ unshared =
+        let same = l.others y ne differ in
+        let mine : IsUnshared mid y = record { maker = same.owners ∙ unshared.maker; no_parent = same.parents ∙ unshared.no_parent } in
+        let now = r.unshared y differ mine in
+        let live : IsLive new y = (let m = now.maker in omega arith) in
+        (now, (r.keeps y live).items ∙ same.keeps.items)
+
     pub absorbed : Absorbs old new x c
     absorbed =
         let kept = r.keeps x (still_live x parent_live) in
@@ -92,4 +107,6 @@ module _ {I : Type 0} (old mid new : List (Node I)) (x c : ℕ) (other : c ≢ x
               let m = live_mid y ne live in
               let now = still_live y m.0 in
               (now, (r.keeps y now).points ∙ m.1);
+          owners = owners_same;
+          underway = underway_same;
         }

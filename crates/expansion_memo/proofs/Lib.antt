@@ -4,3 +4,4 @@ pub mod KeptLists
 pub mod Reused
 pub mod Walking
 pub mod Absorbed
+pub mod RunParts

@@ -39,7 +39,7 @@ module _ (M : MachineModel) (rebased : Tree → Tree → ℕ → Tree) (call_of 
       (subst P h.same stands.outcome) h.holds
 
   module _ (nodes : List (Node I)) where
-    stand_push : (kept : List (Option KeptOutcome)) (k : KeptOutcome) → AllStand M rebased call_of item_of nodes kept →
+    pub stand_push : (kept : List (Option KeptOutcome)) (k : KeptOutcome) → AllStand M rebased call_of item_of nodes kept →
         Stands M rebased call_of item_of nodes k → AllStand M rebased call_of item_of nodes (kept ++ Some k ∷ [])
     stand_push kept k stand one i o at =
         elim (kept_push kept k o i at) [ inl e ↦ stand i o e | inr e ↦ subst (Stands M rebased call_of item_of nodes) e.1 one ]
@@ -89,7 +89,7 @@ stand_linked M rebased call_of item_of old new x child kept apart l stand i o at
       outcome = subst (λ ps. IsOutcome M rebased (call_of o.call) o.depth (map (point_by item_of) ps) o.ended o.summary) (sym now.1) s.outcome;
     }
 
-point_within : {I J : Type 0} (f : I → J) (calls : List I) (ps : List (Point I)) → map (point_by f) (map (within calls) ps) ≡ map (within (map f calls)) (map (point_by f) ps)
+pub point_within : {I J : Type 0} (f : I → J) (calls : List I) (ps : List (Point I)) → map (point_by f) (map (within calls) ps) ≡ map (within (map f calls)) (map (point_by f) ps)
 point_within f calls [] = refl
 point_within {I} {J} f calls (p ∷ ps) =
     ap (λ cs. record { calls = cs; item = f p.item } ∷ map (point_by f) (map (within calls) ps)) (map-append f calls p.calls)

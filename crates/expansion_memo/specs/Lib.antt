@@ -8,3 +8,4 @@ pub mod Finding
 pub mod Reuse
 pub mod Walks
 pub mod Within
+pub mod Running

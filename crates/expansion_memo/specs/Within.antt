@@ -1,7 +1,7 @@
 -- A kept outcome that is taken in place of running a nested call. This project.
 use Rattle.std.specs.Prelude.{◌≡◌, ◌≢◌, ℕ, ◌+◌, ◌-◌, Option, Some, List, ◌++◌, map}
 use Rattle.kept_values.specs.Trees.{Tree}
-use Rattle.trace_arena.specs.Nodes.{Node, IsLive, IsUnshared}
+use Rattle.trace_arena.specs.Nodes.{Node, node_at, outside, IsLive, IsUnshared}
 use Rattle.trace_arena.specs.Points.{points, within}
 use Rattle.trace_arena.specs.Changes.{last_item}
 use Rattle.asking_core.specs.Worlds.{WorldModel}
@@ -24,9 +24,11 @@ pub record JoinsIn (M : MachineModel) (W : WorldModel) (rebased : Tree → Tree 
   pub wanting_is : child.wanting ≡ wanting
 
 -- A nested call's node stands in its caller's node, behind what was there, and owes its life to that alone; all other nodes
--- that were live still are, with their points.
+-- that were live still are, with their points and their owners outside.
 pub record Absorbs {I : Type 0} (old new : List (Node I)) (x child : ℕ) : Type 0 where
   pub unshared : IsUnshared new x
   pub behind : points new x ≡ points old x ++ map (within (last_item old x)) (points old child)
   pub last : last_item new x ≡ last_item old x
   pub lasts : (y : ℕ) → y ≢ x → IsLive old y → IsLive new y × (points new y ≡ points old y)
+  pub owners : (y : ℕ) → y ≢ x → y ≢ child → IsLive old y → outside new y ≡ outside old y
+  pub underway : (y : ℕ) → y ≢ x → y ≢ child → IsUnshared old y → IsUnshared new y × ((node_at new y).items ≡ (node_at old y).items)

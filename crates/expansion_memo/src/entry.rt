@@ -18,12 +18,12 @@ pub(crate) const DEEPEST: u32 = 128;
 /// An outcome that is kept: its call and the depth at which it ran, the node of its points, how it ended, and what else
 /// it left.
 #[derive(Drop)]
-pub struct Entry<C: Kept, K: Kept, V: Kept> {
-    pub call: C,
-    pub depth: u32,
-    pub node: NodeId,
-    pub ended: Ended,
-    pub summary: CallSummary<K, V>,
+pub(crate) struct Entry<C: Kept, K: Kept, V: Kept> {
+    pub(crate) call: C,
+    pub(crate) depth: u32,
+    pub(crate) node: NodeId,
+    pub(crate) ended: Ended,
+    pub(crate) summary: CallSummary<K, V>,
 }
 
 impl<C: Kept, K: Kept, V: Kept> Entry<C, K, V> {

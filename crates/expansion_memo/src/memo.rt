@@ -6,10 +6,12 @@ ghost use Rattle.trace_arena.specs.Nodes.{Node, node_at, outside};
 ghost use Rattle.trace_arena.specs.Changes.{Recounts, Releases};
 ghost use Rattle.asking_core.specs.Worlds.{Fits};
 ghost use Rattle.expansion_memo.specs.Reuse.{ComesTo};
+ghost use Rattle.expansion_memo.specs.Running.{HoldsSomewhere};
 ghost use Rattle.expansion_memo.specs.Kept.{AllStand, HoldsThere, Stands, NoneHolds, kept_at, while_live};
 
+use crate::Outcome;
+use crate::entry::Entry;
 use crate::table::Table;
-use crate::{Entry, Outcome};
 use asking_core::{AskMachine, World};
 use hl_base::OutOfMemory;
 use std::alloc::Global;
@@ -46,7 +48,7 @@ impl<M: AskMachine> Memo<M> {
     }
 
     /// The outcome that is kept at a place.
-    pub fn entry(&self, place: usize) -> Option<&Entry<M::Call, M::Key, M::Value>>
+    pub(crate) fn entry(&self, place: usize) -> Option<&Entry<M::Call, M::Key, M::Value>>
         ensures { option_map (λ e. kept_by M.Call.code e.now) result ≡ kept_at self.now place }
     {
         self.table.entry(place)
@@ -54,7 +56,7 @@ impl<M: AskMachine> Memo<M> {
 
     /// Where an outcome of an equal call is kept that holds, of those with the same first answer the newest. Only these
     /// are looked at.
-    pub fn find<W: World<Key = M::Key, Value = M::Value>>(
+    pub(crate) fn find<W: World<Key = M::Key, Value = M::Value>>(
         &self,
         alloc: Global,
         call: &M::Call,
@@ -74,7 +76,7 @@ impl<M: AskMachine> Memo<M> {
     /// Takes a kept outcome of an equal call in place of a run, if one holds: then it leaves the world as the plain run
     /// does, and has the points, the end and the cost of that, and makes no record. Its caller is one more owner of the
     /// node.
-    pub fn reuse<W: World<Key = M::Key, Value = M::Value>>(
+    pub(crate) fn reuse<W: World<Key = M::Key, Value = M::Value>>(
         &self,
         alloc: Global,
         call: &M::Call,
@@ -91,6 +93,7 @@ impl<M: AskMachine> Memo<M> {
             (λ o. ComesTo M.model W.model M.rebased M.item_of M.frames_of fuel depth (M.call_of (M.Call.code call.now)) (W.state world.old) (W.state world.new) arena.new.nodes o)) }
         ensures none { IfOk result (λ r. r ≡ None → (W.state world.new ≡ W.state world.old) × (arena.new ≡ arena.old)) }
         ensures owned { IfOk result (λ r. IfSome r (λ o. Recounts arena.old.nodes arena.new.nodes o.node.0 ((node_at arena.old.nodes o.node.0).owners + 1))) }
+        ensures held { IfOk result (λ r. IfSome r (λ o. HoldsSomewhere W.model (W.state world.old) fuel depth (M.Call.code call.now) self.now)) }
         ensures made { arena.new.made ≡ arena.old.made }
         ensures stand { AllStand M.model M.rebased M.call_of M.item_of arena.new.nodes self.now }
     {
@@ -113,7 +116,7 @@ impl<M: AskMachine> Memo<M> {
     }
 
     /// One outcome more is kept. An `Err` changes nothing.
-    pub fn keep(
+    pub(crate) fn keep(
         &mut self,
         alloc: Global,
         entry: Entry<M::Call, M::Key, M::Value>,

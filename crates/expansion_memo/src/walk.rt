@@ -19,16 +19,16 @@ use trace_arena::{NodeId, TraceArena};
 /// Where a call has come: its local, the node of its points, what else it left so far, and how many frames stand open in
 /// it.
 #[derive(Drop)]
-pub struct Walk<L: Drop, K: Kept, V: Kept> {
-    pub local: L,
-    pub node: NodeId,
-    pub summary: CallSummary<K, V>,
-    pub frames: u32,
+pub(crate) struct Walk<L: Drop, K: Kept, V: Kept> {
+    pub(crate) local: L,
+    pub(crate) node: NodeId,
+    pub(crate) summary: CallSummary<K, V>,
+    pub(crate) frames: u32,
 }
 
 /// What a step comes to: the next one is told something, or the step counts, enters a call, leaves or ends all.
 #[derive(Drop)]
-pub enum Next<V: Drop, C: Drop> {
+pub(crate) enum Next<V: Drop, C: Drop> {
     Tell(Given<V>),
     Counts,
     Enters(C),
@@ -69,7 +69,7 @@ fn put<W: World>(
 }
 
 /// A call begins: with a node of its own, which its maker alone owns.
-pub fn begin<M: AskMachine>(
+pub(crate) fn begin<M: AskMachine>(
     machine: &M,
     alloc: Global,
     call: &M::Call,
@@ -93,7 +93,7 @@ pub fn begin<M: AskMachine>(
 /// One step of a call that goes on from a moment, told this. It leads to another moment, or the call is just behind a
 /// move that counts, enters a nested call, leaves or ends all. Only the points of its own node may become more. The number
 /// of the place falls, so there are only so many steps between two counts.
-pub fn advance<M: AskMachine, W: World<Key = M::Key, Value = M::Value>, L: Ledger>(
+pub(crate) fn advance<M: AskMachine, W: World<Key = M::Key, Value = M::Value>, L: Ledger>(
     machine: &M,
     alloc: Global,
     walk: &mut Walk<M::Local, M::Key, M::Value>,
@@ -112,6 +112,7 @@ pub fn advance<M: AskMachine, W: World<Key = M::Key, Value = M::Value>, L: Ledge
     ensures node { walk.new.node ≡ walk.old.node }
     ensures room { OnOk result (depth + walk.new.frames ≤ deepest_depth) }
     ensures appends { OnlyAppends arena.old.nodes arena.new.nodes walk.old.node.0 }
+    ensures units { OnOk result (walk.new.summary.units ≡ walk.old.summary.units) }
 {
     let action = machine.step(alloc, &mut walk.local, given, steps)?;
     match action {

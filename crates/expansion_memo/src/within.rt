@@ -10,8 +10,10 @@ ghost use Rattle.expansion_memo.specs.Entries.{ending_of};
 ghost use Rattle.expansion_memo.specs.Walks.{moment_at};
 ghost use Rattle.kept_outcomes.specs.Moments.{joined};
 ghost use Rattle.expansion_memo.specs.Within.{NotKept, JoinsIn, Absorbs};
+ghost use Rattle.expansion_memo.specs.Running.{LeavesOthers};
 
-use crate::{Ended, Memo, Walk};
+use crate::walk::Walk;
+use crate::{Ended, Memo};
 use asking_core::{AskMachine, World};
 use hl_base::OutOfMemory;
 use std::alloc::Global;
@@ -19,7 +21,7 @@ use trace_arena::{TraceArena, live_nodes_are_reached};
 
 /// Takes a kept outcome in place of running a nested call, if one holds: its node stands in the caller's then, and what it
 /// left is joined with what the caller left. How the nested call ended.
-pub fn reuse_within<M: AskMachine, W: World<Key = M::Key, Value = M::Value>>(
+pub(crate) fn reuse_within<M: AskMachine, W: World<Key = M::Key, Value = M::Value>>(
     machine: &M,
     alloc: Global,
     memo: &Memo<M>,
@@ -45,6 +47,7 @@ pub fn reuse_within<M: AskMachine, W: World<Key = M::Key, Value = M::Value>>(
     ensures kept { (walk.new.node ≡ walk.old.node) × (walk.new.local ≡ walk.old.local) × (walk.new.frames ≡ walk.old.frames) }
     ensures unshared { IsUnshared arena.new.nodes walk.old.node.0 }
     ensures stand { AllStand M.model M.rebased M.call_of M.item_of arena.new.nodes memo.now }
+    ensures others { OnOk result (LeavesOthers walk.old.node.0 arena.old.nodes arena.new.nodes memo.now memo.now) }
     ensures made { arena.new.made ≡ arena.old.made }
 {
     world.enter();
@@ -67,7 +70,7 @@ pub fn reuse_within<M: AskMachine, W: World<Key = M::Key, Value = M::Value>>(
 
 /// A nested call that ran is taken into its caller: its points stand behind those of the caller's node, which is its only
 /// owner then, and what it left is joined with what the caller left.
-pub fn absorb<M: AskMachine>(
+pub(crate) fn absorb<M: AskMachine>(
     machine: &M,
     alloc: Global,
     walk: &mut Walk<M::Local, M::Key, M::Value>,

@@ -96,3 +96,13 @@ pub returns-clause-stand : goal.returns-clause-stand
 returns-clause-stand g c =
     stand_recount g.M.AskMachine.model g.M.AskMachine.rebased g.M.AskMachine.call_of g.M.AskMachine.item_of
     c.args.arena.now.nodes c.retain.new.self.nodes c.in-Some-entry.entry.now.node.0 c.if-not-retain.ensures.retained c.args.self.now c.requires.stand
+
+pub returns-clause-held : goal.returns-clause-held
+returns-clause-held g c =
+    let W = g.W.World.model in
+    let s = g.W.World.state c.args.world.now in
+    let call = g.M.Call.Kept.code c.args.call.now in
+    let F : Option ℕ → Type 0 = λ r.
+    MatchOption r (NoneHolds W s c.args.fuel c.args.depth call c.args.self.now) (HoldsThere W s c.args.fuel c.args.depth call c.args.self.now) in
+    let there : F (Some c.in-Some.place) = subst F c.in-Some.is c.in_ok-place.ensures.found in
+    record { at = c.in-Some.place; there = there }
