@@ -4,18 +4,18 @@ ghost use Rattle.kept_values.specs.Trees.{Leaf, look_up};
 ghost use Rattle.asking_core.specs.Places.{pairs_of};
 ghost use Rattle.plain_expansion.specs.Questions.{led_by, Comes};
 ghost use Rattle.plain_expansion.specs.Language.{Continues, Enters};
-ghost use Rattle.plain_expansion.specs.Example.{example_effect, branch_left, branch_if, value_key};
+ghost use Rattle.plain_expansion.specs.Example.{Knows, example_effect, branch_left, branch_if, value_key};
 ghost use Rattle.expansion_step.specs.Meaning.{performed_by, entry_by};
 ghost use Rattle.example_language.specs.Lines.{line_by};
-ghost use Rattle.example_language.specs.Values.{question_tree, value_tree, known_by, means};
+ghost use Rattle.example_language.specs.Values.{question_tree, value_tree, known_by, changed_by, means};
 
-use crate::{Knowledge, Line, ListNumber, Program, Question, Value};
+use crate::{Change, Knowledge, Line, ListNumber, Program, Question, Value};
 use asking_core::Noted;
 use expansion_step::{Act, Entry, Performed};
 use hl_base::OutOfMemory;
 use std::alloc::Global;
 
-type Done = Performed<u32, u32, Knowledge, u32, ListNumber, Question, Value>;
+type Done = Performed<u32, u32, Change, u32, ListNumber, Question, Value>;
 
 /// The world's value, if it was answered.
 fn value_told(answers: &[Noted<Question, Value>]) -> Option<u32>
@@ -29,46 +29,43 @@ fn value_told(answers: &[Noted<Question, Value>]) -> Option<u32>
     None
 }
 
-/// What a call knows behind a branch, if it may take one more.
-fn branch_left(known: Knowledge) -> Option<Knowledge>
-    ensures { option_map known_by result ≡ branch_left (known_by known) }
+/// What changes by a branch, if a call may take one more.
+fn branch_left(known: Knowledge) -> Option<Change>
+    ensures { option_map (λ d. changed_by d (known_by known)) result ≡ branch_left (known_by known) }
 {
     if known.branches == 0 {
         return None;
     }
-    Some(Knowledge {
-        branches: known.branches - 1,
-        calls: known.calls,
-    })
+    Some(Change::TakesBranch)
 }
 
 /// Goes on with the next line.
-fn going_on<P: Program>(alloc: Global, known: Knowledge, said: u32) -> Done
-    ensures { performed_by (means P.lists P.branches) result ≡ Some (Comes (record { said = Leaf said; act = Continues (known_by known) [] })) }
+fn going_on<P: Program>(alloc: Global, said: u32) -> Done
+    ensures { (k : Knows) → performed_by (means P.lists P.branches) k result ≡ Some (Comes (record { said = Leaf said; act = Continues k [] })) }
 {
-    Performed::Does(said, Act::Continues(known, Vec::new(alloc)))
+    Performed::Does(said, Act::Continues(Change::Unchanged, Vec::new(alloc)))
 }
 
 /// Enters a list, or nothing.
 fn entering<P: Program>(said: u32, entry: Entry<u32, ListNumber, Question, Value>) -> Done
-    ensures { performed_by (means P.lists P.branches) result ≡ Some (Comes (record { said = Leaf said; act = Enters (Leaf 9) (entry_by (means P.lists P.branches) entry) })) }
+    ensures { (k : Knows) → performed_by (means P.lists P.branches) k result ≡ Some (Comes (record { said = Leaf said; act = Enters (Leaf 9) (entry_by (means P.lists P.branches) entry) })) }
 {
     Performed::Does(said, Act::Enters(9, entry))
 }
 
 /// Branches where the value is not 0.
 fn branching<P: Program>(alloc: Global, known: Knowledge, label: u32, value: u32) -> Done
-    ensures { performed_by (means P.lists P.branches) result ≡ Some (Comes (branch_if (Leaf value) label (known_by known))) }
+    ensures { performed_by (means P.lists P.branches) (known_by known) result ≡ Some (Comes (branch_if (Leaf value) label (known_by known))) }
 {
     if value == 0 {
-        return going_on::<P>(alloc, known, 0);
+        return going_on::<P>(alloc, 0);
     }
     Performed::Does(0, Act::Branches(label, branch_left(known)))
 }
 
 /// Sets the value.
-fn setting<P: Program>(alloc: Global, known: Knowledge, number: u32) -> Result<Done, OutOfMemory>
-    ensures { IfOk result (λ p. performed_by (means P.lists P.branches) p ≡ Some (Comes (record { said = Leaf 0; act = Continues (known_by known) (record { key = value_key; value = Leaf number } ∷ []) }))) }
+fn setting<P: Program>(alloc: Global, number: u32) -> Result<Done, OutOfMemory>
+    ensures { IfOk result (λ p. (k : Knows) → performed_by (means P.lists P.branches) k p ≡ Some (Comes (record { said = Leaf 0; act = Continues k (record { key = value_key; value = Leaf number } ∷ []) }))) }
 {
     let mut puts = Vec::new(alloc);
     let value = Value { number };
@@ -76,7 +73,7 @@ fn setting<P: Program>(alloc: Global, known: Knowledge, number: u32) -> Result<D
         key: Question::Value,
         value,
     })?;
-    Ok(Performed::Does(0, Act::Continues(known, puts)))
+    Ok(Performed::Does(0, Act::Continues(Change::Unchanged, puts)))
 }
 
 /// What a line does, as far as the answers lead.
@@ -86,22 +83,22 @@ pub(crate) fn performed<P: Program>(
     known: Knowledge,
     answers: &[Noted<Question, Value>],
 ) -> Result<Done, OutOfMemory>
-    ensures { IfOk result (λ p. performed_by (means P.lists P.branches) p ≡ Some (led_by (look_up (pairs_of question_tree value_tree answers.now)) (example_effect (line_by line) (known_by known)))) }
+    ensures { IfOk result (λ p. performed_by (means P.lists P.branches) (known_by known) p ≡ Some (led_by (look_up (pairs_of question_tree value_tree answers.now)) (example_effect (line_by line) (known_by known)))) }
 {
     match line {
-        Line::Says(number) => Ok(going_on::<P>(alloc, known, number)),
+        Line::Says(number) => Ok(going_on::<P>(alloc, number)),
         Line::SaysValue => match value_told(answers) {
-            Some(value) => Ok(going_on::<P>(alloc, known, value)),
+            Some(value) => Ok(going_on::<P>(alloc, value)),
             None => Ok(Performed::Wants(Question::Value)),
         },
-        Line::SaysCalls => Ok(going_on::<P>(alloc, known, known.calls)),
-        Line::Sets(number) => setting::<P>(alloc, known, number),
+        Line::SaysCalls => Ok(going_on::<P>(alloc, known.calls)),
+        Line::Sets(number) => setting::<P>(alloc, number),
         Line::BranchesTo(label) => Ok(Performed::Does(0, Act::Branches(label, branch_left(known)))),
         Line::BranchesIf(label) => match value_told(answers) {
             Some(value) => Ok(branching::<P>(alloc, known, label, value)),
             None => Ok(Performed::Wants(Question::Value)),
         },
-        Line::Labelled(_) => Ok(going_on::<P>(alloc, known, 0)),
+        Line::Labelled(_) => Ok(going_on::<P>(alloc, 0)),
         Line::CallsList(number) => {
             let call = ListNumber { number };
             Ok(entering::<P>(7, Entry::Calling(call, Vec::new(alloc))))

@@ -6,7 +6,7 @@ ghost use Rattle.example_language.specs.Lines.{line_by, lists_by};
 ghost use Rattle.example_language.specs.Values.{call_in, reading, calls_move, value_is_writable, calls_back};
 
 use crate::effects::performed;
-use crate::{Knowledge, Line, ListNumber, Listing, Question, Shown, Value};
+use crate::{Change, Knowledge, Line, ListNumber, Listing, Question, Shown, Value};
 use asking_core::Noted;
 use expansion_step::{CodedLanguage, Fault, Level, Performed, Stack};
 use hl_base::OutOfMemory;
@@ -87,6 +87,8 @@ impl<P: Program> CodedLanguage for ExampleLanguage<P> {
 
     type Known = Knowledge;
 
+    type Change = Change;
+
     type Said = u32;
 
     type Item = Shown;
@@ -162,7 +164,7 @@ impl<P: Program> CodedLanguage for ExampleLanguage<P> {
         Performed<
             Self::Listing,
             Self::Label,
-            Self::Known,
+            Self::Change,
             Self::Said,
             Self::Call,
             Self::Key,
@@ -174,6 +176,19 @@ impl<P: Program> CodedLanguage for ExampleLanguage<P> {
             Some(line) => performed::<P>(alloc, line, *known, answers),
             None => Ok(Performed::Nothing),
         }
+    }
+
+    fn change(
+        &self,
+        _alloc: Global,
+        known: &mut Self::Known,
+        change: Self::Change,
+    ) -> Result<(), OutOfMemory> {
+        match change {
+            Change::Unchanged => {}
+            Change::TakesBranch => known.branches = known.branches.saturating_sub(1),
+        }
+        Ok(())
     }
 
     fn item(

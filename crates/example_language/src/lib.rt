@@ -15,5 +15,5 @@ mod world;
 
 pub use language::{ExampleLanguage, Program};
 pub use lines::{Line, Listing};
-pub use values::{Knowledge, ListNumber, Question, Shown, Value};
+pub use values::{Change, Knowledge, ListNumber, Question, Shown, Value};
 pub use world::Cells;

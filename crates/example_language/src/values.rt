@@ -42,6 +42,13 @@ pub struct Knowledge {
     pub calls: u32,
 }
 
+/// A change of what a call knows: none, or one branch less is left.
+#[derive(Clone, Copy)]
+pub enum Change {
+    Unchanged,
+    TakesBranch,
+}
+
 impl Kept for Question {
     ghost use Rattle.example_language.specs.Values.{question_tree};
 

@@ -41,7 +41,7 @@ length-keys : {K : Type 0} (f : K → Tree) (ks : List K) → length (map f ks) 
 length-keys f [] = refl
 length-keys f (k ∷ ks) = ap suc (length-keys f ks)
 
-module _ {L : Language} {T B N S I C K V : Type 0} (m : Means L T B N S I C K V) where
+module _ {L : Language} {T B N D S I C K V : Type 0} (m : Means L T B N D S I C K V) where
   opened-quiet : (c : L.words.Call) (ks : List Tree) (ps : List Pair) → is_ready_quiet (opened L c ks ps) ≡ is_more ks
   unfolding is_more
   opened-quiet c [] ps = refl

@@ -31,7 +31,7 @@ pub if_ok-map : {X E : Type 0} (r : Result X E) (P Q : X → Type 0) → ((x : X
 if_ok-map (Ok x) P Q go holds = go x holds
 if_ok-map (Err e) P Q go holds = holds
 
-module _ {L : Language} {T B N S I C K V : Type 0} (m : Means L T B N S I C K V) where
+module _ {L : Language} {T B N D S I C K V : Type 0} (m : Means L T B N D S I C K V) where
   -- the outermost list is the first that is kept
   pub outermost-some : (x : Stack T N) (xs : List (Level T)) (l : Level T) → slice_get xs 0 ≡ Some l →
       l.position ≡ outermost (level_by m x.here) (reverse (map (level_by m) xs))

@@ -18,27 +18,28 @@ use Rattle.expansion_step.specs.declared.act.Performed.TheVariants as performed
 use Rattle.expansion_step.specs.declared.act.Fault.{Fault}
 use Rattle.expansion_step.specs.declared.act.Fault.TheVariants as fault
 
--- what lists, labels, knowledge, what is said, and items mean
-pub record Reads (L : Language) (T B N S I : Type 0) : Type 0 where
+-- what lists, labels, knowledge, what is said, and items mean, and what is known after a change of what was known
+pub record Reads (L : Language) (T B N D S I : Type 0) : Type 0 where
   pub listing : T → L.words.Listing
   pub label : B → L.words.Label
   pub known : N → L.words.Known
+  pub changed : D → L.words.Known → L.words.Known
   pub said : S → L.words.Said
   pub item : I → L.Item
 
 -- the same, with calls, keys and values; a call is read from its tree
-pub record Means (L : Language) (T B N S I C K V : Type 0) : Type 0 where
-  pub reads : Reads L T B N S I
+pub record Means (L : Language) (T B N D S I C K V : Type 0) : Type 0 where
+  pub reads : Reads L T B N D S I
   pub call_of : Tree → L.words.Call
   pub code : C → Tree
   pub key : K → Tree
   pub value : V → Tree
 
-abbrev pub meaning : {L : Language} {T B N S I C K V : Type 0} → Reads L T B N S I → (Tree → L.words.Call) → (C → Tree) → (K → Tree) →
-    (V → Tree) → Means L T B N S I C K V
+abbrev pub meaning : {L : Language} {T B N D S I C K V : Type 0} → Reads L T B N D S I → (Tree → L.words.Call) → (C → Tree) → (K → Tree) →
+    (V → Tree) → Means L T B N D S I C K V
 meaning reads call_of code key value = record { reads = reads; call_of = call_of; code = code; key = key; value = value }
 
-module _ {L : Language} {T B N S I C K V : Type 0} (m : Means L T B N S I C K V) where
+module _ {L : Language} {T B N D S I C K V : Type 0} (m : Means L T B N D S I C K V) where
   abbrev pub call_by : C → L.words.Call
   call_by c = m.call_of (m.code c)
 
@@ -61,20 +62,21 @@ module _ {L : Language} {T B N S I C K V : Type 0} (m : Means L T B N S I C K V)
   entry_by (entry.Calling c puts) = Calling (call_by c) (pairs_by puts.items)
   entry_by (entry.Copying listing) = Copying (m.reads.listing listing)
 
-  abbrev pub act_by : Act T B N S C K V → ActOf L.words
-  act_by (act.Continues known puts) = Continues (m.reads.known known) (pairs_by puts.items)
-  act_by (act.Branches label known) = Branches (m.reads.label label) (option_map m.reads.known known)
-  act_by (act.Enters limited entry) = Enters (m.reads.said limited) (entry_by entry)
-  act_by act.Returns = Returns
-  act_by act.Finishes = Finishes
+  -- an act of code says what changes; what is known after it is a matter of what was known before
+  abbrev pub act_by : L.words.Known → Act T B D S C K V → ActOf L.words
+  act_by known (act.Continues change puts) = Continues (m.reads.changed change known) (pairs_by puts.items)
+  act_by known (act.Branches label change) = Branches (m.reads.label label) (option_map (λ d. m.reads.changed d known) change)
+  act_by known (act.Enters limited entry) = Enters (m.reads.said limited) (entry_by entry)
+  act_by known act.Returns = Returns
+  act_by known act.Finishes = Finishes
 
-  abbrev pub effect_by : S → Act T B N S C K V → Effect L.words
-  effect_by said a = record { said = m.reads.said said; act = act_by a }
+  abbrev pub effect_by : L.words.Known → S → Act T B D S C K V → Effect L.words
+  effect_by known said a = record { said = m.reads.said said; act = act_by known a }
 
-  abbrev pub performed_by : Performed T B N S C K V → Option (Led Tree (Effect L.words))
-  performed_by performed.Nothing = None
-  performed_by (performed.Wants key) = Some (Wants (m.key key))
-  performed_by (performed.Does said a) = Some (Comes (effect_by said a))
+  abbrev pub performed_by : L.words.Known → Performed T B D S C K V → Option (Led Tree (Effect L.words))
+  performed_by known performed.Nothing = None
+  performed_by known (performed.Wants key) = Some (Wants (m.key key))
+  performed_by known (performed.Does said a) = Some (Comes (effect_by known said a))
 
   abbrev pub point_by : Stack T N → S → FaultOf → Point L.words
   point_by x said fault = record { stack = stack_by x; said = m.reads.said said; fault = fault }

@@ -13,7 +13,7 @@ use Rattle.expansion_step.specs.declared.phase.Phase.TheVariants as phase
 use Rattle.expansion_step.specs.declared.phase.Local.{Local}
 use Rattle.expansion_step.specs.Meaning.{Means, call_by, pairs_by, stack_by, entry_by}
 
-module _ {L : Language} {T B N S I C K V : Type 0} (m : Means L T B N S I C K V) where
+module _ {L : Language} {T B N D S I C K V : Type 0} (m : Means L T B N D S I C K V) where
   -- the tail that is left
   abbrev pub onward_by : Onward C → StackOf L.words → Tail L.words
   onward_by onward.On x = GoingOn x

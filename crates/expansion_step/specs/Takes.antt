@@ -10,7 +10,7 @@ use Rattle.expansion_step.specs.Meaning.{Means, stack_by}
 use Rattle.expansion_step.specs.Places.{phase_by}
 
 -- from a place where nothing is waited for, and with the stack that is left
-pub record Takes {L : Language} {T B N S I C K V : Type 0} (m : Means L T B N S I C K V) (r : Ready L.words L.Item) (x : Stack T N)
+pub record Takes {L : Language} {T B N D S I C K V : Type 0} (m : Means L T B N D S I C K V) (r : Ready L.words L.Item) (x : Stack T N)
     (t : Taken T C K V I) : Type 0 where
   pub action : move_of m.key m.value m.code m.call_of m.reads.item t.action ≡ engine.move_of L r
   pub place : phase_by m (stack_by m x) t.phase ≡ next_place L r

@@ -27,6 +27,6 @@ call_at_entry (phase.Tried limited item entry) = None
 call_at_entry phase.Inside = None
 
 -- where a call stands, and how many actions it may still take before the next unit of fuel
-abbrev pub watched_by : {L : Language} {T B N S I C K V : Type 0} → Means L T B N S I C K V → Watched T N C K V I →
+abbrev pub watched_by : {L : Language} {T B N D S I C K V : Type 0} → Means L T B N D S I C K V → Watched T N C K V I →
     WatchedOf (Place L.words L.Item)
 watched_by m w = record { place = place_by m w.local; left = w.left }

@@ -10,13 +10,13 @@ pub enum Entry<T, C, K, V> {
     Copying(T),
 }
 
-/// What a statement does. It goes on with the next one, knowing and putting so much; it branches to a label, after which so
-/// much is known, or for which no branch is left; it wants room for one more frame, for want of which only so much is
+/// What a statement does. It goes on with the next one, after this change of what is known, and puts so much; it branches to
+/// a label, with such a change, or none is left to it; it wants room for one more frame, for want of which only so much is
 /// said; it ends its call; or it ends all.
 #[derive(Drop)]
-pub enum Act<T, B, N, S, C, K, V> {
-    Continues(N, Vec<Noted<K, V>>),
-    Branches(B, Option<N>),
+pub enum Act<T, B, D, S, C, K, V> {
+    Continues(D, Vec<Noted<K, V>>),
+    Branches(B, Option<D>),
     Enters(S, Entry<T, C, K, V>),
     Returns,
     Finishes,
@@ -24,10 +24,10 @@ pub enum Act<T, B, N, S, C, K, V> {
 
 /// How far the answers lead: there is no statement; the first key that has no answer; or what is said, and what is done.
 #[derive(Drop)]
-pub enum Performed<T, B, N, S, C, K, V> {
+pub enum Performed<T, B, D, S, C, K, V> {
     Nothing,
     Wants(K),
-    Does(S, Act<T, B, N, S, C, K, V>),
+    Does(S, Act<T, B, D, S, C, K, V>),
 }
 
 /// What went wrong where a statement was to go on.

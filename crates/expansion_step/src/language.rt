@@ -1,5 +1,5 @@
 //! A macro language in code.
-ghost use Rattle.std.specs.Prelude.{◌≡◌, ℕ, Bool, List, ◌∷◌, map, reverse, IfOk, option_map, slice_get, is_some};
+ghost use Rattle.std.specs.Prelude.{◌≡◌, ℕ, Bool, List, ◌∷◌, map, reverse, IfOk, OnOk, option_map, slice_get, is_some};
 ghost use Rattle.kept_values.specs.Trees.{Tree, look_up};
 ghost use Rattle.asking_core.specs.Places.{pairs_of};
 ghost use Rattle.plain_expansion.specs.Questions.{led_by};
@@ -27,6 +27,8 @@ pub trait CodedLanguage {
 
     type Known: Drop;
 
+    type Change: Drop;
+
     type Said: Drop;
 
     type Item: Drop;
@@ -36,7 +38,7 @@ pub trait CodedLanguage {
     /// The language, and what its values mean in it. A call is read from its tree, so that equal calls are one.
     ghost language: { Language };
 
-    ghost reads: { Reads language Self.Listing Self.Label Self.Known Self.Said Self.Item };
+    ghost reads: { Reads language Self.Listing Self.Label Self.Known Self.Change Self.Said Self.Item };
 
     ghost call_of: { Tree → (language).words.Call };
 
@@ -90,7 +92,7 @@ pub trait CodedLanguage {
         Performed<
             Self::Listing,
             Self::Label,
-            Self::Known,
+            Self::Change,
             Self::Said,
             Self::Call,
             Self::Key,
@@ -98,7 +100,16 @@ pub trait CodedLanguage {
         >,
         OutOfMemory,
     >
-        ensures { IfOk result (λ p. performed_by (meaning reads call_of Self.Call.code Self.Key.code Self.Value.code) p ≡ option_map (λ s. led_by (look_up (pairs_of Self.Key.code Self.Value.code answers.now)) ((language).effect_of s ((reads).known known.now))) (slice_get ((language).statements_of ((reads).listing here.now.listing)) here.now.position)) };
+        ensures { IfOk result (λ p. performed_by (meaning reads call_of Self.Call.code Self.Key.code Self.Value.code) ((reads).known known.now) p ≡ option_map (λ s. led_by (look_up (pairs_of Self.Key.code Self.Value.code answers.now)) ((language).effect_of s ((reads).known known.now))) (slice_get ((language).statements_of ((reads).listing here.now.listing)) here.now.position)) };
+
+    /// Makes this change of what is known.
+    fn change(
+        &self,
+        alloc: Global,
+        known: &mut Self::Known,
+        change: Self::Change,
+    ) -> Result<(), OutOfMemory>
+        ensures { OnOk result ((reads).known known.new ≡ (reads).changed change ((reads).known known.old)) };
 
     /// What is kept of a point: where its call was, what is said of it, and what went wrong.
     fn item(

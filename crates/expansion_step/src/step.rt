@@ -210,21 +210,21 @@ impl<X: CodedLanguage> Expander<X> {
         stack: &mut Stack<X::Listing, X::Known>,
         said: X::Said,
         place: Option<u32>,
-        known: Option<X::Known>,
+        change: Option<X::Change>,
     ) -> Result<Taken<X::Listing, X::Call, X::Key, X::Value, X::Item>, OutOfMemory>
-        ensures { IfOk result (let m = meaning X.reads X.call_of X.Call.code X.Key.code X.Value.code in Takes m (Doing (step_of X.language (branched place (option_map X.reads.known known) (λ fault. point_by m stack.old said fault) (stack_by m stack.old)) (stack_by m stack.old))) stack.new) }
+        ensures { IfOk result (let m = meaning X.reads X.call_of X.Call.code X.Key.code X.Value.code in Takes m (Doing (step_of X.language (branched place (option_map (λ d. X.reads.changed d (X.reads.known stack.old.known)) change) (λ fault. point_by m stack.old said fault) (stack_by m stack.old)) (stack_by m stack.old))) stack.new) }
     {
         let Some(position) = place else {
             let item = self.language.item(alloc, stack, said, Fault::NoLabel)?;
             self.step_on(stack)?;
             return Ok(Self::tell(item, false, Vec::new(alloc), Onward::On));
         };
-        let Some(known) = known else {
+        let Some(change) = change else {
             let item = self.language.item(alloc, stack, said, Fault::NoBranchLeft)?;
             return Ok(Self::tell(item, false, Vec::new(alloc), Onward::Leave));
         };
         let item = self.language.item(alloc, stack, said, Fault::NoFault)?;
-        stack.known = known;
+        self.language.change(alloc, &mut stack.known, change)?;
         stack.here.position = position;
         Ok(Self::tell(item, false, Vec::new(alloc), Onward::On))
     }
@@ -235,20 +235,20 @@ impl<X: CodedLanguage> Expander<X> {
         alloc: Global,
         stack: &mut Stack<X::Listing, X::Known>,
         said: X::Said,
-        act: Act<X::Listing, X::Label, X::Known, X::Said, X::Call, X::Key, X::Value>,
+        act: Act<X::Listing, X::Label, X::Change, X::Said, X::Call, X::Key, X::Value>,
     ) -> Result<Taken<X::Listing, X::Call, X::Key, X::Value, X::Item>, OutOfMemory>
-        ensures { IfOk result (let m = meaning X.reads X.call_of X.Call.code X.Key.code X.Value.code in Takes m (Doing (step_by X.language (effect_by m said act) (stack_by m stack.old))) stack.new) }
+        ensures { IfOk result (let m = meaning X.reads X.call_of X.Call.code X.Key.code X.Value.code in Takes m (Doing (step_by X.language (effect_by m (X.reads.known stack.old.known) said act) (stack_by m stack.old))) stack.new) }
     {
         match act {
-            Act::Continues(known, puts) => {
+            Act::Continues(change, puts) => {
                 let item = self.language.item(alloc, stack, said, Fault::NoFault)?;
                 self.step_on(stack)?;
-                stack.known = known;
+                self.language.change(alloc, &mut stack.known, change)?;
                 Ok(Self::tell(item, false, puts, Onward::On))
             }
-            Act::Branches(label, known) => {
+            Act::Branches(label, change) => {
                 let place = self.language.place_of(&stack.here.listing, &label);
-                self.branch(alloc, stack, said, place, known)
+                self.branch(alloc, stack, said, place, change)
             }
             Act::Enters(limited, entry) => {
                 let item = self.language.item(alloc, stack, said, Fault::NoFault)?;
