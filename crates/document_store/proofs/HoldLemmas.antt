@@ -5,10 +5,10 @@ use Rattle.std.specs.Str.{bytes_eq}
 use Rattle.std.proofs.lemmas.Bool.{cases_eq, cases_Bool, eq-eqb, ne_eqb}
 use Rattle.std.proofs.lemmas.List.Sums.{sum_by-cons}
 use Rattle.std.proofs.lemmas.Slice.Eq.{bytes_eq-Decides}
-use Rattle.text_pool.specs.Pool.{Pool, IsLive, text_of, TextsDiffer, AllOwned}
+use Rattle.text_pool.specs.Pool.{Pool, IsLive, text_of, TextsDiffer, AllOwned, HasText}
 use Rattle.document_store.specs.Store.{OpenDocument}
 use Rattle.document_store.specs.Holdings.{Holdings}
-use Rattle.document_store.specs.Shown.{HasText, HasTexts, HasNoOtherTexts, IsOwnedByDocuments}
+use Rattle.document_store.specs.Shown.{HasTexts, HasNoOtherTexts, IsOwnedByDocuments}
 use Rattle.document_store.specs.Inside.{document_in, holdings_of, has_text, IsKept}
 use Rattle.document_store.specs.declared.kept.KeptDocument.{KeptDocument}
 use Rattle.document_store.proofs.OwnerLemmas.{IsLive-owned}

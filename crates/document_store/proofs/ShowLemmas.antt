@@ -14,10 +14,10 @@ use Rattle.std.proofs.lemmas.List.Quantifiers.{position-Some}
 use Rattle.std.proofs.lemmas.List.Sums.{get_or-le-sum_by}
 use Rattle.std.proofs.lemmas.Option.{slice_get-map, slice_get-get_or, slice_get_past}
 use Rattle.std.proofs.lemmas.Slice.Eq.{bytes_eq-Decides}
-use Rattle.text_pool.specs.Pool.{Pool, text_of, owners_of}
+use Rattle.text_pool.specs.Pool.{Pool, text_of, owners_of, HasText}
 use Rattle.document_store.specs.Store.{Store, OpenDocument, File, Readable, number_of, is_at, present, present_in, present_at}
 use Rattle.document_store.specs.Holdings.{Holdings, present_text, text_in}
-use Rattle.document_store.specs.Shown.{IsShown, IsPresent, HasText}
+use Rattle.document_store.specs.Shown.{IsShown, IsPresent}
 use Rattle.document_store.specs.Inside.{document_in, holdings_of, has_text, AreOwned, IsKept}
 use Rattle.document_store.specs.declared.kept.KeptDocument.{KeptDocument}
 use Rattle.document_store.specs.declared.document.Document.{Document}

@@ -1,7 +1,7 @@
 -- What the store shows of what it holds (this project).
 use Rattle.std.specs.Prelude.{◌≡◌, ℕ, ◌<◌, List, Option, None, Some, Contains, count_by, slice_get, chars}
 use Rattle.std.specs.Str.{bytes_eq}
-use Rattle.text_pool.specs.Pool.{Pool, IsLive, text_of, owners_of}
+use Rattle.text_pool.specs.Pool.{Pool, IsLive, text_of, owners_of, HasText}
 use Rattle.document_store.specs.Store.{OpenDocument, File, Readable, Unreadable, number_of}
 use Rattle.document_store.specs.Holdings.{Holdings}
 use Rattle.document_store.specs.declared.document.Document.{Document}
@@ -22,11 +22,6 @@ IsShown paths None None = Unit {0}
 IsShown paths (Some document) (Some shown) = Shows paths document shown
 IsShown paths None (Some shown) = ⊥
 IsShown paths (Some document) None = ⊥
-
--- the pool has this text under this number
-pub record HasText (pool : Pool) (text : List ℕ) (id : ℕ) : Type 0 where
-  pub live : IsLive pool id
-  pub is : text_of pool id ≡ text
 
 -- what is present is given: a text by its number in the pool
 abbrev pub IsPresent : Pool → Option File → Option MemberText → Type 0

@@ -16,10 +16,10 @@ use crate::opening::prepare;
 use crate::paths::{enter, number_in};
 use crate::{Document, MOST_DOCUMENTS, MemberText, StoreFault, place};
 use file_uri::file_path;
-use hl_base::{Edit, PathId, Position, Text};
+use hl_base::{Answer, Edit, Name, PathId, Position, Text};
 use std::alloc::Global;
 use std::marker::Model;
-use text_pool::{LONGEST_TEXT, TextPool, live_texts_differ};
+use text_pool::{LONGEST_TEXT, Present, TextPool, live_texts_differ};
 
 /// The open documents in order of opening, and the numbers of paths. Contracts see its `Store` and its pool.
 #[derive(Drop)]
@@ -268,6 +268,23 @@ impl DocumentStore {
         let document = self.documents.remove(at);
         self.pool.release(document.text);
         Ok(())
+    }
+}
+
+impl Present for DocumentStore {
+    ghost use Rattle.text_pool.specs.Members.{Absent};
+
+    ghost members = { λ _ _. Absent };
+
+    ghost texts = { λ s. s.pool };
+
+    /// No member is kept yet.
+    fn member(&self, _name: &Name) -> Answer {
+        Answer::Nothing
+    }
+
+    fn pool(&self) -> &TextPool {
+        &self.pool
     }
 }
 

@@ -1,3 +1,4 @@
 pub mod Pool
 pub mod Entries
 pub mod Laws
+pub mod Members

@@ -38,6 +38,11 @@ text_of pool id = option_map_or (λ held. held.text) (map.get pool id) []
 abbrev pub owners_of : Pool → ℕ → ℕ
 owners_of pool id = option_map_or (λ held. held.owners) (map.get pool id) 0
 
+-- the pool has this text under this number
+pub record HasText (pool : Pool) (text : List ℕ) (id : ℕ) : Type 0 where
+  pub live : IsLive pool id
+  pub is : text_of pool id ≡ text
+
 -- the pool with this text and so many owners under the number, and every other number as it was
 abbrev pub holding : Pool → ℕ → List ℕ → ℕ → Pool
 holding pool id text owners = map.insert pool id (record { text = text; owners = owners })

@@ -5,6 +5,8 @@
 //! numbers. A number is free again with its last owner, and may be given out again for another text. Texts are told apart
 //! by their lengths before they are compared.
 //!
+//! `Present` is the bound for who has the members of an assembly, whose texts are live in a pool.
+//!
 //! It knows nothing of documents, files and paths: an owner is whoever asked for the text. A text has at most 4 MiB in
 //! UTF-8.
 #![tactic(auto)]
@@ -13,10 +15,12 @@ mod entry;
 mod fault;
 mod laws;
 mod pool;
+mod present;
 
 pub use fault::PoolFault;
 pub use laws::{freed_numbers_are_free, interned_texts_stand};
 pub use pool::{LONGEST_TEXT, TextPool, live_texts_differ};
+pub use present::Present;
 
 #[cfg(test)]
 mod tests;
