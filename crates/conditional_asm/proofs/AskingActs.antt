@@ -179,9 +179,12 @@ doing-asks frame (bodies.copies member) name op = gives-asks (act.Copy member) [
 doing-asks frame (bodies.says message) name op = saying-asks frame message
 doing-asks frame (bodies.generates f) name op =
     then-asks (λ answers. generating.lined op f (told_by frame answers)) (λ answers line. gives (act.Generate line)) (lined-asks frame op f) (λ line. gives-asks (act.Generate line) [])
+doing-asks frame (bodies.generates_unread at open_end) name op =
+    then-asks (λ answers. generating.judged open_end) (λ answers _. Gives act.Next (troubles.unreadable at ∷ [])) (judged-asks open_end) (λ _. gives-asks act.Next (troubles.unreadable at ∷ []))
 doing-asks frame (bodies.ends f) name op =
     then-asks (λ answers. generating.lined op f (told_by frame answers)) (λ answers line. gives act.End) (lined-asks frame op f) (λ line. gives-asks act.End [])
-doing-asks frame (bodies.ends_unread at) name op = gives-asks act.End (troubles.unreadable at ∷ [])
+doing-asks frame (bodies.ends_unread at open_end) name op =
+    then-asks (λ answers. generating.judged open_end) (λ answers _. Gives act.End (troubles.unreadable at ∷ [])) (judged-asks open_end) (λ _. gives-asks act.End (troubles.unreadable at ∷ []))
 doing-asks frame bodies.defines name op = gives-asks act.Define []
 doing-asks frame bodies.leaves name op = gives-asks act.Leave []
 doing-asks frame bodies.nothing name op = gives-asks act.Next []

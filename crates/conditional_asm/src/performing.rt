@@ -3,11 +3,12 @@
 //! Each call but `perform` and `effect` tells an outcome, as those of `cond_expr::evaluate`.
 ghost use Rattle.std.specs.Prelude.{◌≡◌, ◌∷◌, [], IfOk};
 ghost use Rattle.std.specs.Str.{chars};
-ghost use Rattle.cond_expr.specs.Outcome.{Tells, Gives};
+ghost use Rattle.cond_expr.specs.Outcome.{Tells, Gives, and_then};
 ghost use Rattle.statement_reading.specs.Readings.{read_statement, name_of};
 ghost use Rattle.statement_reading.specs.Bodies as bodies;
 ghost use Rattle.statement_reading.specs.Views.{body_of, fields_of, instruction_of, parts_of, reading_of};
 ghost use Rattle.conditional_asm.specs.Effects as effects;
+ghost use Rattle.conditional_asm.specs.Generating.{judged};
 ghost use Rattle.conditional_asm.specs.Troubles as troubles;
 ghost use Rattle.conditional_asm.specs.declared.act.Act.TheVariants as acts;
 
@@ -39,12 +40,32 @@ fn refused(alloc: Global, at: u32, notes: &mut Notes) -> Result<Act, Stop>
     Ok(Act::Next)
 }
 
-/// An END whose fields cannot be read ends all the same.
-fn ending_unread(alloc: Global, at: u32, notes: &mut Notes) -> Result<Act, Stop>
+/// A generated statement whose fields cannot be read does nothing, behind the note of operands that end within quotes.
+fn generating_unread(alloc: Global, at: u32, open_end: bool, notes: &mut Notes) -> Result<Act, Stop>
+    ensures { Tells (and_then (judged open_end) (λ _. Gives acts.Next (troubles.unreadable at ∷ []))) notes.old notes.new result }
+{
+    match judge(alloc, open_end, notes) {
+        Ok(_open_end) => refused(alloc, at, notes),
+        Err(stop) => Err(stop),
+    }
+}
+
+/// An END whose fields cannot be read ends.
+fn ended_unread(alloc: Global, at: u32, notes: &mut Notes) -> Result<Act, Stop>
     ensures { Tells (Gives acts.End (troubles.unreadable at ∷ [])) notes.old notes.new result }
 {
     notes.push(trouble::unreadable(alloc, at)?)?;
     Ok(Act::End)
+}
+
+/// The same behind the note of operands that end within quotes.
+fn ending_unread(alloc: Global, at: u32, open_end: bool, notes: &mut Notes) -> Result<Act, Stop>
+    ensures { Tells (and_then (judged open_end) (λ _. Gives acts.End (troubles.unreadable at ∷ []))) notes.old notes.new result }
+{
+    match judge(alloc, open_end, notes) {
+        Ok(_open_end) => ended_unread(alloc, at, notes),
+        Err(stop) => Err(stop),
+    }
 }
 
 /// An operation that is left out.
@@ -111,8 +132,9 @@ pub fn doing<Q: Lookups>(
         Body::Copies(member) => Ok(Act::Copy(member.copy())),
         Body::Says(message) => saying(alloc, message, q, notes),
         Body::Generates(fields) => generating(alloc, op, fields, q, notes),
+        Body::GeneratesUnread(at, open_end) => generating_unread(alloc, *at, *open_end, notes),
         Body::Ends(fields) => ending(alloc, op, fields, q, notes),
-        Body::EndsUnread(at) => ending_unread(alloc, *at, notes),
+        Body::EndsUnread(at, open_end) => ending_unread(alloc, *at, *open_end, notes),
         Body::Defines => Ok(Act::Define),
         Body::Leaves => Ok(Act::Leave),
         Body::Nothing => Ok(Act::Next),

@@ -1,5 +1,5 @@
 -- What the fields of a statement say for a task (this project): a function of their texts.
-use Rattle.std.specs.Prelude.{ℕ, List, Result, Ok, Err, encode_utf8_all}
+use Rattle.std.specs.Prelude.{ℕ, Bool, List, Result, Ok, Err, encode_utf8_all}
 use Rattle.hl_base.specs.Symbols.{symbol_of}
 use Rattle.hl_base.specs.declared.set.Declaration.{Declaration}
 use Rattle.hl_base.specs.declared.set.SetKind.{SetKind}
@@ -11,11 +11,12 @@ use Rattle.conditional_fields.specs.Sequences.{named_or, symbol_reach}
 use Rattle.statement_reading.specs.declared.task.Task.{Task}
 use Rattle.statement_reading.specs.declared.task.Task.TheVariants as task
 use Rattle.statement_reading.specs.Branches.{Branch, Choice, goto, choices}
-use Rattle.statement_reading.specs.Fields.{Fields, fields}
+use Rattle.statement_reading.specs.Fields.{Fields, fields, open_as_written}
 use Rattle.statement_reading.specs.Messages.{Message, message}
 use Rattle.statement_reading.specs.Settings.{Setting, setting}
 
--- what the fields of a statement say for a task; or that they cannot be read, and up to where they can
+-- what the fields of a statement say for a task; or that they cannot be read, and up to where they can, and of a generated
+-- statement whether its operands end within quotes
 pub data Body : Type 0 where
   unread : (at : ℕ) → Body
   limits : (count : Tree) → Body
@@ -26,8 +27,9 @@ pub data Body : Type 0 where
   copies : (member : List ℕ) → Body
   says : (message : Message) → Body
   generates : (fields : Fields) → Body
+  generates_unread : (at : ℕ) (open_end : Bool) → Body
   ends : (fields : Fields) → Body
-  ends_unread : (at : ℕ) → Body
+  ends_unread : (at : ℕ) (open_end : Bool) → Body
   defines : Body
   leaves : Body
   nothing : Body
@@ -39,10 +41,15 @@ abbrev pub or_unread : {V : Type 0} → (V → Body) → Result V ℕ → Body
 or_unread make (Ok value) = make value
 or_unread make (Err at) = unread at
 
+-- a generated statement, whose operands may end within quotes
+abbrev pub generating : (open_end : Bool) → Result Fields ℕ → Body
+generating open_end (Ok fields) = generates fields
+generating open_end (Err at) = generates_unread at open_end
+
 -- END ends whatever its fields are
-abbrev pub ending : Result Fields ℕ → Body
-ending (Ok fields) = ends fields
-ending (Err at) = ends_unread at
+abbrev pub ending : (open_end : Bool) → Result Fields ℕ → Body
+ending open_end (Ok fields) = ends fields
+ending open_end (Err at) = ends_unread at open_end
 
 -- the member of a COPY
 abbrev pub member : List ℕ → Result (List ℕ) ℕ
@@ -60,7 +67,7 @@ body task.Leave label operands = leaves
 body task.Copy label operands = or_unread copies (member operands)
 body task.Say label operands = or_unread says (message operands)
 body task.Nothing label operands = nothing
-body task.Generate label operands = or_unread generates (fields label operands)
-body task.End label operands = ending (fields label operands)
+body task.Generate label operands = generating (open_as_written operands) (fields label operands)
+body task.End label operands = ending (open_as_written operands) (fields label operands)
 body task.LeaveOut label operands = leaves_out
 body task.Call label operands = calls

@@ -30,6 +30,10 @@ abbrev pub ends_open : Entry → Bool
 ends_open (written text) = ends_quoted text
 ends_open (varying parts) = false
 
+-- whether operands without an ampersand end within quotes, also where the name entry cannot be read
+abbrev pub open_as_written : List ℕ → Bool
+open_as_written operands = if has_ampersand operands then false else ends_quoted (field_of operands)
+
 -- both entries, or the first that is wrong
 abbrev pub both : Result Entry ℕ → Result Entry ℕ → Result Fields ℕ
 both (Ok label) (Ok operands) = Ok (record { label = label; operands = operands; open_end = ends_open operands })

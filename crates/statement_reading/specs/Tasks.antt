@@ -6,9 +6,10 @@ use Rattle.hl_base.specs.declared.set.SetKind.TheVariants.{A, B, C}
 use Rattle.instruction_table.specs.declared.meaning.Operation.{Operation}
 use Rattle.instruction_table.specs.declared.meaning.Operation.TheVariants.{Conditional, Ordinary, Both, Silent, LeftOut, Machine, Unknown}
 use Rattle.statement_reading.specs.declared.task.Task.{Task}
-use Rattle.statement_reading.specs.declared.task.Task.TheVariants.{LimitBranches, Go, GoIf, Declare, Assign, Define, Leave, Copy, Say, Nothing, Generate, End, LeaveOut, Call}
+use Rattle.statement_reading.specs.declared.task.Task.TheVariants.{LimitBranches, Go, GoIf, Declare, Assign, Say, Nothing, Generate, End, LeaveOut, Call}
 
--- the operations of conditional assembly; ANOP is the one that does nothing
+-- the operations of conditional assembly; ANOP is the one that does nothing, and MACRO, MEND and MEXIT are left out until
+-- macro definitions are known
 abbrev pub conditional : List ℕ → Task
 conditional name =
     if bytes_eq name (codes "ACTR") then LimitBranches else
@@ -20,9 +21,9 @@ conditional name =
     (if bytes_eq name (codes "LCLA") then Declare A false else
     (if bytes_eq name (codes "LCLB") then Declare B false else
     (if bytes_eq name (codes "LCLC") then Declare C false else
-    (if bytes_eq name (codes "MACRO") then Define else
-    (if bytes_eq name (codes "MEND") then Leave else
-    (if bytes_eq name (codes "MEXIT") then Leave else
+    (if bytes_eq name (codes "MACRO") then LeaveOut else
+    (if bytes_eq name (codes "MEND") then LeaveOut else
+    (if bytes_eq name (codes "MEXIT") then LeaveOut else
     (if bytes_eq name (codes "SETA") then Assign A else
     (if bytes_eq name (codes "SETB") then Assign B else
     (if bytes_eq name (codes "SETC") then Assign C else
@@ -32,9 +33,9 @@ conditional name =
 abbrev pub ordinary : List ℕ → Task
 ordinary name = if bytes_eq name (codes "END") then End else Generate
 
--- COPY and MNOTE
+-- COPY, which is left out until members are known, and MNOTE
 abbrev pub both : List ℕ → Task
-both name = if bytes_eq name (codes "COPY") then Copy else Say
+both name = if bytes_eq name (codes "COPY") then LeaveOut else Say
 
 -- an operation that means this
 abbrev pub task : List ℕ → Operation → Task

@@ -15,7 +15,7 @@ use crate::branch::read_branch;
 use crate::condition::{Choices, read_choices};
 use crate::declaration::{read_declarations, read_member};
 use crate::expression::read_number;
-use crate::fields::{Fields, read_fields};
+use crate::fields::{Fields, open_as_written, read_fields};
 use crate::message::{Message, read_message};
 use crate::setting::{Setting, read_setting};
 use crate::task::Task;
@@ -44,10 +44,12 @@ pub enum Body {
     /// MNOTE.
     Says(Message),
     Generates(Fields),
+    /// A generated statement whose fields cannot be read, and whether its operands end within quotes.
+    GeneratesUnread(u32, bool),
     /// END.
     Ends(Fields),
-    /// END, whose fields cannot be read.
-    EndsUnread(u32),
+    /// END, the same.
+    EndsUnread(u32, bool),
     /// MACRO.
     Defines,
     /// MEND, MEXIT.
@@ -136,22 +138,25 @@ fn says(alloc: Global, operands: &str) -> Result<Body, OutOfMemory>
 
 /// A generated statement.
 fn generates(alloc: Global, label: &str, operands: &str) -> Result<Body, OutOfMemory>
-    ensures { IfOk result (λ b. body_of b ≡ bodies.or_unread bodies.generates (entries.fields (chars label.now) (chars operands.now))) }
+    ensures { IfOk result (λ b. body_of b ≡ bodies.generating (entries.open_as_written (chars operands.now)) (entries.fields (chars label.now) (chars operands.now))) }
 {
     match read_fields(alloc, label, operands) {
         Ok(fields) => Ok(Body::Generates(fields)),
-        Err(SyntaxFault::At(at)) => Ok(Body::Unread(at)),
+        Err(SyntaxFault::At(at)) => Ok(Body::GeneratesUnread(
+            at,
+            open_as_written(alloc, operands)?,
+        )),
         Err(SyntaxFault::OutOfMemory) => Err(OutOfMemory),
     }
 }
 
 /// END.
 fn ends(alloc: Global, label: &str, operands: &str) -> Result<Body, OutOfMemory>
-    ensures { IfOk result (λ b. body_of b ≡ bodies.ending (entries.fields (chars label.now) (chars operands.now))) }
+    ensures { IfOk result (λ b. body_of b ≡ bodies.ending (entries.open_as_written (chars operands.now)) (entries.fields (chars label.now) (chars operands.now))) }
 {
     match read_fields(alloc, label, operands) {
         Ok(fields) => Ok(Body::Ends(fields)),
-        Err(SyntaxFault::At(at)) => Ok(Body::EndsUnread(at)),
+        Err(SyntaxFault::At(at)) => Ok(Body::EndsUnread(at, open_as_written(alloc, operands)?)),
         Err(SyntaxFault::OutOfMemory) => Err(OutOfMemory),
     }
 }

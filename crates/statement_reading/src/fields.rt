@@ -70,6 +70,17 @@ fn ends_open(entry: &Entry) -> Result<bool, OutOfMemory>
     }
 }
 
+/// Whether operands without an ampersand end within quotes, also where the name entry cannot be read.
+pub(crate) fn open_as_written(alloc: Global, operands: &str) -> Result<bool, OutOfMemory>
+    ensures { IfOk result (λ open_end. open_end ≡ entries.open_as_written (chars operands.now)) }
+{
+    if has_ampersand(operands) {
+        return Ok(false);
+    }
+    let field = ended(alloc, operands)?;
+    ends_quoted(field.as_str())
+}
+
 /// Name entry and operands of a generated statement.
 pub(crate) fn read_fields(alloc: Global, label: &str, operands: &str) -> Result<Fields, SyntaxFault>
     ensures { Says fields_of (entries.fields (chars label.now) (chars operands.now)) result }

@@ -25,7 +25,7 @@ pub enum Task {
     Call,
 }
 
-/// What an operation of conditional assembly does.
+/// What an operation of conditional assembly does. Those of macro definitions are left out until these are known.
 fn conditional(name: &str) -> Task
     ensures { result ≡ tasks.conditional name.now }
 {
@@ -39,9 +39,9 @@ fn conditional(name: &str) -> Task
         "LCLA" => Task::Declare(SetKind::A, false),
         "LCLB" => Task::Declare(SetKind::B, false),
         "LCLC" => Task::Declare(SetKind::C, false),
-        "MACRO" => Task::Define,
-        "MEND" => Task::Leave,
-        "MEXIT" => Task::Leave,
+        "MACRO" => Task::LeaveOut,
+        "MEND" => Task::LeaveOut,
+        "MEXIT" => Task::LeaveOut,
         "SETA" => Task::Assign(SetKind::A),
         "SETB" => Task::Assign(SetKind::B),
         "SETC" => Task::Assign(SetKind::C),
@@ -75,12 +75,12 @@ fn ordinary(name: &str) -> Task
     }
 }
 
-/// What COPY or MNOTE does.
+/// What COPY or MNOTE does. COPY is left out until members are known.
 fn both(name: &str) -> Task
     ensures { result ≡ tasks.both name.now }
 {
     match name {
-        "COPY" => Task::Copy,
+        "COPY" => Task::LeaveOut,
         _ => Task::Say,
     }
 }
