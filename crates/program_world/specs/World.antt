@@ -1,0 +1,61 @@
+-- The world of a program: what is answered to each key, and what each event makes of it. This project.
+use Rattle.std.specs.Prelude.{ℕ, ◌+◌, ◌==◌, List, [], Option, Some, None, unwrap_or, if◌then◌else◌}
+use Rattle.hl_base.specs.declared.set.Key.TheVariants as key
+use Rattle.hl_base.specs.declared.set.Answer.{Answer}
+use Rattle.hl_base.specs.declared.set.Answer.TheVariants as answer
+use Rattle.kept_values.specs.Trees.{Tree, Leaf, Fork, same_tree}
+use Rattle.kept_values.specs.Keys.{key_tree}
+use Rattle.kept_values.specs.Answers.{answer_tree}
+use Rattle.asking_core.specs.Worlds.{WorldModel}
+use Rattle.asking_core.specs.Counters.{Round, round}
+use Rattle.call_sites.specs.Rules.{is_writable, number_tree}
+
+-- what statements put for each key, how many calls were counted, how deep the call stands, which outermost statement is
+-- processed, and the text of SYSPARM
+pub record ProgramState : Type 0 where
+  pub put : Tree → Option Tree
+  pub calls : Round
+  pub depth : Round
+  pub statement : ℕ
+  pub parm : List ℕ
+
+-- what was put for a key, or else this
+abbrev pub put_or : ProgramState → Tree → Answer → Tree
+put_or s key otherwise = unwrap_or (s.put key) (answer_tree otherwise)
+
+-- Sect is the text that was put, or the empty one; Nest is the depth, Parm is SYSPARM, Counter the number of calls
+abbrev pub plain_answer : ProgramState → ℕ → Tree
+plain_answer s kind =
+    if same_tree (key_tree key.Sect) (Leaf kind) then put_or s (Leaf kind) (answer.Chars [])
+    else (if same_tree (key_tree key.Nest) (Leaf kind) then number_tree s.depth.number
+    else (if same_tree (key_tree key.Parm) (Leaf kind) then answer_tree (answer.Chars s.parm)
+    else (if same_tree (key_tree key.Counter) (Leaf kind) then number_tree s.calls.number
+    else answer_tree answer.Nothing)))
+
+-- Global, Op and Sym are what was put; nobody looks ahead or for members yet, so those keys are answered Nothing
+abbrev pub named_answer : ProgramState → Tree → Tree
+named_answer s named = if is_writable named then put_or s named answer.Nothing else answer_tree answer.Nothing
+
+abbrev pub program_answer : ProgramState → Tree → Tree
+program_answer s (Leaf kind) = plain_answer s kind
+program_answer s (Fork kind named) = named_answer s (Fork kind named)
+
+-- what was put once a key has this value
+abbrev pub with_put : (Tree → Option Tree) → Tree → Tree → Tree → Option Tree
+with_put put key value other = if same_tree key other then Some value else put other
+
+-- the world: counters go round at 2^32
+abbrev pub program_world : WorldModel
+program_world = record {
+  State = ProgramState;
+  answer = program_answer;
+  after_put = λ s key value. record s { put = with_put s.put key value };
+  after_bump = λ s n. record s { calls = round (s.calls.number + n) };
+  after_enter = λ s. record s { depth = round (s.depth.number + 1) };
+  after_leave = λ s. record s { depth = round (s.depth.number + 4294967295) };
+  after_at = λ s n. record s { statement = n };
+}
+
+-- nothing is put and counted yet
+abbrev pub first_world : List ℕ → ProgramState
+first_world parm = record { put = λ key. None; calls = round 0; depth = round 0; statement = 0; parm = parm }

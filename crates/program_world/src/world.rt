@@ -1,0 +1,125 @@
+//! The world of a program.
+ghost use Rattle.std.specs.Prelude.{◌≡◌, ◌%◌, IfOk, unwrap_or};
+ghost use Rattle.std.specs.Str.{chars};
+ghost use Rattle.kept_values.specs.Keys.{key_tree};
+ghost use Rattle.kept_values.specs.Answers.{answer_tree};
+ghost use Rattle.asking_core.specs.Counters.{round};
+ghost use Rattle.call_sites.specs.Values.{known_tree};
+ghost use Rattle.call_sites.specs.Rules.{number_tree};
+ghost use Rattle.program_world.specs.World.{program_world, first_world, program_answer};
+
+use crate::puts::Puts;
+use asking_core::World;
+use call_sites::Known;
+use hl_base::{Answer, Key, OutOfMemory, Text};
+use kept_values::Kept;
+use std::alloc::Global;
+
+/// What surrounds the open code of a program. The counters of calls and of depth go round at 2^32.
+#[derive(Drop)]
+pub struct ProgramWorld {
+    pub(crate) puts: Puts,
+    pub(crate) calls: u32,
+    pub(crate) depth: u32,
+    pub(crate) statement: u32,
+    pub(crate) parm: Text,
+}
+
+/// A counter as it is answered.
+fn counted(bits: u32) -> Known
+    ensures { known_tree result ≡ number_tree bits }
+{
+    Known::Plain(Answer::Number(bits.cast_signed()))
+}
+
+/// A counter as a number that goes round.
+fn gone_round(number: u32) -> u32
+    ensures { result ≡ number % 4294967296 }
+{
+    number
+}
+
+impl ProgramWorld {
+    ghost use Rattle.program_world.specs.Puts.{held_by};
+    ghost use Rattle.program_world.specs.States.{state_of};
+
+    /// The world in which nothing is put and counted, with this SYSPARM.
+    pub fn new(alloc: Global, parm: &str) -> Result<ProgramWorld, OutOfMemory>
+        ensures { IfOk result (λ w. state_of w ≡ first_world (chars parm.now)) }
+    {
+        Ok(ProgramWorld {
+            puts: Puts::new(alloc),
+            calls: 0,
+            depth: 0,
+            statement: 0,
+            parm: Text::of(alloc, parm)?,
+        })
+    }
+
+    /// What was put for a key, or else this.
+    fn put_or(&self, alloc: Global, key: &Key, otherwise: Known) -> Result<Known, OutOfMemory>
+        ensures { IfOk result (λ v. known_tree v ≡ unwrap_or (held_by self.now.puts (key_tree key.now)) (known_tree otherwise)) }
+    {
+        match self.puts.get(key) {
+            Some(value) => value.copy(alloc),
+            None => Ok(otherwise),
+        }
+    }
+
+    /// What is answered to a key.
+    fn answer(&self, alloc: Global, key: &Key) -> Result<Known, OutOfMemory>
+        ensures { IfOk result (λ v. known_tree v ≡ program_answer (state_of self.now) (key_tree key.now)) }
+    {
+        match key {
+            Key::Global(_, _, _) | Key::Op(_) | Key::Sym(_) => {
+                self.put_or(alloc, key, Known::Plain(Answer::Nothing))
+            }
+            Key::Member(_) | Key::Look(_) => Ok(Known::Plain(Answer::Nothing)),
+            Key::Sect => { self.put_or(alloc, key, Known::Plain(Answer::Chars(Text::new(alloc)))) }
+            Key::Nest => Ok(counted(gone_round(self.depth))),
+            Key::Parm => Ok(Known::Plain(Answer::Chars(self.parm.copy(alloc)?))),
+            Key::Counter => Ok(counted(gone_round(self.calls))),
+        }
+    }
+}
+
+impl World for ProgramWorld {
+    ghost use Rattle.program_world.specs.States.{state_of};
+
+    type Key = Key;
+
+    type Value = Known;
+
+    ghost model = { program_world };
+
+    ghost state = { state_of };
+
+    fn ask(&mut self, alloc: Global, key: &Self::Key) -> Result<Self::Value, OutOfMemory> {
+        self.answer(alloc, key)
+    }
+
+    fn put(
+        &mut self,
+        alloc: Global,
+        key: Self::Key,
+        value: Self::Value,
+    ) -> Result<(), OutOfMemory> {
+        self.puts.put(alloc, key, value)
+    }
+
+    fn bump(&mut self, calls: u32) {
+        self.calls = self.calls.wrapping_add(calls);
+    }
+
+    fn enter(&mut self) {
+        self.depth = self.depth.wrapping_add(1);
+    }
+
+    fn leave(&mut self) {
+        self.depth = self.depth.wrapping_add(u32::MAX);
+    }
+
+    fn at(&mut self, statement: u32) {
+        self.statement = statement;
+    }
+}
