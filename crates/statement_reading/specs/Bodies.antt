@@ -1,5 +1,5 @@
 -- What the fields of a statement say for a task (this project): a function of their texts.
-use Rattle.std.specs.Prelude.{ℕ, Bool, List, Result, Ok, Err, encode_utf8_all}
+use Rattle.std.specs.Prelude.{ℕ, Bool, false, List, Result, Ok, Err, encode_utf8_all}
 use Rattle.hl_base.specs.Symbols.{symbol_of}
 use Rattle.hl_base.specs.declared.set.Declaration.{Declaration}
 use Rattle.hl_base.specs.declared.set.SetKind.{SetKind}
@@ -11,7 +11,7 @@ use Rattle.conditional_fields.specs.Sequences.{named_or, symbol_reach}
 use Rattle.statement_reading.specs.declared.task.Task.{Task}
 use Rattle.statement_reading.specs.declared.task.Task.TheVariants as task
 use Rattle.statement_reading.specs.Branches.{Branch, Choice, goto, choices}
-use Rattle.statement_reading.specs.Fields.{Fields, fields, open_as_written}
+use Rattle.statement_reading.specs.Fields.{Fields, fields, alone, open_as_written}
 use Rattle.statement_reading.specs.Messages.{Message, message}
 use Rattle.statement_reading.specs.Settings.{Setting, setting}
 
@@ -68,6 +68,7 @@ body task.Copy label operands = or_unread copies (member operands)
 body task.Say label operands = or_unread says (message operands)
 body task.Nothing label operands = nothing
 body task.Generate label operands = generating (open_as_written operands) (fields label operands)
+body task.GenerateAlone label operands = generating false (alone label)
 body task.End label operands = ending (open_as_written operands) (fields label operands)
 body task.LeaveOut label operands = leaves_out
 body task.Call label operands = calls

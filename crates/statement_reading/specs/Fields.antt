@@ -1,6 +1,6 @@
 -- How name entry and operands of a generated statement are read (HLASM Language Reference SC26-4940, "Model statements"). An
 -- entry without an ampersand stays as it is written for good.
-use Rattle.std.specs.Prelude.{ℕ, Bool, false, List, Result, Ok, Err, if◌then◌else◌}
+use Rattle.std.specs.Prelude.{ℕ, Bool, false, List, [], Result, Ok, Err, if◌then◌else◌}
 use Rattle.hlasm_statements.specs.Fields.{ends_quoted}
 use Rattle.conditional_fields.specs.Endings.{field_of}
 use Rattle.statement_reading.specs.Templates.{Part, template, has_ampersand}
@@ -39,6 +39,10 @@ abbrev pub both : Result Entry ℕ → Result Entry ℕ → Result Fields ℕ
 both (Ok label) (Ok operands) = Ok (record { label = label; operands = operands; open_end = ends_open operands })
 both (Ok label) (Err at) = Err at
 both (Err at) operands = Err at
+
+-- a name entry alone
+abbrev pub alone : (label : List ℕ) → Result Fields ℕ
+alone label = both (entry label label) (Ok (written []))
 
 -- Name entry and operands. Of operands as they are written all before a blank outside quotes belongs to the operand field.
 abbrev pub fields : (label operands : List ℕ) → Result Fields ℕ

@@ -1,12 +1,14 @@
 -- What a statement does by its operation, where no macro definition has that name (HLASM Language Reference SC26-4940,
 -- "Conditional assembly instructions", "Macro definitions", "MNOTE instruction", "COPY instruction", "END instruction").
-use Rattle.std.specs.Prelude.{ℕ, Bool, true, false, List, codes, if◌then◌else◌}
+use Rattle.std.specs.Prelude.{ℕ, Bool, true, false, List, [], ◌∷◌, codes, if◌then◌else◌}
 use Rattle.std.specs.Str.{bytes_eq}
 use Rattle.hl_base.specs.declared.set.SetKind.TheVariants.{A, B, C}
+use Rattle.instruction_table.specs.Formats.{operands_of}
+use Rattle.instruction_table.specs.declared.format.Kind.{Kind}
 use Rattle.instruction_table.specs.declared.meaning.Operation.{Operation}
 use Rattle.instruction_table.specs.declared.meaning.Operation.TheVariants.{Conditional, Ordinary, Both, Silent, LeftOut, Machine, Unknown}
 use Rattle.statement_reading.specs.declared.task.Task.{Task}
-use Rattle.statement_reading.specs.declared.task.Task.TheVariants.{LimitBranches, Go, GoIf, Declare, Assign, Say, Nothing, Generate, End, LeaveOut, Call}
+use Rattle.statement_reading.specs.declared.task.Task.TheVariants.{LimitBranches, Go, GoIf, Declare, Assign, Say, Nothing, Generate, GenerateAlone, End, LeaveOut, Call}
 
 -- the operations of conditional assembly; ANOP is the one that does nothing, and MACRO, MEND and MEXIT are left out until
 -- macro definitions are known
@@ -37,6 +39,11 @@ ordinary name = if bytes_eq name (codes "END") then End else Generate
 abbrev pub both : List ℕ → Task
 both name = if bytes_eq name (codes "COPY") then LeaveOut else Say
 
+-- a machine instruction with these operands: what follows one without operands are remarks
+abbrev pub machine : List Kind → Task
+machine [] = GenerateAlone
+machine (kind ∷ kinds) = Generate
+
 -- an operation that means this
 abbrev pub task : List ℕ → Operation → Task
 task name Conditional = conditional name
@@ -44,7 +51,7 @@ task name Ordinary = ordinary name
 task name Both = both name
 task name Silent = Nothing
 task name LeftOut = LeaveOut
-task name (Machine format) = Generate
+task name (Machine format) = machine (operands_of format)
 task name Unknown = Call
 
 -- whether no macro definition replaces an operation
@@ -57,5 +64,6 @@ is_lasting other = false
 -- whether a statement is generated: END is, too, and then ends
 abbrev pub is_generated : Task → Bool
 is_generated Generate = true
+is_generated GenerateAlone = true
 is_generated End = true
 is_generated other = false

@@ -1,5 +1,5 @@
 //! What the fields of a statement say for a task.
-ghost use Rattle.std.specs.Prelude.{◌≡◌, IfOk, List, ℕ};
+ghost use Rattle.std.specs.Prelude.{◌≡◌, IfOk, List, ℕ, false};
 ghost use Rattle.std.specs.Str.{chars};
 ghost use Rattle.expression_grammar.specs.declared.character.Grammar.TheVariants.{Arithmetic};
 ghost use Rattle.expression_grammar.specs.Readings.{read};
@@ -15,7 +15,7 @@ use crate::branch::read_branch;
 use crate::condition::{Choices, read_choices};
 use crate::declaration::{read_declarations, read_member};
 use crate::expression::read_number;
-use crate::fields::{Fields, open_as_written, read_fields};
+use crate::fields::{Fields, open_as_written, read_alone, read_fields};
 use crate::message::{Message, read_message};
 use crate::setting::{Setting, read_setting};
 use crate::task::Task;
@@ -150,6 +150,17 @@ fn generates(alloc: Global, label: &str, operands: &str) -> Result<Body, OutOfMe
     }
 }
 
+/// A generated statement without operands.
+fn generates_alone(alloc: Global, label: &str) -> Result<Body, OutOfMemory>
+    ensures { IfOk result (λ b. body_of b ≡ bodies.generating false (entries.alone (chars label.now))) }
+{
+    match read_alone(alloc, label) {
+        Ok(fields) => Ok(Body::Generates(fields)),
+        Err(SyntaxFault::At(at)) => Ok(Body::GeneratesUnread(at, false)),
+        Err(SyntaxFault::OutOfMemory) => Err(OutOfMemory),
+    }
+}
+
 /// END.
 fn ends(alloc: Global, label: &str, operands: &str) -> Result<Body, OutOfMemory>
     ensures { IfOk result (λ b. body_of b ≡ bodies.ending (entries.open_as_written (chars operands.now)) (entries.fields (chars label.now) (chars operands.now))) }
@@ -183,6 +194,7 @@ pub fn read_body(
         Task::Say => says(alloc, operands),
         Task::Nothing => Ok(Body::Nothing),
         Task::Generate => generates(alloc, label, operands),
+        Task::GenerateAlone => generates_alone(alloc, label),
         Task::End => ends(alloc, label, operands),
         Task::LeaveOut => Ok(Body::LeavesOut),
         Task::Call => Ok(Body::Calls),

@@ -81,6 +81,24 @@ pub(crate) fn open_as_written(alloc: Global, operands: &str) -> Result<bool, Out
     ends_quoted(field.as_str())
 }
 
+/// A name entry alone.
+pub(crate) fn read_alone(alloc: Global, label: &str) -> Result<Fields, SyntaxFault>
+    ensures { Says fields_of (entries.alone (chars label.now)) result }
+{
+    match read_label(alloc, label) {
+        Ok(label) => {
+            let operands = Entry::Written(Text::new(alloc));
+            let open_end = ends_open(&operands)?;
+            Ok(Fields {
+                label,
+                operands,
+                open_end,
+            })
+        }
+        Err(fault) => Err(fault),
+    }
+}
+
 /// Name entry and operands of a generated statement.
 pub(crate) fn read_fields(alloc: Global, label: &str, operands: &str) -> Result<Fields, SyntaxFault>
     ensures { Says fields_of (entries.fields (chars label.now) (chars operands.now)) result }

@@ -1,9 +1,10 @@
 //! What a statement does, by its operation.
 ghost use Rattle.std.specs.Prelude.{◌≡◌};
+ghost use Rattle.instruction_table.specs.Formats.{operands_of};
 ghost use Rattle.statement_reading.specs.Tasks as tasks;
 
 use hl_base::{Name, SetKind};
-use instruction_table::Operation;
+use instruction_table::{Format, Operation, operands};
 
 /// What a statement does where no macro definition has the name of its operation.
 #[derive(Clone, Copy, Debug, PartialEq, Eq)]
@@ -20,6 +21,8 @@ pub enum Task {
     Say,
     Nothing,
     Generate,
+    /// A machine instruction without operands, whose name entry alone is read.
+    GenerateAlone,
     End,
     LeaveOut,
     Call,
@@ -60,9 +63,19 @@ pub fn task_of(op: &Name, meaning: Operation) -> Task
         Operation::Both => both(name),
         Operation::Silent => Task::Nothing,
         Operation::LeftOut => Task::LeaveOut,
-        Operation::Machine(_) => Task::Generate,
+        Operation::Machine(format) => machine(format),
         Operation::Unknown => Task::Call,
     }
+}
+
+/// What a machine instruction does.
+fn machine(format: Format) -> Task
+    ensures { result ≡ tasks.machine (operands_of format) }
+{
+    if operands(format).is_empty() {
+        return Task::GenerateAlone;
+    }
+    Task::Generate
 }
 
 /// What an ordinary assembler operation does.
@@ -101,7 +114,7 @@ pub fn is_generated(task: Task) -> bool
     ensures { result ≡ tasks.is_generated task }
 {
     match task {
-        Task::Generate | Task::End => true,
+        Task::Generate | Task::GenerateAlone | Task::End => true,
         Task::LimitBranches
         | Task::Go
         | Task::GoIf
