@@ -1,1 +1,3 @@
-pub mod TableLaws
+pub mod OtherLaws
+pub mod Parts
+pub mod PlaceLaws

@@ -1,4 +1,5 @@
 pub mod Formats
 pub mod Instructions
+pub mod Places
 pub mod Operations
-pub mod Rows
+pub mod Others

@@ -1,11 +1,15 @@
 -- The operations that are built in, and what each is for. HLASM Language Reference SC26-4940, "Conditional assembly
 -- instructions" and "Assembler instructions"; which of them are left out is this project's profile.
-use Rattle.std.specs.Prelude.{ℕ, Bool, List, Option, Some, None, codes, if◌then◌else◌}
-use Rattle.std.specs.List.{list_any}
+use Rattle.std.specs.Prelude.{ℕ, Bool, List, Option, Some, None, ◌==◌, codes, if◌then◌else◌}
+use Rattle.std.specs.List.{list_any, slice_split}
 use Rattle.instruction_table.specs.declared.format.Format.{Format}
 use Rattle.instruction_table.specs.declared.meaning.Operation.{Operation}
 use Rattle.instruction_table.specs.declared.meaning.Operation.TheVariants.{Conditional, Ordinary, Both, Silent, LeftOut, Machine, Unknown}
-use Rattle.instruction_table.specs.Instructions.{words, same_name, instructions, look_up}
+use Rattle.instruction_table.specs.Instructions.{same_name, instructions, look_up}
+
+-- names, with a blank between each two
+abbrev pub words : List ℕ → List (List ℕ)
+words text = slice_split (λ c. c == 32) text
 
 -- whether a name is one of these
 abbrev pub is_among : List ℕ → List (List ℕ) → Bool

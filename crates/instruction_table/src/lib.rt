@@ -5,14 +5,14 @@
 //! a name means as an operation is what the public table and the lists of the specification say (`operation`, `find`).
 #![tactic(auto)]
 
+mod encodings;
 mod format;
 mod meaning;
+mod others;
 mod rows;
 mod table;
 
-pub use format::{Format, Kind, length, operands};
+pub use encodings::{Encoding, Kind};
+pub use format::{Format, encoding, length, operands, optional};
 pub use meaning::Operation;
 pub use table::{find, operation};
-
-#[cfg(test)]
-mod tests;

@@ -23,7 +23,7 @@ pub enum Operation {
 }
 
 impl Operation {
-    ghost use Rattle.instruction_table.specs.Rows.{format_in};
+    ghost use Rattle.instruction_table.specs.Others.{format_in};
 
     /// The format of a machine instruction.
     pub fn format(self) -> Option<Format>

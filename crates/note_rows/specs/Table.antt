@@ -7,7 +7,7 @@ use Rattle.hl_base.specs.declared.note.Severity.{Severity}
 use Rattle.hl_base.specs.declared.note.Severity.TheVariants.{Error, Warning}
 use Rattle.hl_base.specs.declared.place.Frame.{Frame}
 use Rattle.note_rows.specs.declared.row.Row.{Row}
-use Rattle.note_rows.specs.declared.row.Row.TheVariants.{MarginText, SurplusLines, MissingEnd, NoOperation, MissingLine, OpenApostrophe, Unreadable, NoValue, OtherType, BadSubscript, Overflow, NoLength, DeclaredTwice, NoNumber, OutsideText, TextTooLong, NoSequenceSymbol, BranchLimit, NoRecord, UndefinedOperation, LeftOutOperation, MissingMend, BadPrototype, OutsideMacro, KeywordTwice, NestedTooDeep, AbsentMember, RecursiveMember, UnreadableMember, DefinitionTooLong, BadConstant, FloatingPoint, BadNominalValue, ValueTooLong, UnknownValue, OutsideSection, SectionTooLong, DefinedTwice, UndefinedSymbol, NotSimple, EquWithoutValue, MisplacedQualifier, WrongOperandCount, BadRegister, BadImmediate, NoUsingRange, BadDisplacement, BadLength, OddTarget, BadUsing, UnusedRegister, UnusedQualifier, BudgetUsedUp, Author}
+use Rattle.note_rows.specs.declared.row.Row.TheVariants.{MarginText, SurplusLines, MissingEnd, NoOperation, MissingLine, OpenApostrophe, Unreadable, NoValue, OtherType, BadSubscript, Overflow, NoLength, DeclaredTwice, NoNumber, OutsideText, TextTooLong, NoSequenceSymbol, BranchLimit, NoRecord, UndefinedOperation, LeftOutOperation, MissingMend, BadPrototype, OutsideMacro, KeywordTwice, NestedTooDeep, AbsentMember, RecursiveMember, UnreadableMember, DefinitionTooLong, BadConstant, FloatingPoint, BadNominalValue, ValueTooLong, UnknownValue, OutsideSection, SectionTooLong, DefinedTwice, UndefinedSymbol, NotSimple, EquWithoutValue, MisplacedQualifier, WrongOperandCount, BadRegister, BadVectorRegister, BadImmediate, NoUsingRange, BadDisplacement, BadLength, OddTarget, BadUsing, UnusedRegister, UnusedQualifier, BudgetUsedUp, Author}
 
 -- what a note says, whoever's statement it is of
 pub record Line : Type 0 where
@@ -80,6 +80,7 @@ line (EquWithoutValue name) = named 73 Error (codes "EQU ") name (codes " has no
 line (MisplacedQualifier name) = named 74 Error (codes "qualifier ") name (codes " stands in a wrong place")
 line WrongOperandCount = plain 80 Error (codes "wrong number of operands")
 line BadRegister = plain 81 Error (codes "register or mask is not 0 to 15")
+line BadVectorRegister = plain 81 Error (codes "vector register is not 0 to 31")
 line BadImmediate = plain 82 Error (codes "immediate value is out of range")
 line NoUsingRange = plain 83 Error (codes "no USING range covers the address")
 line BadDisplacement = plain 84 Error (codes "displacement is out of range")

@@ -92,8 +92,10 @@ pub enum Row {
     MisplacedQualifier(Name),
     /// H080
     WrongOperandCount,
-    /// H081
+    /// H081: a register that is not one of 16, or a mask.
     BadRegister,
+    /// H081: a register that is not one of 32.
+    BadVectorRegister,
     /// H082
     BadImmediate,
     /// H083

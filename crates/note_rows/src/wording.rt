@@ -180,6 +180,7 @@ pub(crate) fn wording_of(row: &Row) -> Wording<'_>
         ),
         Row::WrongOperandCount => plain(80, Error, "wrong number of operands"),
         Row::BadRegister => plain(81, Error, "register or mask is not 0 to 15"),
+        Row::BadVectorRegister => plain(81, Error, "vector register is not 0 to 31"),
         Row::BadImmediate => plain(82, Error, "immediate value is out of range"),
         Row::NoUsingRange => plain(83, Error, "no USING range covers the address"),
         Row::BadDisplacement => plain(84, Error, "displacement is out of range"),

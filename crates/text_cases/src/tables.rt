@@ -1,5 +1,5 @@
 //! The tables by their words.
-use crate::{changes, frames, places, scripts, statements};
+use crate::{changes, frames, operations, places, scripts, statements};
 use case_lines::CaseTable;
 use hl_base::OutOfMemory;
 use std::alloc::Global;
@@ -36,6 +36,9 @@ pub enum Table {
 
     /// Calls of a store of documents.
     Store,
+
+    /// What a name means as an operation.
+    Operations,
 }
 
 /// What is answered where the fields are not those of the table.
@@ -49,6 +52,7 @@ fn answer_of_text(alloc: Global, table: Table, text: &str) -> Result<String, Out
         Table::Frames => frames::read(alloc, text.as_bytes()),
         Table::Statements => statements::shapes(alloc, text),
         Table::Fields => statements::fields(alloc, text),
+        Table::Operations => operations::meaning(alloc, text),
         _ => other_fields(alloc),
     }
 }
@@ -92,6 +96,7 @@ impl CaseTable for Table {
             "columns" => Some(Table::Columns),
             "positions" => Some(Table::Positions),
             "store" => Some(Table::Store),
+            "instructions" | "operation_names" => Some(Table::Operations),
             _ => None,
         }
     }

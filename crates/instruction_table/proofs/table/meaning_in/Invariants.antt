@@ -1,5 +1,5 @@
 use Rattle.std.proofs.Common.{◌≡◌, length}
-use Rattle.instruction_table.specs.Rows.{meaning_in, pairs}
+use Rattle.instruction_table.specs.Others.{meaning_in, pairs}
 use Rattle.instruction_table.proofs.table.meaning_in.Given as goal
 
 -- what is looked for is found in the rows that are left as in all of them

@@ -134,6 +134,9 @@ returns-in-WrongOperandCount c = line-row _ _ _ c.in-WrongOperandCount.is c.plai
 pub returns-in-BadRegister : goal.returns-in-BadRegister
 returns-in-BadRegister c = line-row _ _ _ c.in-BadRegister.is c.plain-in-BadRegister.ensures
 
+pub returns-in-BadVectorRegister : goal.returns-in-BadVectorRegister
+returns-in-BadVectorRegister c = line-row _ _ _ c.in-BadVectorRegister.is c.plain-in-BadVectorRegister.ensures
+
 pub returns-in-BadImmediate : goal.returns-in-BadImmediate
 returns-in-BadImmediate c = line-row _ _ _ c.in-BadImmediate.is c.plain-in-BadImmediate.ensures
 

@@ -1,10 +1,10 @@
--- Rows of names and meanings, as the code holds them.
+-- The rows of the assembler's own operations, as the code holds them.
 use Rattle.std.specs.Prelude.{ℕ, ◌==◌, List, [], ◌∷◌, map, Option, Some, None, if◌then◌else◌}
 use Rattle.std.specs.Borrow.{Bor}
 use Rattle.instruction_table.specs.declared.format.Format.{Format}
 use Rattle.instruction_table.specs.declared.meaning.Operation.{Operation}
 use Rattle.instruction_table.specs.declared.meaning.Operation.TheVariants.{Conditional, Ordinary, Both, Silent, LeftOut, Machine, Unknown}
-use Rattle.instruction_table.specs.declared.rows.TheConstants.{A, B, C, D, E, G, I, J, L, M, N, O, P, R, S, T, U, W, X, Z}
+use Rattle.instruction_table.specs.declared.others.TheConstants.{A, C, D, E, G, I, L, M, O, P, R, S, T, U, W, X}
 use Rattle.instruction_table.specs.Instructions.{same_name}
 
 -- rows as names and meanings
@@ -15,16 +15,13 @@ pairs rows = map (λ row. (row.0.now, row.1)) rows
 unfoldable pub by_letter : List (ℕ × List (List ℕ × Operation))
 by_letter =
     (65, map (λ row. (row.0.now, row.1)) A)
-    ∷ (66, map (λ row. (row.0.now, row.1)) B)
     ∷ (67, map (λ row. (row.0.now, row.1)) C)
     ∷ (68, map (λ row. (row.0.now, row.1)) D)
     ∷ (69, map (λ row. (row.0.now, row.1)) E)
     ∷ (71, map (λ row. (row.0.now, row.1)) G)
     ∷ (73, map (λ row. (row.0.now, row.1)) I)
-    ∷ (74, map (λ row. (row.0.now, row.1)) J)
     ∷ (76, map (λ row. (row.0.now, row.1)) L)
     ∷ (77, map (λ row. (row.0.now, row.1)) M)
-    ∷ (78, map (λ row. (row.0.now, row.1)) N)
     ∷ (79, map (λ row. (row.0.now, row.1)) O)
     ∷ (80, map (λ row. (row.0.now, row.1)) P)
     ∷ (82, map (λ row. (row.0.now, row.1)) R)
@@ -33,7 +30,6 @@ by_letter =
     ∷ (85, map (λ row. (row.0.now, row.1)) U)
     ∷ (87, map (λ row. (row.0.now, row.1)) W)
     ∷ (88, map (λ row. (row.0.now, row.1)) X)
-    ∷ (90, map (λ row. (row.0.now, row.1)) Z)
     ∷ []
 
 -- what stands beside a letter
