@@ -4,7 +4,6 @@ use Rattle.std.specs.Prelude.{ℕ, Bool, true, false, List, [], ◌∷◌, codes
 use Rattle.std.specs.Str.{bytes_eq}
 use Rattle.hl_base.specs.declared.set.SetKind.TheVariants.{A, B, C}
 use Rattle.instruction_table.specs.Formats.{operands_of}
-use Rattle.instruction_table.specs.declared.format.Kind.{Kind}
 use Rattle.instruction_table.specs.declared.meaning.Operation.{Operation}
 use Rattle.instruction_table.specs.declared.meaning.Operation.TheVariants.{Conditional, Ordinary, Both, Silent, LeftOut, Machine, Unknown}
 use Rattle.statement_reading.specs.declared.task.Task.{Task}
@@ -40,7 +39,7 @@ abbrev pub both : List ℕ → Task
 both name = if bytes_eq name (codes "COPY") then LeaveOut else Say
 
 -- a machine instruction with these operands: what follows one without operands are remarks
-abbrev pub machine : List Kind → Task
+abbrev pub machine : {K : Type 0} → List K → Task
 machine [] = GenerateAlone
 machine (kind ∷ kinds) = Generate
 
