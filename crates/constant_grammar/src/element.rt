@@ -1,0 +1,107 @@
+//! What stands in the parentheses of an address constant (SC26-4940, "Address constants").
+ghost use Rattle.std.specs.Prelude.{◌≡◌, IfOk};
+ghost use Rattle.std.specs.Str.{chars};
+ghost use Rattle.std.specs.Option.{option_map};
+ghost use Rattle.expression_grammar.specs.declared.character.Grammar.TheVariants.{Ordinary};
+ghost use Rattle.expression_grammar.specs.Readings.{read};
+ghost use Rattle.constant_grammar.specs.Elements as elements;
+ghost use Rattle.constant_grammar.specs.Views.{amount_front_of, element_of, Says, tree_if};
+
+use crate::amount::{Amount, AmountFront, amount_front};
+use crate::character::{before, behind, character_count};
+use constant_table::ValueKind;
+use expression_grammar::{Expr, SyntaxFault, parse_ordinary};
+use hl_base::{Name, OutOfMemory, Text};
+use std::alloc::Global;
+
+/// A value of an address constant: an expression, a symbol, or an address as a displacement with a base register or without.
+#[derive(Drop)]
+pub enum Element {
+    Expression(Expr),
+    Symbol(Name),
+    Address(Expr, Option<Expr>),
+}
+
+/// The ordinary expression that a text is.
+fn read_expression(alloc: Global, text: &str) -> Result<Expr, SyntaxFault>
+    ensures { Says (read Ordinary (chars text.now)) result }
+{
+    parse_ordinary(alloc, text)
+}
+
+/// The same where nothing else is of interest.
+fn expression(alloc: Global, text: &str) -> Result<Option<Expr>, OutOfMemory>
+    ensures { IfOk result (λ tree. tree_if tree ≡ elements.tree_in (read Ordinary (chars text.now))) }
+{
+    match read_expression(alloc, text) {
+        Ok(tree) => Ok(Some(tree)),
+        Err(SyntaxFault::At(_)) => Ok(None),
+        Err(SyntaxFault::OutOfMemory) => Err(OutOfMemory),
+    }
+}
+
+/// A displacement with what stands behind it, of which so many characters are left.
+fn with_base(displacement: Option<Expr>, base: Option<AmountFront>, left: usize) -> Option<Element>
+    ensures { option_map element_of result ≡ elements.with_base (tree_if displacement) (option_map amount_front_of base) left }
+{
+    let Some(displacement) = displacement else {
+        return None;
+    };
+    match base {
+        Some(
+            AmountFront {
+                amount: Amount::Computed(base),
+                count,
+            },
+        ) if count == left => Some(Element::Address(displacement, Some(base))),
+        _ => None,
+    }
+}
+
+/// An address whose displacement ends behind so many characters.
+fn based(alloc: Global, text: &str, at: usize) -> Result<Option<Element>, OutOfMemory>
+    ensures { IfOk result (λ element. option_map element_of element ≡ elements.based at (chars text.now)) }
+{
+    let displacement = expression(alloc, before(text, at))?;
+    let rest = behind(text, at);
+    let base = amount_front(alloc, rest)?;
+    Ok(with_base(displacement, base, character_count(rest)))
+}
+
+/// An address: an expression, or one with a base register in parentheses.
+fn address(alloc: Global, text: &str) -> Result<Option<Element>, OutOfMemory>
+    ensures { IfOk result (λ element. option_map element_of element ≡ elements.address (chars text.now)) }
+{
+    match read_expression(alloc, text) {
+        Ok(tree) => Ok(Some(Element::Address(tree, None))),
+        Err(SyntaxFault::At(at)) => based(alloc, text, at as usize),
+        Err(SyntaxFault::OutOfMemory) => Err(OutOfMemory),
+    }
+}
+
+/// A value of this kind.
+pub(crate) fn read_element(
+    alloc: Global,
+    kind: ValueKind,
+    text: &Text,
+) -> Result<Option<Element>, OutOfMemory>
+    ensures { IfOk result (λ element. option_map element_of element ≡ elements.element kind text.now) }
+{
+    match kind {
+        ValueKind::Expressions => match expression(alloc, text.as_str())? {
+            Some(tree) => Ok(Some(Element::Expression(tree))),
+            None => Ok(None),
+        },
+        ValueKind::Symbols => match Name::read(text.as_str()) {
+            Some(name) => Ok(Some(Element::Symbol(name))),
+            None => Ok(None),
+        },
+        ValueKind::Addresses => address(alloc, text.as_str()),
+        ValueKind::Text
+        | ValueKind::HexadecimalDigits
+        | ValueKind::Bits
+        | ValueKind::Decimals
+        | ValueKind::Integers
+        | ValueKind::Floats => Ok(None),
+    }
+}
