@@ -10,11 +10,11 @@ use Rattle.plain_expansion.specs.Marks.{is_quiet, is_ready_quiet}
 use Rattle.expansion_step.specs.declared.phase.Onward.{Onward}
 use Rattle.expansion_step.specs.declared.phase.Onward.TheVariants as onward
 use Rattle.expansion_step.specs.declared.phase.Pending.{Pending}
+use Rattle.expansion_step.specs.declared.phase.Entrance.{Entrance}
 use Rattle.expansion_step.specs.declared.phase.Phase.{Phase}
 use Rattle.expansion_step.specs.declared.phase.Phase.TheVariants as phase
 use Rattle.expansion_step.specs.Meaning.{Means, call_by, pairs_by}
-use Rattle.expansion_step.specs.Places.{onward_by, counted_first, pending_by, hearing, keys_left, placing, deciding, waiting, phase_by}
-use Rattle.expansion_step.specs.Watch.{call_at_entry}
+use Rattle.expansion_step.specs.Places.{onward_by, counted_first, pending_by, hearing, entering, entrance_by, keys_left, placing, deciding, waiting, phase_by}
 
 -- whether something is left of a list
 is_more : {X : Type 0} → List X → Bool
@@ -56,14 +56,13 @@ module _ {L : Language} {T B N D S I C K V : Type 0} (m : Means L T B N D S I C 
   left-more ks answers =
       ap (nat_lt (length answers)) (sym (length-keys m.key ks)) ∙ more-drop (map m.key ks) (length answers)
 
-  -- a call is quiet at its entry while a key is left
-  pub opens-quiet : (c : C) (ks : List K) (answers : List _) →
-      nat_lt (length answers) (length ks) ≡ is_ready_quiet (opened L (call_by m c) (keys_left m ks answers) (pairs_by m answers))
-  opens-quiet c ks answers = left-more ks answers ∙ sym (opened-quiet (call_by m c) (keys_left m ks answers) (pairs_by m answers))
+  entering-quiet : (waits : Bool) (e : Entrance C K V) → is_quiet (entering m waits e) ≡ is_more (keys_left m e.keys.items e.answers.items)
+  entering-quiet true e = hearing-quiet e.call (keys_left m e.keys.items e.answers.items) (pairs_by m e.answers.items)
+  entering-quiet false e = opened-quiet (call_by m e.call) (keys_left m e.keys.items e.answers.items) (pairs_by m e.answers.items)
 
-  pub hears-quiet : (c : C) (ks : List K) (answers : List _) →
-      nat_lt (length answers) (length ks) ≡ is_quiet (hearing m c (keys_left m ks answers) (pairs_by m answers))
-  hears-quiet c ks answers = left-more ks answers ∙ sym (hearing-quiet c (keys_left m ks answers) (pairs_by m answers))
+  -- a call is quiet at its entry while a key is left
+  pub entrance-quiet : (e : Entrance C K V) → nat_lt (length e.answers.items) (length e.keys.items) ≡ is_quiet (entrance_by m e)
+  entrance-quiet e = left-more e.keys.items e.answers.items ∙ sym (entering-quiet e.waits e)
 
   placing-loud : (o : Option L.words.Statement) (x : StackOf L.words) → is_ready_quiet (placing m o x) ≡ false
   placing-loud None x = refl
@@ -78,17 +77,15 @@ module _ {L : Language} {T B N D S I C K V : Type 0} (m : Means L T B N D S I C 
   waiting-loud (Some s) x ps k = refl
 
   -- and nowhere else
-  pub loud : (x : StackOf L.words) (p : Phase T C K V I) → call_at_entry p ≡ None → is_quiet (phase_by m x p) ≡ false
-  loud x (phase.Opens c keys answers) is = cc
-  loud x (phase.Hears c keys answers) is = cc
-  loud x phase.Ready is = refl
-  loud x phase.Placed is = placing-loud (statement_at L x.here) x
-  loud x (phase.Decides answers) is = deciding-loud (statement_at L x.here) x (pairs_by m answers.items)
-  loud x (phase.Waits answers key) is = waiting-loud (statement_at L x.here) x (pairs_by m answers.items) (m.key key)
-  loud x (phase.Tells item pending) is = refl
-  loud x (phase.Does pending) is = refl
-  loud x (phase.Tried limited item entry) is = refl
-  loud x phase.Inside is = refl
+  pub loud : (x : StackOf L.words) (p : Phase T C K V I) → is_quiet (phase_by m x p) ≡ false
+  loud x phase.Ready = refl
+  loud x phase.Placed = placing-loud (statement_at L x.here) x
+  loud x (phase.Decides answers) = deciding-loud (statement_at L x.here) x (pairs_by m answers.items)
+  loud x (phase.Waits answers key) = waiting-loud (statement_at L x.here) x (pairs_by m answers.items) (m.key key)
+  loud x (phase.Tells item pending) = refl
+  loud x (phase.Does pending) = refl
+  loud x (phase.Tried limited item entry) = refl
+  loud x phase.Inside = refl
 
   -- the lists of what is pending are those of its stack
   onward-levels : (o : Onward C) (x : StackOf L.words) → tail_levels L (onward_by m o x) ≡ stack_levels L x
@@ -125,18 +122,16 @@ module _ {L : Language} {T B N D S I C K V : Type 0} (m : Means L T B N D S I C 
   waiting-levels None x ps k = refl
   waiting-levels (Some s) x ps k = refl
 
-  -- the lists at a place: those of the stack, and at the entry of a call the call's own
-  pub levels-phase : (x : StackOf L.words) (p : Phase T C K V I) → call_at_entry p ≡ None → levels_of L (phase_by m x p) ≡ x.here ∷ x.below
-  levels-phase x (phase.Opens c keys answers) is = cc
-  levels-phase x (phase.Hears c keys answers) is = cc
-  levels-phase x phase.Ready is = refl
-  levels-phase x phase.Placed is = placing-levels (statement_at L x.here) x
-  levels-phase x (phase.Decides answers) is = deciding-levels (statement_at L x.here) x (pairs_by m answers.items)
-  levels-phase x (phase.Waits answers key) is = waiting-levels (statement_at L x.here) x (pairs_by m answers.items) (m.key key)
-  levels-phase x (phase.Tells item pending) is = pending-levels pending x
-  levels-phase x (phase.Does pending) is = pending-levels pending x
-  levels-phase x (phase.Tried limited item entry) is = refl
-  levels-phase x phase.Inside is = refl
+  -- the lists at a place within a call: those of its stack
+  pub levels-phase : (x : StackOf L.words) (p : Phase T C K V I) → levels_of L (phase_by m x p) ≡ x.here ∷ x.below
+  levels-phase x phase.Ready = refl
+  levels-phase x phase.Placed = placing-levels (statement_at L x.here) x
+  levels-phase x (phase.Decides answers) = deciding-levels (statement_at L x.here) x (pairs_by m answers.items)
+  levels-phase x (phase.Waits answers key) = waiting-levels (statement_at L x.here) x (pairs_by m answers.items) (m.key key)
+  levels-phase x (phase.Tells item pending) = pending-levels pending x
+  levels-phase x (phase.Does pending) = pending-levels pending x
+  levels-phase x (phase.Tried limited item entry) = refl
+  levels-phase x phase.Inside = refl
 
   opened-levels : (c : L.words.Call) (ks : List Tree) (ps : List Pair) → ready_levels L (opened L c ks ps) ≡ call_levels L c
   opened-levels c [] ps = refl
@@ -146,19 +141,10 @@ module _ {L : Language} {T B N D S I C K V : Type 0} (m : Means L T B N D S I C 
   hearing-levels c [] ps = refl
   hearing-levels c (k ∷ ks) ps = refl
 
-  pub levels-entry : (x : StackOf L.words) (p : Phase T C K V I) (c : C) → call_at_entry p ≡ Some c →
-      levels_of L (phase_by m x p) ≡ call_levels L (call_by m c)
-  levels-entry x (phase.Opens d keys answers) c is =
-      let one : d ≡ c = cc in
-      opened-levels (call_by m d) (keys_left m keys.items answers.items) (pairs_by m answers.items) ∙ ap (λ y. call_levels L (call_by m y)) one
-  levels-entry x (phase.Hears d keys answers) c is =
-      let one : d ≡ c = cc in
-      hearing-levels d (keys_left m keys.items answers.items) (pairs_by m answers.items) ∙ ap (λ y. call_levels L (call_by m y)) one
-  levels-entry x phase.Ready c is = cc
-  levels-entry x phase.Placed c is = cc
-  levels-entry x (phase.Decides answers) c is = cc
-  levels-entry x (phase.Waits answers key) c is = cc
-  levels-entry x (phase.Tells item pending) c is = cc
-  levels-entry x (phase.Does pending) c is = cc
-  levels-entry x (phase.Tried limited item entry) c is = cc
-  levels-entry x phase.Inside c is = cc
+  entering-levels : (waits : Bool) (e : Entrance C K V) → levels_of L (entering m waits e) ≡ call_levels L (call_by m e.call)
+  entering-levels true e = hearing-levels e.call (keys_left m e.keys.items e.answers.items) (pairs_by m e.answers.items)
+  entering-levels false e = opened-levels (call_by m e.call) (keys_left m e.keys.items e.answers.items) (pairs_by m e.answers.items)
+
+  -- and at its entry: the call's own
+  pub levels-entry : (e : Entrance C K V) → levels_of L (entrance_by m e) ≡ call_levels L (call_by m e.call)
+  levels-entry e = entering-levels e.waits e

@@ -10,10 +10,12 @@ use Rattle.plain_expansion.specs.Engine as engine
 use Rattle.plain_expansion.specs.Engine.{Ready, Doing, Deciding, next_place, opened, heard, entry_heard, step_by, led_move, led_next}
 use Rattle.expansion_step.specs.declared.stack.Level.{Level}
 use Rattle.expansion_step.specs.declared.stack.Stack.{Stack}
+use Rattle.expansion_step.specs.declared.phase.Entrance.{Entrance}
+use Rattle.expansion_step.specs.declared.phase.Opened.{Opened}
 use Rattle.expansion_step.specs.declared.phase.Taken.{Taken}
 use Rattle.expansion_step.specs.Meaning.{Means, call_by, level_by}
 use Rattle.expansion_step.specs.Places.{hearing, deciding}
-use Rattle.expansion_step.specs.Takes.{Takes}
+use Rattle.expansion_step.specs.Takes.{Takes, Opens}
 use Rattle.std.proofs.lemmas.List.{reverse-append}
 
 some-same : {X : Type 0} (a b : X) → Some a ≡ Some b → a ≡ b
@@ -47,6 +49,9 @@ module _ {L : Language} {T B N D S I C K V : Type 0} (m : Means L T B N D S I C 
 
   pub takes-at : (r q : Ready L.words L.Item) (x : Stack T N) (t : Taken T C K V I) → r ≡ q → Takes m r x t → Takes m q x t
   takes-at r q x t is takes = let At : Ready L.words L.Item → Type 0 = λ y. Takes m y x t in subst At is takes
+
+  pub opens-at : (r q : Ready L.words L.Item) (e : Entrance C K V) (o : Opened T N C K V I) → r ≡ q → Opens m r e o → Opens m q e o
+  opens-at r q e o is opens = let At : Ready L.words L.Item → Type 0 = λ y. Opens m y e o in subst At is opens
 
   pub takes-as : (r q : Ready L.words L.Item) (x : Stack T N) (t : Taken T C K V I) → engine.move_of L r ≡ engine.move_of L q →
       next_place L r ≡ next_place L q →

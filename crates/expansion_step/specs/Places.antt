@@ -10,6 +10,9 @@ use Rattle.expansion_step.specs.declared.phase.Onward.TheVariants as onward
 use Rattle.expansion_step.specs.declared.phase.Pending.{Pending}
 use Rattle.expansion_step.specs.declared.phase.Phase.{Phase}
 use Rattle.expansion_step.specs.declared.phase.Phase.TheVariants as phase
+use Rattle.expansion_step.specs.declared.phase.Entrance.{Entrance}
+use Rattle.expansion_step.specs.declared.phase.Progress.{Progress}
+use Rattle.expansion_step.specs.declared.phase.Progress.TheVariants as progress
 use Rattle.expansion_step.specs.declared.phase.Local.{Local}
 use Rattle.expansion_step.specs.Meaning.{Means, call_by, pairs_by, stack_by, entry_by}
 
@@ -36,6 +39,17 @@ module _ {L : Language} {T B N D S I C K V : Type 0} (m : Means L T B N D S I C 
   abbrev pub keys_left : {X : Type 0} → List K → List X → List Tree
   keys_left keys answers = drop (length answers) (map m.key keys)
 
+  -- a call at its entry: where nothing is waited for, and where it may wait
+  abbrev pub opened_by : Entrance C K V → Ready L.words L.Item
+  opened_by e = opened L (call_by m e.call) (keys_left e.keys.items e.answers.items) (pairs_by m e.answers.items)
+
+  abbrev pub entering : (waits : Bool) → Entrance C K V → Place L.words L.Item
+  entering true e = hearing e.call (keys_left e.keys.items e.answers.items) (pairs_by m e.answers.items)
+  entering false e = Standing (opened_by e)
+
+  abbrev pub entrance_by : Entrance C K V → Place L.words L.Item
+  entrance_by e = entering e.waits e
+
   -- a statement that is decided: if there is none, the call goes on
   abbrev pub placing : Option L.words.Statement → StackOf L.words → Ready L.words L.Item
   placing None x = Doing (Performing (GoingOn x))
@@ -50,9 +64,6 @@ module _ {L : Language} {T B N D S I C K V : Type 0} (m : Means L T B N D S I C 
   waiting (Some statement) x pairs key = Waiting x statement pairs key
 
   abbrev pub phase_by : StackOf L.words → Phase T C K V I → Place L.words L.Item
-  phase_by x (phase.Opens c keys answers) = Standing
-      (opened L (call_by m c) (keys_left keys.items answers.items) (pairs_by m answers.items))
-  phase_by x (phase.Hears c keys answers) = hearing c (keys_left keys.items answers.items) (pairs_by m answers.items)
   phase_by x phase.Ready = Standing (Doing (Performing (GoingOn x)))
   phase_by x phase.Placed = Standing (placing (statement_at L x.here) x)
   phase_by x (phase.Decides answers) = Standing (deciding (statement_at L x.here) x (pairs_by m answers.items))
@@ -62,5 +73,9 @@ module _ {L : Language} {T B N D S I C K V : Type 0} (m : Means L T B N D S I C 
   phase_by x (phase.Tried limited item entry) = engine.Tried (m.reads.item limited) (m.reads.item item) (entry_by m entry) x
   phase_by x phase.Inside = engine.Inside x
 
+  abbrev pub progress_by : Progress T N C K V I → Place L.words L.Item
+  progress_by (progress.Entering e) = entrance_by e
+  progress_by (progress.Within x p) = phase_by (stack_by m x) p
+
   abbrev pub place_by : Local T N C K V I → Place L.words L.Item
-  place_by l = phase_by (stack_by m l.stack) l.phase
+  place_by l = progress_by l.progress

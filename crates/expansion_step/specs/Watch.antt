@@ -1,10 +1,8 @@
 -- The place of the machine that watches itself at which a call stands. This project.
-use Rattle.std.specs.Prelude.{ℕ, Option, Some, None}
+use Rattle.std.specs.Prelude.{ℕ}
 use Rattle.plain_expansion.specs.Language.{Language}
 use Rattle.plain_expansion.specs.Engine.{Place}
 use Rattle.plain_expansion.specs.Guard.{Watched as WatchedOf}
-use Rattle.expansion_step.specs.declared.phase.Phase.{Phase}
-use Rattle.expansion_step.specs.declared.phase.Phase.TheVariants as phase
 use Rattle.expansion_step.specs.declared.phase.Watched.{Watched}
 use Rattle.expansion_step.specs.Meaning.{Means}
 use Rattle.expansion_step.specs.Places.{place_by}
@@ -12,19 +10,6 @@ use Rattle.expansion_step.specs.Places.{place_by}
 -- how many actions a call may take between two units of fuel
 abbrev pub most_actions : ℕ
 most_actions = 4294967295
-
--- the call whose entry is under way
-abbrev pub call_at_entry : {T C K V I : Type 0} → Phase T C K V I → Option C
-call_at_entry (phase.Opens c keys answers) = Some c
-call_at_entry (phase.Hears c keys answers) = Some c
-call_at_entry phase.Ready = None
-call_at_entry phase.Placed = None
-call_at_entry (phase.Decides answers) = None
-call_at_entry (phase.Waits answers key) = None
-call_at_entry (phase.Tells item pending) = None
-call_at_entry (phase.Does pending) = None
-call_at_entry (phase.Tried limited item entry) = None
-call_at_entry phase.Inside = None
 
 -- where a call stands, and how many actions it may still take before the next unit of fuel
 abbrev pub watched_by : {L : Language} {T B N D S I C K V : Type 0} → Means L T B N D S I C K V → Watched T N C K V I →

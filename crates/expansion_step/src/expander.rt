@@ -5,7 +5,7 @@ ghost use Rattle.plain_expansion.specs.Engine.{expander};
 ghost use Rattle.expansion_step.specs.Meaning.{meaning};
 ghost use Rattle.expansion_step.specs.Places.{place_by};
 
-use crate::phase::Phase;
+use crate::phase::{Entrance, Opened, Phase, Progress};
 use crate::{CodedLanguage, Local};
 use asking_core::{Action, Given};
 use hl_base::OutOfMemory;
@@ -33,18 +33,14 @@ impl<X: CodedLanguage> Expander<X> {
     ) -> Result<Local<X::Listing, X::Known, X::Call, X::Key, X::Value, X::Item>, OutOfMemory>
         ensures { IfOk result (λ l. let m = meaning X.reads X.call_of X.Call.code X.Key.code X.Value.code in place_by m l ≡ (expander X.language).start (X.call_of (X.Call.code call.now))) }
     {
-        let keys = self.language.entry_keys(alloc, call)?;
-        let answers = Vec::new(alloc);
-        let stack = self.first_stack(alloc, call, answers.as_slice())?;
-        if keys.as_slice().len() == 0 {
-            return Ok(Local {
-                stack,
-                phase: Phase::Ready,
-            });
-        }
+        let entrance = Entrance {
+            call: call.copy(alloc)?,
+            keys: self.language.entry_keys(alloc, call)?,
+            answers: Vec::new(alloc),
+            waits: false,
+        };
         Ok(Local {
-            stack,
-            phase: Phase::Opens(call.copy(alloc)?, keys, answers),
+            progress: Progress::Entering(entrance),
         })
     }
 
@@ -58,9 +54,20 @@ impl<X: CodedLanguage> Expander<X> {
         ensures action { IfOk result (λ a. let m = meaning X.reads X.call_of X.Call.code X.Key.code X.Value.code in move_of X.Key.code X.Value.code X.Call.code X.call_of X.reads.item a ≡ (expander X.language).move_at (place_by m local.old) (told_of X.Value.code given)) }
         ensures place { IfOk result (λ _. let m = meaning X.reads X.call_of X.Call.code X.Key.code X.Value.code in place_by m local.new ≡ (expander X.language).after (place_by m local.old) (told_of X.Value.code given)) }
     {
-        let phase = mem::replace(&mut local.phase, Phase::Ready);
-        let taken = self.advance(alloc, &mut local.stack, phase, given)?;
-        local.phase = taken.phase;
-        Ok(taken.action)
+        match &mut local.progress {
+            Progress::Entering(entrance) => match self.enter_on(alloc, entrance, given)? {
+                Opened::Asks(key) => Ok(Action::Ask(key)),
+                Opened::Begins(stack, taken) => {
+                    local.progress = Progress::Within(stack, taken.phase);
+                    Ok(taken.action)
+                }
+            },
+            Progress::Within(stack, phase) => {
+                let now = mem::replace(phase, Phase::Ready);
+                let taken = self.advance(alloc, stack, now, given)?;
+                *phase = taken.phase;
+                Ok(taken.action)
+            }
+        }
     }
 }

@@ -10,6 +10,7 @@
 #![tactic(auto)]
 
 mod act;
+mod entrance;
 mod expander;
 mod language;
 mod laws;

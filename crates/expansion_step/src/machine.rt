@@ -1,19 +1,18 @@
 //! The machine that expands, among the asking machines: it watches itself.
-ghost use Rattle.std.specs.Prelude.{◌≡◌, ◌+◌, ◌-◌, ℕ, Option, IfOk, OnErr, option_copied, if◌then◌else◌};
+ghost use Rattle.std.specs.Prelude.{◌≡◌, ◌+◌, ◌-◌, ℕ, IfOk, OnErr, if◌then◌else◌};
 ghost use Rattle.asking_core.specs.Actions.{move_of, told_of, ticks_of};
 ghost use Rattle.asking_core.specs.Machines.{is_count};
-ghost use Rattle.plain_expansion.specs.Language.{Stack as StackOf};
 ghost use Rattle.plain_expansion.specs.Engine.{expander};
 ghost use Rattle.plain_expansion.specs.Guard.{is_allowed, is_counted};
 ghost use Rattle.plain_expansion.specs.GuardLaws.{guarded_falls, guarded_emits_once, guarded_is_modest};
 ghost use Rattle.plain_expansion.specs.Marks.{is_quiet, is_marked, expander_emits_once, expander_quietens};
 ghost use Rattle.plain_expansion.specs.Laws.{careful_expander, left_of, marked_of, quiet_of};
 ghost use Rattle.expansion_step.specs.Meaning.{meaning};
-ghost use Rattle.expansion_step.specs.Places.{phase_by};
-ghost use Rattle.expansion_step.specs.Watch.{most_actions, call_at_entry, watched_by};
+ghost use Rattle.expansion_step.specs.Places.{place_by};
+ghost use Rattle.expansion_step.specs.Watch.{most_actions, watched_by};
 
-use crate::phase::Phase;
-use crate::{CodedLanguage, Expander, Level, Watched};
+use crate::phase::Progress;
+use crate::{CodedLanguage, Expander, Level, Local, Watched};
 use asking_core::{Action, AskMachine, Given};
 use hl_base::{Ledger, OutOfMemory, Steps};
 use kept_values::Kept;
@@ -23,27 +22,15 @@ use std::alloc::Global;
 const MOST_ACTIONS: u32 = u32::MAX;
 
 impl<X: CodedLanguage> Expander<X> {
-    /// The call whose entry is under way.
-    fn call_at_entry(
-        phase: &Phase<X::Listing, X::Call, X::Key, X::Value, X::Item>,
-    ) -> Option<&X::Call>
-        ensures { option_copied result ≡ call_at_entry phase.now }
-    {
-        match phase {
-            Phase::Opens(call, _, _) => Some(call),
-            Phase::Hears(call, _, _) => Some(call),
-            _ => None,
-        }
-    }
-
     /// Whether a call still asks the keys of its entry.
-    fn is_quiet(phase: &Phase<X::Listing, X::Call, X::Key, X::Value, X::Item>) -> bool
-        ensures { let m = meaning X.reads X.call_of X.Call.code X.Key.code X.Value.code in (x : StackOf X.language.words) → result ≡ is_quiet (phase_by m x phase.now) }
+    fn is_quiet(local: &Local<X::Listing, X::Known, X::Call, X::Key, X::Value, X::Item>) -> bool
+        ensures { let m = meaning X.reads X.call_of X.Call.code X.Key.code X.Value.code in result ≡ is_quiet (place_by m local.now) }
     {
-        match phase {
-            Phase::Opens(_, keys, answers) => answers.as_slice().len() < keys.as_slice().len(),
-            Phase::Hears(_, keys, answers) => answers.as_slice().len() < keys.as_slice().len(),
-            _ => false,
+        match &local.progress {
+            Progress::Entering(entrance) => {
+                entrance.answers.as_slice().len() < entrance.keys.as_slice().len()
+            }
+            Progress::Within(_, _) => false,
         }
     }
 
@@ -147,7 +134,7 @@ impl<X: CodedLanguage> AskMachine for Expander<X> {
         ensures ticks { IfOk result (λ a. steps.new ≡ steps.old + ticks_of a) }
         ensures no_tick { OnErr result (steps.new ≡ steps.old) }
     {
-        let is_quiet = Self::is_quiet(&local.local.phase);
+        let is_quiet = Self::is_quiet(&local.local);
         let action = self.step_unwatched(alloc, &mut local.local, given)?;
         if !Self::is_counted(local.left, &action) || !self.is_allowed(is_quiet, &action) {
             return Err(OutOfMemory);
@@ -157,14 +144,15 @@ impl<X: CodedLanguage> AskMachine for Expander<X> {
     }
 
     fn frames(&self, alloc: Global, local: &Self::Local) -> Result<Self::Frames, OutOfMemory> {
-        let stack = &local.local.stack;
-        let Some(call) = Self::call_at_entry(&local.local.phase) else {
-            return self
-                .language
-                .frames(alloc, &stack.here, stack.below.as_slice());
+        let entrance = match &local.local.progress {
+            Progress::Entering(entrance) => entrance,
+            Progress::Within(stack, _) => {
+                let below = stack.below.as_slice();
+                return self.language.frames(alloc, &stack.here, below);
+            }
         };
         let here = Level {
-            listing: self.language.listing(alloc, call)?,
+            listing: self.language.listing(alloc, &entrance.call)?,
             position: 0,
         };
         let below = Vec::new(alloc);

@@ -20,11 +20,18 @@ pub(crate) struct Pending<C, K, V> {
     pub(crate) onward: Onward<C>,
 }
 
-/// How far a call is. `Opens` and `Hears` have the call, all keys of its entry, and the answers so far.
+/// A call at its entry: all keys that it asks there, the answers so far, and whether it waits for the next one.
+#[derive(Drop)]
+pub(crate) struct Entrance<C, K, V> {
+    pub(crate) call: C,
+    pub(crate) keys: Vec<K>,
+    pub(crate) answers: Vec<Noted<K, V>>,
+    pub(crate) waits: bool,
+}
+
+/// How far a call is with its statement.
 #[derive(Drop)]
 pub(crate) enum Phase<T, C, K, V, I> {
-    Opens(C, Vec<K>, Vec<Noted<K, V>>),
-    Hears(C, Vec<K>, Vec<Noted<K, V>>),
     Ready,
     Placed,
     Decides(Vec<Noted<K, V>>),
@@ -35,11 +42,17 @@ pub(crate) enum Phase<T, C, K, V, I> {
     Inside,
 }
 
-/// Where a call is, and how far it is. Until the keys of its entry are answered, what it knows is made of no answers.
+/// Where a call is: at its entry, where it has no list and knows nothing yet, or within.
+#[derive(Drop)]
+pub(crate) enum Progress<T, N, C, K, V, I> {
+    Entering(Entrance<C, K, V>),
+    Within(Stack<T, N>, Phase<T, C, K, V, I>),
+}
+
+/// A call under way.
 #[derive(Drop)]
 pub struct Local<T, N, C, K, V, I> {
-    pub(crate) stack: Stack<T, N>,
-    pub(crate) phase: Phase<T, C, K, V, I>,
+    pub(crate) progress: Progress<T, N, C, K, V, I>,
 }
 
 /// The same, with how many actions the call may still take before its next unit of fuel.
@@ -54,4 +67,11 @@ pub struct Watched<T, N, C, K, V, I> {
 pub(crate) struct Taken<T, C, K, V, I> {
     pub(crate) action: Action<K, V, C, I>,
     pub(crate) phase: Phase<T, C, K, V, I>,
+}
+
+/// What a call at its entry does next: it asks a key, or it begins with its first statement.
+#[derive(Drop)]
+pub(crate) enum Opened<T, N, C, K, V, I> {
+    Asks(K),
+    Begins(Stack<T, N>, Taken<T, C, K, V, I>),
 }

@@ -70,7 +70,7 @@ impl<X: CodedLanguage> Expander<X> {
     }
 
     /// Goes on from a place: with the statement that is there, or out of the list.
-    fn go_on(
+    pub(crate) fn go_on(
         &self,
         alloc: Global,
         stack: &mut Stack<X::Listing, X::Known>,
@@ -101,60 +101,6 @@ impl<X: CodedLanguage> Expander<X> {
                 phase: Phase::Ready,
             },
         }
-    }
-
-    /// The key at a place of a list.
-    fn key_at<'a>(keys: &'a [X::Key], place: usize) -> Option<&'a X::Key>
-        ensures { option_copied result ≡ slice_get keys.now place }
-    {
-        if place < keys.len() {
-            return Some(&keys[place]);
-        }
-        None
-    }
-
-    /// Asks the next key of the entry, or begins with the first statement.
-    pub(crate) fn open(
-        &self,
-        alloc: Global,
-        stack: &mut Stack<X::Listing, X::Known>,
-        call: X::Call,
-        keys: Vec<X::Key>,
-        answers: Vec<Noted<X::Key, X::Value>>,
-    ) -> Result<Taken<X::Listing, X::Call, X::Key, X::Value, X::Item>, OutOfMemory>
-        ensures { IfOk result (let m = meaning X.reads X.call_of X.Call.code X.Key.code X.Value.code in Takes m (opened X.language (call_by m call) (keys_left m keys.items answers.items) (pairs_by m answers.items)) stack.new) }
-    {
-        let place = answers.as_slice().len();
-        let Some(key) = Self::key_at(keys.as_slice(), place) else {
-            *stack = self.first_stack(alloc, &call, answers.as_slice())?;
-            return Ok(self.go_on(alloc, stack));
-        };
-        let asked = key.copy(alloc)?;
-        Ok(Taken {
-            action: Action::Ask(asked),
-            phase: Phase::Hears(call, keys, answers),
-        })
-    }
-
-    /// The answers to the keys of an entry, with the one that was given.
-    fn hear(
-        alloc: Global,
-        keys: &[X::Key],
-        mut answers: Vec<Noted<X::Key, X::Value>>,
-        given: Given<X::Value>,
-    ) -> Result<Vec<Noted<X::Key, X::Value>>, OutOfMemory>
-        ensures { IfOk result (λ now. (c : X.Call) → let m = meaning X.reads X.call_of X.Call.code X.Key.code X.Value.code in opened X.language (call_by m c) (keys_left m keys.now now.items) (pairs_by m now.items) ≡ heard X.language (hearing m c (keys_left m keys.now answers.items) (pairs_by m answers.items)) (told_of X.Value.code given)) }
-    {
-        let Given::Answer(value) = given else {
-            return Ok(answers);
-        };
-        let place = answers.as_slice().len();
-        let Some(key) = Self::key_at(keys, place) else {
-            return Ok(answers);
-        };
-        let key = key.copy(alloc)?;
-        answers.push(Noted { key, value })?;
-        Ok(answers)
     }
 
     /// The answers to the keys of a statement, with the one that was given.
@@ -440,11 +386,6 @@ impl<X: CodedLanguage> Expander<X> {
         ensures { IfOk result (let m = meaning X.reads X.call_of X.Call.code X.Key.code X.Value.code in Takes m (heard X.language (phase_by m (stack_by m stack.old) phase) (told_of X.Value.code given)) stack.new) }
     {
         match phase {
-            Phase::Opens(call, keys, answers) => self.open(alloc, stack, call, keys, answers),
-            Phase::Hears(call, keys, answers) => {
-                let answers = Self::hear(alloc, keys.as_slice(), answers, given)?;
-                self.open(alloc, stack, call, keys, answers)
-            }
             Phase::Ready => Ok(self.go_on(alloc, stack)),
             Phase::Placed => Ok(self.place(alloc, stack)),
             Phase::Decides(answers) => self.decide(alloc, stack, answers),
