@@ -1,0 +1,7 @@
+pub mod LineLaws
+pub mod StackLaws
+pub mod ListLaws
+pub mod PointLaws
+pub mod FlatRuns
+pub mod NoNesting
+pub mod PlainRuns

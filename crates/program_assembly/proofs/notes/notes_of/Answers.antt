@@ -1,0 +1,29 @@
+use Rattle.std.proofs.Common.{◌≡◌, ◌-◌, ◌++◌, [], length, ap, sym, ◌∙◌, append_assoc}
+use Rattle.std.specs.List.{flat_map}
+use Rattle.std.specs.Str.{chars}
+use Rattle.hl_base.specs.Texts.{lines}
+use Rattle.note_rows.specs.declared.row.Row.TheVariants.{MissingEnd}
+use Rattle.trace_arena.specs.Points.{points}
+use Rattle.program_assembly.specs.ColumnNotes.{note_at, fault_notes, column_notes}
+use Rattle.program_assembly.specs.PointNotes.{point_notes}
+use Rattle.program_assembly.specs.Notes.{end_notes_by}
+use Rattle.program_assembly.specs.Runs.{ran_of}
+use Rattle.program_assembly.proofs.LineLaws.{last_of_text}
+use Rattle.program_assembly.proofs.notes.notes_of.Goals as goal
+
+pub returns : goal.returns
+returns c =
+    let text = chars c.args.text.now in
+    let path = c.args.path.0 in
+    let statements = c.as_slice-statements.result.now in
+    let here = c.as_slice-statements.ensures ∙ c.in_ok-statements.ensures in
+    let ran = ran_of c.args.arena.now.nodes c.args.outcome.now in
+    let last : c.last_line.result ≡ length (lines text) - 1 = last_of_text text statements c.last_line.result here c.last_line.ensures in
+    let columns : c.add_column_notes.new.notes ≡ column_notes path text =
+    c.in_ok-add_column_notes.ensures ∙ ap (λ ns. ns ++ flat_map (fault_notes path) statements) c.new-notes.ensures ∙ ap (flat_map (fault_notes path)) here in
+    let behind : c.add_point_notes.new.notes ≡ column_notes path text ++ flat_map point_notes ran.points =
+    c.in_ok-add_point_notes.ensures ∙ ap (λ ns. ns ++ flat_map point_notes ran.points) columns in
+    c.in_ok-add_end_notes.ensures
+    ∙ ap (λ n. c.add_point_notes.new.notes ++ end_notes_by ran.ended (note_at path n MissingEnd) ran) last
+    ∙ ap (λ ns. ns ++ end_notes_by ran.ended (note_at path (length (lines text) - 1) MissingEnd) ran) behind
+    ∙ append_assoc (column_notes path text) (flat_map point_notes ran.points) (end_notes_by ran.ended (note_at path (length (lines text) - 1) MissingEnd) ran)

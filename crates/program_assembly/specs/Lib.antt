@@ -1,0 +1,5 @@
+pub mod ColumnNotes
+pub mod PointNotes
+pub mod Stacks
+pub mod Notes
+pub mod Runs

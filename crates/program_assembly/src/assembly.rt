@@ -1,0 +1,101 @@
+//! Assembling a program.
+ghost use Rattle.std.specs.Prelude.{◌≡◌, ℕ, Some, IfOk, OnOk};
+ghost use Rattle.std.specs.Rc.{rc_str_bytes};
+ghost use Rattle.std.specs.Str.{chars};
+ghost use Rattle.text_pool.specs.Pool.{IsLive as IsLiveText, text_of};
+ghost use Rattle.expansion_memo.specs.Kept.{KeptOutcome, AllStand, kept_at};
+ghost use Rattle.expansion_memo.specs.Running.{IsHandedOut};
+ghost use Rattle.call_sites.specs.Rules.{is_moving, is_writable, rebased};
+ghost use Rattle.program_assembly.specs.Runs.{IsAssembly};
+
+use crate::notes::notes_of;
+use asking_core::AskMachine;
+use call_sites::{CallSite, Known};
+use expansion_memo::Memo;
+use hl_base::{Frames, Key, Ledger, Notes, OutOfMemory, PathId, Steps, TextId};
+use program_world::{ProgramWorld, the_world_fits};
+use std::alloc::Global;
+use std::rc::RcStr;
+use text_pool::Present;
+use trace_arena::{NodeId, TraceArena};
+use trace_values::TraceItem;
+
+/// What an assembly says of a program: the node of its points and how many there are, and what is reported.
+#[derive(Drop)]
+pub struct Assembly {
+    pub root: NodeId,
+    pub points: u32,
+    pub notes: Notes,
+}
+
+/// Assembles the program of a path and a text, as `assemble` does.
+pub(crate) fn assemble_text<
+    M: AskMachine<Key = Key, Value = Known, Call = CallSite, Item = TraceItem, Frames = Frames>,
+    L: Ledger,
+>(
+    machine: &M,
+    alloc: Global,
+    path: PathId,
+    text: &RcStr,
+    parm: &str,
+    memo: &mut Memo<M>,
+    arena: &mut TraceArena<TraceItem>,
+    budget: u32,
+    steps: &mut Steps<L>,
+) -> Result<Assembly, OutOfMemory>
+    requires moving { M.moving ≡ is_moving }
+    requires writable { M.writable ≡ is_writable }
+    requires rebased { M.rebased ≡ rebased }
+    requires stand { AllStand M.model M.rebased M.call_of M.item_of arena.old.nodes memo.old }
+    ensures assembly { IfOk result (λ a. IsAssembly M.model M.rebased M.call_of M.item_of M.frames_of path.0 (chars (rc_str_bytes text.now)) (chars parm.now) budget arena.new.nodes a) }
+    ensures handed { IfOk result (λ a. IsHandedOut arena.old.nodes arena.new.nodes a.root.0) }
+    ensures stand { OnOk result (AllStand M.model M.rebased M.call_of M.item_of arena.new.nodes memo.new) }
+    ensures still_kept { OnOk result ((i : ℕ) (o : KeptOutcome) → kept_at memo.old i ≡ Some o → kept_at memo.new i ≡ Some o) }
+{
+    the_world_fits();
+    let call = CallSite::OpenCode(path, text.clone()?);
+    let mut world = ProgramWorld::new(alloc, parm)?;
+    let outcome = memo.expand(machine, alloc, &call, &mut world, budget, 0, arena, steps)?;
+    let notes = notes_of(alloc, path, text.as_str(), arena, &outcome)?;
+    Ok(Assembly {
+        root: outcome.node,
+        points: arena.points(outcome.node),
+        notes,
+    })
+}
+
+/// Assembles the program of a path and a text, with this SYSPARM and budget, by a machine whose rules on keys are those of
+/// `call_sites`. Its caller is one more owner of the root.
+///
+/// After an `Err` nothing is known of the arena and of what is kept: both are to be given up.
+pub fn assemble<
+    M: AskMachine<Key = Key, Value = Known, Call = CallSite, Item = TraceItem, Frames = Frames>,
+    P: Present,
+    L: Ledger,
+>(
+    machine: &M,
+    alloc: Global,
+    path: PathId,
+    text: TextId,
+    parm: &str,
+    present: &P,
+    memo: &mut Memo<M>,
+    arena: &mut TraceArena<TraceItem>,
+    budget: u32,
+    steps: &mut Steps<L>,
+) -> Result<Assembly, OutOfMemory>
+    requires live { IsLiveText (P.texts present.now) text.0 }
+    requires moving { M.moving ≡ is_moving }
+    requires writable { M.writable ≡ is_writable }
+    requires rebased { M.rebased ≡ rebased }
+    requires stand { AllStand M.model M.rebased M.call_of M.item_of arena.old.nodes memo.old }
+    ensures assembly { IfOk result (λ a. IsAssembly M.model M.rebased M.call_of M.item_of M.frames_of path.0 (text_of (P.texts present.now) text.0) (chars parm.now) budget arena.new.nodes a) }
+    ensures handed { IfOk result (λ a. IsHandedOut arena.old.nodes arena.new.nodes a.root.0) }
+    ensures stand { OnOk result (AllStand M.model M.rebased M.call_of M.item_of arena.new.nodes memo.new) }
+    ensures still_kept { OnOk result ((i : ℕ) (o : KeptOutcome) → kept_at memo.old i ≡ Some o → kept_at memo.new i ≡ Some o) }
+{
+    let text = present.pool().shared(alloc, text)?;
+    assemble_text(
+        machine, alloc, path, &text, parm, memo, arena, budget, steps,
+    )
+}

@@ -1,0 +1,20 @@
+//! Assembling a program: its open code is run over the world of a program, and what is reported of it is read off its
+//! points.
+//!
+//! `specs/Notes` says what is reported of a run, in whole lists: the column faults of the program's text, then what is
+//! reported of each point at its whole stack, then that the budget was used up, or that the text ended without END. It is
+//! the same for every machine that runs the calls.
+//!
+//! It knows nothing of messages, of documents and of when an assembly is made.
+#![tactic(auto)]
+
+mod assembler;
+mod assembly;
+mod column_notes;
+mod end_notes;
+mod notes;
+mod places;
+mod point_notes;
+
+pub use assembler::Assembler;
+pub use assembly::{Assembly, assemble};

@@ -1,0 +1,116 @@
+//! What is noted of the points of a run, each at its whole stack.
+ghost use Rattle.std.specs.Prelude.{◌≡◌, ◌++◌, ◌<◌, [], length, IfOk, OnOk, slice_get, Some};
+ghost use Rattle.std.specs.Option.{option_map, option_map_or};
+ghost use Rattle.std.specs.List.{flat_map};
+ghost use Rattle.trace_arena.specs.Nodes.{IsLive};
+ghost use Rattle.trace_arena.specs.Points.{points};
+ghost use Rattle.trace_variables.specs.Calls.{AreThere};
+ghost use Rattle.program_assembly.specs.PointNotes.{at_stack, point_notes, notes_at, stack_at};
+ghost use Rattle.program_assembly.specs.Stacks.{frames_there};
+
+use crate::places::item_at;
+use hl_base::{Frames, Note, Notes, OutOfMemory};
+use std::alloc::Global;
+use trace_arena::{NodeId, TraceArena, arena_is_whole};
+use trace_cursor::{Cursor, ItemPlace, path};
+use trace_values::TraceItem;
+
+/// A note, once more, at a stack.
+fn at_stack(alloc: Global, note: &Note, stack: &Frames) -> Result<Note, OutOfMemory>
+    ensures { IfOk result (λ n. n ≡ at_stack stack.now note.now) }
+{
+    Ok(Note {
+        code: note.code,
+        severity: note.severity,
+        text: note.text.copy(alloc)?,
+        stack: stack.copy(alloc)?,
+    })
+}
+
+/// The frames of the items at these places, in turn.
+fn frames_there(
+    alloc: Global,
+    arena: &TraceArena<TraceItem>,
+    places: &[ItemPlace],
+) -> Result<Frames, OutOfMemory>
+    requires there { AreThere arena.now.nodes places.now }
+    ensures { IfOk result (λ frames. frames ≡ flat_map (frames_there arena.now.nodes) places.now) }
+{
+    let mut frames = Frames::new(alloc);
+    for place in places {
+        item_at(arena, *place).frames.push_onto(&mut frames)?;
+    }
+    Ok(frames)
+}
+
+/// The whole stack of a point, outermost frame first.
+fn stack_at(
+    alloc: Global,
+    arena: &TraceArena<TraceItem>,
+    root: NodeId,
+    index: u32,
+) -> Result<Frames, OutOfMemory>
+    requires live { IsLive arena.now.nodes root.0 }
+    requires inside { index < length (points arena.now.nodes root.0) }
+    ensures { IfOk result (λ stack. stack ≡ stack_at (slice_get (points arena.now.nodes root.0) index)) }
+{
+    arena_is_whole(arena);
+    let places = path(alloc, arena, root, index)?;
+    frames_there(alloc, arena, places.as_slice())
+}
+
+/// Adds notes, each at this stack.
+fn add_at_stack(
+    alloc: Global,
+    said: &[Note],
+    stack: &Frames,
+    notes: &mut Notes,
+) -> Result<(), OutOfMemory>
+    ensures { OnOk result (notes.new ≡ notes.old ++ notes_at stack.now said.now) }
+{
+    for note in said {
+        notes.push(at_stack(alloc, note, stack)?)?;
+    }
+    Ok(())
+}
+
+/// Adds the notes of the point of a number, whose item this is.
+fn add_notes_of(
+    alloc: Global,
+    arena: &TraceArena<TraceItem>,
+    root: NodeId,
+    index: u32,
+    item: &TraceItem,
+    notes: &mut Notes,
+) -> Result<(), OutOfMemory>
+    requires live { IsLive arena.now.nodes root.0 }
+    requires there { option_map (λ point. point.item) (slice_get (points arena.now.nodes root.0) index) ≡ Some item.now }
+    ensures { OnOk result (notes.new ≡ notes.old ++ option_map_or point_notes (slice_get (points arena.now.nodes root.0) index) []) }
+{
+    let said = item.notes.as_slice();
+    if said.is_empty() {
+        return Ok(());
+    }
+    let stack = stack_at(alloc, arena, root, index)?;
+    add_at_stack(alloc, said, &stack, notes)
+}
+
+/// Adds the notes of each point of a root, in turn.
+pub(crate) fn add_point_notes(
+    alloc: Global,
+    arena: &TraceArena<TraceItem>,
+    root: NodeId,
+    notes: &mut Notes,
+) -> Result<(), OutOfMemory>
+    requires live { IsLive arena.now.nodes root.0 }
+    ensures { OnOk result (notes.new ≡ notes.old ++ flat_map point_notes (points arena.now.nodes root.0)) }
+{
+    let Some(mut cursor) = Cursor::at(arena, root, 0) else {
+        return Ok(());
+    };
+    for index in 0..arena.points(root) {
+        add_notes_of(alloc, arena, root, index, cursor.item(arena), notes)?;
+        let _ = cursor.advance(arena);
+    }
+    Ok(())
+}
