@@ -3,7 +3,7 @@ use Rattle.std.proofs.Common.{◌≡◌, ℕ, ℤ, Bool, true, false, not, cond,
 use Rattle.std.specs.List.{list_any}
 use Rattle.std.specs.Ordering.{int_eq}
 use Rattle.std.specs.Cmp.Lexicographic.{pointwise}
-use Rattle.std.specs.Str.{bytes_eq}
+use Rattle.std.specs.Str.{chars, bytes_eq}
 use Rattle.std.proofs.lemmas.Bool.Decides.{Decides-eqb, Decides-int_eq}
 use Rattle.std.proofs.lemmas.Slice.Eq.{bytes_eq-Decides}
 use Rattle.serde_json.specs.Data.{Data}
@@ -164,8 +164,16 @@ diagnostic_itself d =
     (and_true (is_same_span d.range d.range) _ (span_itself d.range)
     (and_true (d.severity == d.severity) _ ((Decides-eqb d.severity d.severity).1 refl) (pointwise_itself is_same_relation d.related relation_itself))))
 
-published_itself : (n : PathId) (version : ℤ) (list : List Diagnostic) → is_published (Some (record { path = n; version = version; list = list })) version list ≡ true
+pub published_itself : (n : PathId) (version : ℤ) (list : List Diagnostic) → is_published (Some (record { path = n; version = version; list = list })) version list ≡ true
 published_itself n version list = and_true (int_eq version version) (is_same_list list list) ((Decides-int_eq version version).1 refl) (pointwise_itself is_same_diagnostic list diagnostic_itself)
+
+-- a list that was made of this text would be the same again
+pub published_again : (last : LastList) (version : ℤ) (text bytes : List ℕ) → int_eq last.version version ≡ true → last.list ≡ diagnostics_of (chars text)
+    → bytes_eq text bytes ≡ true → is_published (Some last) version (diagnostics_of (chars bytes)) ≡ true
+published_again last version text bytes same made equal =
+    let again : last.list ≡ diagnostics_of (chars bytes) = made ∙ ap (λ b. diagnostics_of (chars b)) ((bytes_eq-Decides text bytes).0 equal) in
+    let list = subst (λ l. is_same_list last.list l ≡ true) again (pointwise_itself is_same_diagnostic last.list diagnostic_itself) in
+    and_true (int_eq last.version version) (is_same_list last.list (diagnostics_of (chars bytes))) same list
 
 -- ---- what was last published
 

@@ -55,6 +55,10 @@ pub if_ok : {T E : Type 0} {P Q : T → Type 0} (result : Result T E) → ((x : 
 if_ok (Ok x) follows p = follows x p
 if_ok (Err e) follows p = tt
 
+pub if_any : {T E : Type 0} {P : T → Type 0} (result : Result T E) → ((x : T) → P x) → IfOk result P
+if_any (Ok x) all = all x
+if_any (Err e) all = tt
+
 -- without its first element a list is what follows
 pub remove_first : {X : Type 0} (xs : List X) → remove xs 0 ≡ drop 1 xs
 remove_first [] = refl

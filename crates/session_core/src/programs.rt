@@ -1,5 +1,6 @@
 //! The open documents, by the numbers of their paths, and the queue of programs.
-ghost use Rattle.std.specs.Prelude.{◌≡◌, ◌≤◌, ◌++◌, length, map, filter, not, Some, OnOk, IfOk, IfErr, Option, option_map, slice_get, take};
+ghost use Rattle.std.specs.Prelude.{◌≡◌, ◌≤◌, ◌++◌, true, length, map, filter, not, Some, IsTrue, OnOk, IfOk, IfErr, Option, option_map, slice_get, take};
+ghost use Rattle.std.specs.Rc.{rc_str_bytes};
 ghost use Rattle.std.specs.Borrow.{Bor};
 ghost use Rattle.std.specs.List.{list_any};
 ghost use Rattle.std.specs.Str.{chars};
@@ -8,14 +9,16 @@ ghost use Rattle.document_store.specs.Store.{OpenDocument, number_of};
 ghost use Rattle.document_store.specs.Shown.{IsShown, Shows};
 ghost use Rattle.session_core.specs.State.{is_number, number_named, document_at, is_program, programs, is_queued, with_programs, without, last_list, without_list, published_without, with_list};
 ghost use Rattle.session_core.specs.Inside.{wanted_of};
+ghost use Rattle.session_core.specs.Diagnostics.{diagnostics_of};
+ghost use Rattle.session_core.specs.Turn.{is_published};
 ghost use Rattle.session_core.specs.declared.state.LastList.{LastList};
 
-use crate::state::LastList;
+use crate::kept::KeptList;
 use document_store::{Document, DocumentStore, MOST_DOCUMENTS, MemberText};
 use file_uri::{UriFault, file_path};
 use hl_base::{OutOfMemory, PathId};
-use lsp_messages::Diagnostics;
 use std::alloc::Global;
+use std::rc::RcStr;
 
 /// The language of programs.
 const PROGRAM_LANGUAGE: &str = "hlasm";
@@ -35,17 +38,26 @@ pub(crate) fn document_at(store: &DocumentStore, path: PathId) -> Option<Documen
     None
 }
 
-/// The text of the open document of a number.
-pub(crate) fn text_at(store: &DocumentStore, path: PathId) -> &str
-    ensures { (document : OpenDocument) → document_at store.now.store path ≡ Some document
+/// An empty text in place of one that is not there.
+fn no_text(alloc: Global) -> Result<RcStr, OutOfMemory> {
+    Ok(RcStr::from_str(alloc, "")?)
+}
+
+/// The text of the open document of a number, shared.
+pub(crate) fn text_at(
+    alloc: Global,
+    store: &DocumentStore,
+    path: PathId,
+) -> Result<RcStr, OutOfMemory>
+    ensures { IfOk result (λ text. (document : OpenDocument) → document_at store.now.store path ≡ Some document
         → slice_get store.now.store.paths path.0 ≡ Some document.path
         → number_of store.now.store.paths document.path ≡ Some path.0
-        → chars result.now ≡ document.text }
+        → chars (rc_str_bytes text) ≡ document.text) }
 {
     match store.present(path) {
-        Some(MemberText::File(text)) => store.pool().text(text),
-        Some(MemberText::Unreadable) => "",
-        None => "",
+        Some(MemberText::File(text)) => store.pool().shared(alloc, text),
+        Some(MemberText::Unreadable) => no_text(alloc),
+        None => no_text(alloc),
     }
 }
 
@@ -112,10 +124,25 @@ pub(crate) fn queue_programs(
 }
 
 /// What was last published of a program.
-pub(crate) fn last_list(published: &[LastList], path: PathId) -> Option<&LastList>
+pub(crate) fn last_list(published: &[KeptList], path: PathId) -> Option<&KeptList>
     ensures { option_map (λ (last : Bor LastList). last.now) result ≡ last_list published.now path }
 {
-    published.iter().find(|last| last.path == path)
+    published.iter().find(|kept| kept.last().path == path)
+}
+
+/// Whether the last list of a program is of the version that it has now and was made of this text.
+pub(crate) fn is_kept(
+    published: &[KeptList],
+    path: PathId,
+    document: &Document<'_>,
+    text: &str,
+) -> bool
+    ensures { IsTrue result → is_published (last_list published.now path) document.now.version (diagnostics_of (chars text.now)) ≡ true }
+{
+    match last_list(published, path) {
+        Some(kept) => kept.is_of(document, text),
+        None => false,
+    }
 }
 
 /// Drops a program from the queue.
@@ -126,14 +153,14 @@ fn drop_queued(queue: &mut Vec<PathId>, path: PathId)
 }
 
 /// Drops what was published of a program.
-fn drop_list(published: &mut Vec<LastList>, path: PathId)
+fn drop_list(published: &mut Vec<KeptList>, path: PathId)
     ensures { published.new.items ≡ without_list published.old.items path }
 {
-    published.retain(|last| last.path != path);
+    published.retain(|kept| kept.last().path != path);
 }
 
 /// Drops a program from the queue, and what was published of it.
-pub(crate) fn forget(queue: &mut Vec<PathId>, published: &mut Vec<LastList>, path: Option<PathId>)
+pub(crate) fn forget(queue: &mut Vec<PathId>, published: &mut Vec<KeptList>, path: Option<PathId>)
     ensures queue { queue.new.items ≡ without queue.old.items path }
     ensures published { published.new.items ≡ published_without published.old.items path }
 {
@@ -143,20 +170,11 @@ pub(crate) fn forget(queue: &mut Vec<PathId>, published: &mut Vec<LastList>, pat
     }
 }
 
-/// Keeps this as the last list of a program, of this version of it.
-pub(crate) fn keep_list(
-    published: &mut Vec<LastList>,
-    path: PathId,
-    document: &Document<'_>,
-    list: Diagnostics,
-) -> Result<(), OutOfMemory>
-    ensures { OnOk result (published.new.items ≡ with_list published.old.items (record { path = path; version = document.now.version; list = list })) }
+/// Keeps this as the last list of its program.
+pub(crate) fn keep_list(published: &mut Vec<KeptList>, list: KeptList) -> Result<(), OutOfMemory>
+    ensures { OnOk result (published.new.items ≡ with_list published.old.items list) }
 {
-    drop_list(published, path);
-    published.push(LastList {
-        path,
-        version: document.version,
-        list,
-    })?;
+    drop_list(published, list.last().path);
+    published.push(list)?;
     Ok(())
 }

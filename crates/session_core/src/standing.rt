@@ -9,10 +9,11 @@ ghost use Rattle.session_core.specs.Turn.{turn, turn_at, assemble_first, assembl
 
 use crate::bodies::Bodies;
 use crate::diagnostics::diagnostics_of;
-use crate::programs::{document_at, keep_list, last_list, text_at};
+use crate::kept::KeptList;
+use crate::programs::{document_at, is_kept, keep_list, last_list, text_at};
 use crate::replies;
 use crate::same::is_same_list;
-use crate::state::{LastList, Stage};
+use crate::state::Stage;
 use document_store::{Document, DocumentStore};
 use hl_base::{OutOfMemory, PathId, Text};
 use lsp_messages::{Diagnostic, Diagnostics};
@@ -28,7 +29,7 @@ pub(crate) struct Standing {
     budget: u32,
     pub(crate) store: DocumentStore,
     pub(crate) queue: Vec<PathId>,
-    pub(crate) published: Vec<LastList>,
+    pub(crate) published: Vec<KeptList>,
 }
 
 impl Model for Standing {
@@ -47,7 +48,7 @@ impl Model for Standing {
 
 /// Whether this version and this list of a program were the last to be published.
 fn is_published(
-    published: &[LastList],
+    published: &[KeptList],
     path: PathId,
     document: &Document<'_>,
     list: &[Diagnostic],
@@ -55,7 +56,8 @@ fn is_published(
     ensures { result ≡ is_published (last_list published.now path) document.now.version list.now }
 {
     match last_list(published, path) {
-        Some(last) => {
+        Some(kept) => {
+            let last = kept.last();
             last.version == document.version && is_same_list(last.list.as_slice(), list)
         }
         None => false,
@@ -132,19 +134,25 @@ impl Standing {
         Ok(bodies)
     }
 
-    /// Publishes the list of a program, unless it was already.
+    /// Publishes the list of a program, unless it was already. Where its last list is of this version and was made of this
+    /// text, none is made.
     fn publish(&mut self, alloc: Global, path: PathId) -> Result<Bodies, OutOfMemory>
         ensures { IfOk result (λ bodies. IsStep (turn_at self.old path (document_at self.old.store path)) self.new bodies) }
     {
         let Some(document) = document_at(&self.store, path) else {
             return Ok(Bodies::none(alloc));
         };
-        let list = diagnostics_of(alloc, text_at(&self.store, path))?;
+        let text = text_at(alloc, &self.store, path)?;
+        if is_kept(&self.published, path, &document, text.as_str()) {
+            return Ok(Bodies::none(alloc));
+        }
+        let list = diagnostics_of(alloc, text.as_str())?;
         if is_published(&self.published, path, &document, list.as_slice()) {
             return Ok(Bodies::none(alloc));
         }
         let (body, list) = listed_body(alloc, &document, list)?;
-        keep_list(&mut self.published, path, &document, list)?;
+        let kept = KeptList::new(path, &document, list, text);
+        keep_list(&mut self.published, kept)?;
         Bodies::one(alloc, body)
     }
 
@@ -162,10 +170,10 @@ impl Standing {
         let Some(document) = document_at(&self.store, path) else {
             return Ok(Bodies::none(alloc));
         };
-        let Some(last) = last_list(&self.published, path) else {
+        let Some(kept) = last_list(&self.published, path) else {
             return Ok(Bodies::none(alloc));
         };
-        if last.list.as_slice().is_empty() {
+        if kept.last().list.as_slice().is_empty() {
             return Ok(Bodies::none(alloc));
         }
         let (body, _) = replies::list_body(alloc, document.uri, None, Diagnostics::new(alloc))?;
