@@ -1,8 +1,8 @@
 #!/usr/bin/env python3
 """Whole conversations with the built program: what a client sends, the exact bytes that are written, and how it ends.
 
-conversations.json has a list; each element says what it shows, the bodies that are sent (`says`), the bodies that are
-written (`hears`) and the name of the status (`ends`). The body `initialize` stands for a whole such request, and `offer`
+conversations.json has a list; each element says what it shows, the words after the program's name (`words`; `serve` where
+it has none), the bodies that are sent (`says`), the bodies that are written (`hears`) and the name of the status (`ends`). The body `initialize` stands for a whole such request, and `offer`
 for its answer. Each was worked out by hand from LSP 3.17 and JSON-RPC 2.0.
 
 Usage: check.py [--server PATH]
@@ -20,7 +20,7 @@ INITIALIZE = '{"id":1,"jsonrpc":"2.0","method":"initialize","params":{}}'
 OFFER = ('{"id":1,"jsonrpc":"2.0","result":{"capabilities":{"definitionProvider":true,"documentSymbolProvider":true,'
          '"hoverProvider":true,"positionEncoding":"utf-16","referencesProvider":true,"textDocumentSync":{"change":2,"openClose":true}},'
          '"serverInfo":{"name":"hlasm_ls","version":"1"}}}')
-STATUSES = {"Done": 0, "NoShutdown": 1, "InputEnded": 2}
+STATUSES = {"Done": 0, "NoShutdown": 1, "InputEnded": 2, "BadWords": 7}
 
 
 def framed(bodies):
@@ -36,7 +36,7 @@ def difference(server, row):
     """What is wrong with a conversation, if anything."""
     says = framed(INITIALIZE if body == "initialize" else body for body in row["says"])
     hears = framed(OFFER if body == "offer" else body for body in row["hears"])
-    run = subprocess.run([server, "serve"], input=says, capture_output=True, timeout=60)
+    run = subprocess.run([server, *row.get("words", ["serve"])], input=says, capture_output=True, timeout=60)
     if run.stdout != hears:
         return f"wrote {run.stdout!r}, not {hears!r}"
     if run.returncode != STATUSES[row["ends"]]:

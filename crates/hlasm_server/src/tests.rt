@@ -562,7 +562,7 @@ fn other_words_run_nothing(rt: HostRuntime) -> Result<(), Fail> {
         &["SERVE"],
         &["serve", "serve"],
         &["--budget", "serve"],
-        &["serve", "--budget", "5"],
+        &["serve", "--budget", "0"],
     ];
     for case in cases {
         let mut words = Vec::new(alloc);
