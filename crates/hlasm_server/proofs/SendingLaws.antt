@@ -67,7 +67,7 @@ choice_keeps_queue false s t body same = same
 
 turn_at_keeps_queue : (s : State) (n : PathId) (document : Option OpenDocument) → (turn_at s n document).state.queue ≡ s.queue
 turn_at_keeps_queue s n None = refl
-turn_at_keeps_queue s n (Some document) = choice_keeps_queue (is_published (last_list s.published n) document.version (diagnostics_of document.text)) s _ _ refl
+turn_at_keeps_queue s n (Some document) = choice_keeps_queue (is_published (last_list s.published n) document.version (diagnostics_of s.budget n document.text)) s _ _ refl
 
 -- a Turn leaves one program fewer
 turn_of_leaves : (s : State) (queue : List PathId) → s.queue ≡ queue → queue ≢ [] → suc (length (turn_of s (slice_get queue 0)).state.queue) ≡ length queue

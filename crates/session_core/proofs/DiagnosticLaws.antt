@@ -5,6 +5,7 @@ use Rattle.std.proofs.lemmas.List.Sums.{sum_by-le}
 use Rattle.hl_base.specs.Texts.{lines, units, unit_width}
 use Rattle.hlasm_statements.specs.declared.statement.Statement.{Statement}
 use Rattle.hl_base.specs.declared.note.Note.{Note}
+use Rattle.hl_base.specs.declared.place.PathId.{PathId}
 use Rattle.hl_base.proofs.LineLaws.{length-lines}
 use Rattle.hlasm_statements.specs.Laws.{FollowOn}
 use Rattle.hlasm_statements.specs.Statements.{statements_of}
@@ -76,12 +77,12 @@ some_line : (text : List ℕ) → 0 < length (lines text)
 some_line text = let count = length-lines text in omega arith
 
 -- all statements have their faults noted, and then a missing END is
-pub notes_whole : (text : List ℕ) (statements : List Statement) (before now : List Note) (i : ℕ) → statements ≡ statements_of text → before ≡ flat_map fault_notes (take i statements)
-    → length statements ≤ i → ((count : ℕ) → FollowOn 0 statements count → 0 < count → now ≡ before ++ end_notes statements count) → now ≡ notes_of text
+pub notes_whole : (path : PathId) (text : List ℕ) (statements : List Statement) (before now : List Note) (i : ℕ) → statements ≡ statements_of text → before ≡ flat_map (fault_notes path) (take i statements)
+    → length statements ≤ i → ((count : ℕ) → FollowOn 0 statements count → 0 < count → now ≡ before ++ end_notes path statements count) → now ≡ notes_of path text
 unfolding notes_of
-notes_whole text statements before now i is noted all ends =
+notes_whole path text statements before now i is noted all ends =
     let follows : FollowOn 0 statements (length (lines text)) = subst (λ z. FollowOn 0 z (length (lines text))) (sym is) (FollowOn-text text) in
-    let faults : before ≡ flat_map fault_notes statements = noted ∙ ap (flat_map fault_notes) (take_all i statements all) in
-    let whole : now ≡ flat_map fault_notes statements ++ end_notes statements (length (lines text)) =
-    ends (length (lines text)) follows (some_line text) ∙ ap (λ z. z ++ end_notes statements (length (lines text))) faults in
-    whole ∙ ap (λ z. flat_map fault_notes z ++ end_notes z (length (lines text))) is
+    let faults : before ≡ flat_map (fault_notes path) statements = noted ∙ ap (flat_map (fault_notes path)) (take_all i statements all) in
+    let whole : now ≡ flat_map (fault_notes path) statements ++ end_notes path statements (length (lines text)) =
+    ends (length (lines text)) follows (some_line text) ∙ ap (λ z. z ++ end_notes path statements (length (lines text))) faults in
+    whole ∙ ap (λ z. flat_map (fault_notes path) z ++ end_notes path z (length (lines text))) is

@@ -3,7 +3,7 @@ use Rattle.std.proofs.Common.{◌≡◌, ℕ, ℤ, Bool, true, false, not, cond,
 use Rattle.std.specs.List.{list_any}
 use Rattle.std.specs.Ordering.{int_eq}
 use Rattle.std.specs.Cmp.Lexicographic.{pointwise}
-use Rattle.std.specs.Str.{chars, bytes_eq}
+use Rattle.std.specs.Str.{bytes_eq}
 use Rattle.std.proofs.lemmas.Bool.Decides.{Decides-eqb, Decides-int_eq}
 use Rattle.std.proofs.lemmas.Slice.Eq.{bytes_eq-Decides}
 use Rattle.serde_json.specs.Data.{Data}
@@ -30,6 +30,7 @@ use Rattle.session_core.specs.Replies.{list_body}
 use Rattle.session_core.specs.Same.{is_same_position, is_same_span, is_same_relation, is_same_diagnostic, is_same_list}
 use Rattle.session_core.specs.State.{State, start, number_at, number_named, is_number, is_program, is_queued, document_at, programs, with_programs, last_list, without_list, with_list, without, published_without}
 use Rattle.session_core.specs.Step.{Step, quiet, says}
+use Rattle.session_core.proofs.TextLaws.{found_passes}
 use Rattle.session_core.specs.Turn.{is_published, publish, assemble_first, assemble_many, turn, turn_of, turn_at, without_first}
 
 -- ---- tests
@@ -167,13 +168,15 @@ diagnostic_itself d =
 pub published_itself : (n : PathId) (version : ℤ) (list : List Diagnostic) → is_published (Some (record { path = n; version = version; list = list })) version list ≡ true
 published_itself n version list = and_true (int_eq version version) (is_same_list list list) ((Decides-int_eq version version).1 refl) (pointwise_itself is_same_diagnostic list diagnostic_itself)
 
--- a list that was made of this text would be the same again
-pub published_again : (last : LastList) (version : ℤ) (text bytes : List ℕ) → int_eq last.version version ≡ true → last.list ≡ diagnostics_of (chars text)
-    → bytes_eq text bytes ≡ true → is_published (Some last) version (diagnostics_of (chars bytes)) ≡ true
-published_again last version text bytes same made equal =
-    let again : last.list ≡ diagnostics_of (chars bytes) = made ∙ ap (λ b. diagnostics_of (chars b)) ((bytes_eq-Decides text bytes).0 equal) in
-    let list = subst (λ l. is_same_list last.list l ≡ true) again (pointwise_itself is_same_diagnostic last.list diagnostic_itself) in
-    and_true (int_eq last.version version) (is_same_list last.list (diagnostics_of (chars bytes))) same list
+-- the same list of the same version was published
+pub published_same : (last : LastList) (version : ℤ) (list : List Diagnostic) → int_eq last.version version ≡ true → last.list ≡ list → is_published (Some last) version list ≡ true
+published_same last version list same is =
+    and_true (int_eq last.version version) (is_same_list last.list list) same
+    (subst (λ l. is_same_list last.list l ≡ true) is (pointwise_itself is_same_diagnostic last.list diagnostic_itself))
+
+-- what was last published of a number is of that number
+pub listed_path : (published : List LastList) (n : PathId) (last : LastList) → last_list published n ≡ Some last → last.path ≡ n
+listed_path published n last found = same_number last.path n (found_passes (λ (l : LastList). is_number l.path n) published last found)
 
 -- ---- what was last published
 
@@ -205,10 +208,10 @@ last_newest (x ∷ published) last = by_kept (is_number x.path last.path) refl (
 
 -- the first program is listed, and the others are as they were
 fresh_publish : (s : State) (n : PathId) (rest : List PathId) (document : OpenDocument) → s.queue ≡ n ∷ rest → document_at s.store n ≡ Some document → AreFresh s
-    → AreFresh (publish (without_first s) n document (diagnostics_of document.text)).state
-fresh_publish s n rest document queue found fresh = by_old (is_published (last_list s.published n) document.version (diagnostics_of document.text)) refl where
+    → AreFresh (publish (without_first s) n document (diagnostics_of s.budget n document.text)).state
+fresh_publish s n rest document queue found fresh = by_old (is_published (last_list s.published n) document.version (diagnostics_of s.budget n document.text)) refl where
   list : List Diagnostic
-  list = diagnostics_of document.text
+  list = diagnostics_of s.budget n document.text
 
   newest : LastList
   newest = record { path = n; version = document.version; list = list }
@@ -240,7 +243,7 @@ fresh_publish s n rest document queue found fresh = by_old (is_published (last_l
         subst (λ z. is_listed (record s { published = with_list s.published newest }) m z ≡ true) document_is
         (subst (λ k. is_listed (record s { published = with_list s.published newest }) k document ≡ true) (sym number) here)
     by_number false differs =
-        ap (λ z. is_published z other.version (diagnostics_of other.text)) (last_other s.published newest m (other_number n m differs)) ∙ fresh m other at program (others m differs free)
+        ap (λ z. is_published z other.version (diagnostics_of s.budget m other.text)) (last_other s.published newest m (other_number n m differs)) ∙ fresh m other at program (others m differs free)
 
 -- a number without a document leaves the queue
 fresh_without : (s : State) (n : PathId) (rest : List PathId) → s.queue ≡ n ∷ rest → document_at s.store n ≡ None → AreFresh s → AreFresh (without_first s)
@@ -354,7 +357,7 @@ store_of_cond false s t body same = same
 
 store_of_turn_at : (s : State) (n : PathId) (document : Option OpenDocument) → (turn_at s n document).state.store ≡ s.store
 store_of_turn_at s n None = refl
-store_of_turn_at s n (Some document) = store_of_cond (is_published (last_list s.published n) document.version (diagnostics_of document.text)) s _ _ refl
+store_of_turn_at s n (Some document) = store_of_cond (is_published (last_list s.published n) document.version (diagnostics_of s.budget n document.text)) s _ _ refl
 
 store_of_first : (s : State) → (assemble_first s).state.store ≡ s.store
 unfolding assemble_first

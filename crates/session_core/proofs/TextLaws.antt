@@ -70,7 +70,7 @@ present_is s pool n document shown is found path number = subst (λ z. IsPresent
 -- ---- the list of a program
 
 -- what is found passes the test
-found_passes : {X : Type 0} (test : X → Bool) (xs : List X) (x : X) → find test xs ≡ Some x → test x ≡ true
+pub found_passes : {X : Type 0} (test : X → Bool) (xs : List X) (x : X) → find test xs ≡ Some x → test x ≡ true
 found_passes test [] x found = cc
 found_passes test (y ∷ xs) x found = by_test (test y) refl found (λ behind. found_passes test xs x behind) where
   by_test : (b : Bool) → test y ≡ b → cond b (Some y) (find test xs) ≡ Some x → (find test xs ≡ Some x → test x ≡ true) → test x ≡ true
@@ -90,7 +90,7 @@ TellsText s n text = (document : OpenDocument) → document_at s n ≡ Some docu
     → number_of s.paths document.path ≡ Some n.0 → text ≡ document.text
 
 pub listed : (s : State) (n : PathId) (shown : Document) (text : List ℕ) (list : List Diagnostic) → IsShown s.store.paths (document_at s.store n) (Some shown)
-    → TellsText s.store n text → list ≡ diagnostics_of text → IsListed s n shown list
+    → TellsText s.store n text → list ≡ diagnostics_of s.budget n text → IsListed s n shown list
 listed s n shown text list is tells made = by_document (document_at s.store n) refl is where
   by_document : (document : Option OpenDocument) → document_at s.store n ≡ document → IsShown s.store.paths document (Some shown) → IsListed s n shown list
   by_document None e f = absurd f
@@ -101,7 +101,7 @@ listed s n shown text list is tells made = by_document (document_at s.store n) r
       let number : number_of s.store.paths document.path ≡ Some n.0 = shows.number ∙ ap (λ z. Some z) same in
       record {
         document = document;
-        turn = ap (turn_at s n) e ∙ ap (publish s n document) (ap diagnostics_of (sym (tells document e path number)) ∙ sym made);
+        turn = ap (turn_at s n) e ∙ ap (publish s n document) (ap (diagnostics_of s.budget n) (sym (tells document e path number)) ∙ sym made);
         uri = shows.uri;
         version = shows.version;
       }

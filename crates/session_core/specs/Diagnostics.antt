@@ -8,6 +8,7 @@ use Rattle.hl_base.specs.declared.note.Note.{Note}
 use Rattle.hl_base.specs.declared.note.Severity.{Severity}
 use Rattle.hl_base.specs.declared.note.Severity.TheVariants.{Error, Warning, Information}
 use Rattle.hl_base.specs.declared.place.Frame.{Frame}
+use Rattle.hl_base.specs.declared.place.PathId.{PathId}
 use Rattle.lsp_messages.specs.declared.outgoing.Span.{Span}
 use Rattle.lsp_messages.specs.declared.outgoing.Diagnostic.{Diagnostic}
 use Rattle.note_rows.specs.Table.{is_at_start}
@@ -60,6 +61,6 @@ most_published = 1000
 unfoldable pub published : List Note → List ℕ → List Diagnostic
 published notes text = map (diagnostic_of_note (lines text)) (take most_published notes)
 
--- the diagnostics of a text
-unfoldable pub diagnostics_of : List ℕ → List Diagnostic
-diagnostics_of text = published (notes_of text) text
+-- The diagnostics of the text of a path, where a program may be given so many statements. No statement is counted yet.
+unfoldable pub diagnostics_of : (budget : ℕ) → PathId → List ℕ → List Diagnostic
+diagnostics_of budget path text = published (notes_of path text) text

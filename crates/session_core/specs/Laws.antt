@@ -45,7 +45,7 @@ Keeps step s = (step.state ≡ s) × (length step.bodies ≤ 1)
 
 -- what was last published of the document of a number is its list, of its version and its text as they are
 abbrev pub is_listed : State → PathId → OpenDocument → Bool
-is_listed s n document = is_published (last_list s.published n) document.version (diagnostics_of document.text)
+is_listed s n document = is_published (last_list s.published n) document.version (diagnostics_of s.budget n document.text)
 
 -- Lists are fresh: every open program is listed, unless it is queued.
 abbrev pub AreFresh : State → Type 0

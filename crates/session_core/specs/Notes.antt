@@ -5,6 +5,7 @@ use Rattle.std.specs.Str.{str_eq_ignore_ascii_case}
 use Rattle.hl_base.specs.Texts.{lines}
 use Rattle.hl_base.specs.declared.note.Note.{Note}
 use Rattle.hl_base.specs.declared.place.Frame.{Frame}
+use Rattle.hl_base.specs.declared.place.PathId.{PathId}
 use Rattle.hl_base.specs.declared.place.FrameKind.TheVariants.{OpenCode}
 use Rattle.hlasm_statements.specs.declared.fault.ColumnFault.{ColumnFault}
 use Rattle.hlasm_statements.specs.declared.fault.ColumnFault.TheVariants.{MarginText, SurplusLines, MissingLine}
@@ -14,13 +15,13 @@ use Rattle.note_rows.specs.Table.{noted}
 use Rattle.note_rows.specs.declared.row.Row.{Row}
 use Rattle.note_rows.specs.declared.row.Row.TheVariants as row
 
--- the statement of open code that begins in a line of the one file
-abbrev pub open_code_at : ℕ → Frame
-open_code_at line = record { kind = OpenCode; name = None; origin = record { path = record { 0 = 0 }; line = line } }
+-- the statement of open code that begins in a line of the file of a path
+abbrev pub open_code_at : PathId → ℕ → Frame
+open_code_at path line = record { kind = OpenCode; name = None; origin = record { path = path; line = line } }
 
 -- a note of that statement
-abbrev pub note_at : (line : ℕ) → Row → Note
-note_at line row = noted row (open_code_at line ∷ [])
+abbrev pub note_at : PathId → (line : ℕ) → Row → Note
+note_at path line row = noted row (open_code_at path line ∷ [])
 
 -- the row of a column fault
 abbrev pub row_of_fault : ColumnFault → Row
@@ -29,25 +30,25 @@ row_of_fault SurplusLines = row.SurplusLines
 row_of_fault MissingLine = row.MissingLine
 
 -- a column fault of the statement that begins in this line
-abbrev pub fault_note : ℕ → ColumnFault → Note
-fault_note line fault = note_at line (row_of_fault fault)
+abbrev pub fault_note : PathId → ℕ → ColumnFault → Note
+fault_note path line fault = note_at path line (row_of_fault fault)
 
 -- the column faults of a statement, in the order of their codes
-abbrev pub fault_notes : Statement → List Note
-fault_notes statement = map (fault_note statement.first) statement.faults
+abbrev pub fault_notes : PathId → Statement → List Note
+fault_notes path statement = map (fault_note path statement.first) statement.faults
 
 -- the statement's operation is END, in either case of letters
 abbrev pub is_end : Statement → Bool
 is_end statement = str_eq_ignore_ascii_case (encode_utf8_all statement.op) (codes "END")
 
 -- no statement is an END: noted at the text's last line
-abbrev pub missing_end : ℕ → Note
-missing_end last_line = note_at last_line row.MissingEnd
+abbrev pub missing_end : PathId → ℕ → Note
+missing_end path last_line = note_at path last_line row.MissingEnd
 
 -- where none of the statements of a text of so many lines is an END, that
-abbrev pub end_notes : List Statement → (count : ℕ) → List Note
-end_notes statements count = if list_any is_end statements then [] else missing_end (count - 1) ∷ []
+abbrev pub end_notes : PathId → List Statement → (count : ℕ) → List Note
+end_notes path statements count = if list_any is_end statements then [] else missing_end path (count - 1) ∷ []
 
--- the notes of a text: the column faults by line, and then a missing END
-unfoldable pub notes_of : List ℕ → List Note
-notes_of text = flat_map fault_notes (statements_of text) ++ end_notes (statements_of text) (length (lines text))
+-- the notes of the text of a path: the column faults by line, and then a missing END
+unfoldable pub notes_of : PathId → List ℕ → List Note
+notes_of path text = flat_map (fault_notes path) (statements_of text) ++ end_notes path (statements_of text) (length (lines text))

@@ -28,7 +28,7 @@ publish s n document list =
 -- the list of the document of a number
 abbrev pub turn_at : State → PathId → Option OpenDocument → Step
 turn_at s n None = quiet s
-turn_at s n (Some document) = publish s n document (diagnostics_of document.text)
+turn_at s n (Some document) = publish s n document (diagnostics_of s.budget n document.text)
 
 -- the state without the first queued program
 abbrev pub without_first : State → State

@@ -5,7 +5,7 @@ ghost use Rattle.hl_base.specs.Texts.{lines};
 ghost use Rattle.session_core.specs.Diagnostics.{code_text, line_of, width_of, span_of_note, severity_number, diagnostic_of_note, published, diagnostics_of};
 
 use crate::notes::notes_of;
-use hl_base::{Frame, Note, OutOfMemory, Position, Severity, Text, lines, units};
+use hl_base::{Frame, Note, OutOfMemory, PathId, Position, Severity, Text, lines, units};
 use hlasm_statements::split_columns;
 use lsp_messages::{Diagnostic, Diagnostics, Relations, Span};
 use note_rows::stands_at_start;
@@ -113,11 +113,16 @@ pub fn published(alloc: Global, notes: &[Note], text: &str) -> Result<Diagnostic
     Ok(list)
 }
 
-/// The diagnostics of a text.
+/// The diagnostics of the text of a path, where a program may be given so many statements. No statement is counted yet.
 #[tactic(auto, unfolding(crate::specs::Diagnostics::diagnostics_of))]
-pub fn diagnostics_of(alloc: Global, text: &str) -> Result<Diagnostics, OutOfMemory>
-    ensures { IfOk result (λ list. list ≡ diagnostics_of (chars text.now)) }
+pub fn diagnostics_of(
+    alloc: Global,
+    _budget: u32,
+    path: PathId,
+    text: &str,
+) -> Result<Diagnostics, OutOfMemory>
+    ensures { IfOk result (λ list. list ≡ diagnostics_of _budget path (chars text.now)) }
 {
-    let notes = notes_of(alloc, text)?;
+    let notes = notes_of(alloc, path, text)?;
     published(alloc, notes.as_slice(), text)
 }

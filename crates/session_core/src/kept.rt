@@ -13,12 +13,13 @@ use lsp_messages::Diagnostics;
 use std::marker::Model;
 use std::rc::RcStr;
 
-/// What was last published of a program, and the text that its list was made of, which it shares. Contracts see what was
-/// published.
+/// What was last published of a program, the text that its list was made of, which it shares, and the budget that it was
+/// made under. Contracts see what was published.
 #[derive(Drop)]
 pub(crate) struct KeptList {
     last: LastList,
     text: RcStr,
+    budget: u32,
 }
 
 impl Model for KeptList {
@@ -32,18 +33,19 @@ impl Model for KeptList {
 
     ghost view = { λ k. k.last };
 
-    ghost invariant = { λ k. k.last.list ≡ diagnostics_of (chars (rc_str_bytes k.text)) };
+    ghost invariant = { λ k. k.last.list ≡ diagnostics_of k.budget k.last.path (chars (rc_str_bytes k.text)) };
 }
 
 impl KeptList {
-    /// A list of the version that a program has now, made of this text.
+    /// A list of the version that a program has now, made of this text, where it may be given so many statements.
     pub(crate) fn new(
         path: PathId,
         document: &Document<'_>,
         list: Diagnostics,
         text: RcStr,
+        budget: u32,
     ) -> KeptList
-        requires { list ≡ diagnostics_of (chars (rc_str_bytes text)) }
+        requires { list ≡ diagnostics_of budget path (chars (rc_str_bytes text)) }
         ensures { result ≡ record { path = path; version = document.now.version; list = list } }
     {
         let last = LastList {
@@ -51,7 +53,7 @@ impl KeptList {
             version: document.version,
             list,
         };
-        KeptList { last, text }
+        KeptList { last, text, budget }
     }
 
     /// What was published.
@@ -68,10 +70,18 @@ impl KeptList {
         self.last.version == document.version
     }
 
-    /// Whether it is of the version that a document has now, and was made of this text: the list would be the same again.
-    pub(crate) fn is_of(&self, document: &Document<'_>, text: &str) -> bool
-        ensures { IsTrue result → is_published (Some self.now) document.now.version (diagnostics_of (chars text.now)) ≡ true }
+    /// Whether it was made of this text under this budget.
+    fn is_made_of(&self, text: &str, budget: u32) -> bool
+        ensures { IsTrue result → self.now.list ≡ diagnostics_of budget self.now.path (chars text.now) }
     {
-        self.is_of_version(document) && self.text.as_str() == text
+        self.budget == budget && self.text.as_str() == text
+    }
+
+    /// Whether it is of the version that a document has now, and was made of this text under this budget: the list would be
+    /// the same again.
+    pub(crate) fn is_of(&self, document: &Document<'_>, text: &str, budget: u32) -> bool
+        ensures { IsTrue result → is_published (Some self.now) document.now.version (diagnostics_of budget self.now.path (chars text.now)) ≡ true }
+    {
+        self.is_of_version(document) && self.is_made_of(text, budget)
     }
 }

@@ -21,28 +21,30 @@ fn row_of_fault(fault: ColumnFault) -> Row
     }
 }
 
-/// A note of the statement of open code that begins in a line, counted from 0.
-fn note_at(alloc: Global, line: u32, row: &Row) -> Result<Note, OutOfMemory>
-    ensures { IfOk result (λ note. note ≡ note_at line row.now) }
+/// A note of the statement of open code that begins in a line, counted from 0, of the text of a path.
+fn note_at(alloc: Global, path: PathId, line: u32, row: &Row) -> Result<Note, OutOfMemory>
+    ensures { IfOk result (λ note. note ≡ note_at path line row.now) }
 {
     let mut stack = Frames::new(alloc);
     stack.push(Frame {
         kind: FrameKind::OpenCode,
         name: None,
-        origin: Origin {
-            path: PathId(0),
-            line,
-        },
+        origin: Origin { path, line },
     })?;
     note(alloc, row, stack)
 }
 
 /// Adds the column faults of a statement.
-fn add_faults(alloc: Global, statement: &Statement, notes: &mut Notes) -> Result<(), OutOfMemory>
-    ensures { OnOk result (notes.new ≡ notes.old ++ fault_notes statement.now) }
+fn add_faults(
+    alloc: Global,
+    path: PathId,
+    statement: &Statement,
+    notes: &mut Notes,
+) -> Result<(), OutOfMemory>
+    ensures { OnOk result (notes.new ≡ notes.old ++ fault_notes path statement.now) }
 {
     for fault in statement.faults.as_slice() {
-        let note = note_at(alloc, statement.first, &row_of_fault(*fault))?;
+        let note = note_at(alloc, path, statement.first, &row_of_fault(*fault))?;
         notes.push(note)?;
     }
     Ok(())
@@ -75,31 +77,32 @@ fn has_end(statements: &[Statement]) -> bool
 /// Adds a missing END, where none of the statements of a text is one.
 fn add_missing_end(
     alloc: Global,
+    path: PathId,
     statements: &[Statement],
     notes: &mut Notes,
 ) -> Result<(), OutOfMemory>
     ensures { OnOk result ((count : ℕ) → FollowOn 0 statements.now count → 0 < count
-        → notes.new ≡ notes.old ++ end_notes statements.now count) }
+        → notes.new ≡ notes.old ++ end_notes path statements.now count) }
 {
     if has_end(statements) {
         return Ok(());
     }
     let line = last_line(statements);
-    notes.push(note_at(alloc, line, &Row::MissingEnd)?)?;
+    notes.push(note_at(alloc, path, line, &Row::MissingEnd)?)?;
     Ok(())
 }
 
-/// The notes of a text: the column faults of its statements by line, in each in the order of their codes, and then that
+/// The notes of the text of a path: the column faults of its statements by line, in each in the order of their codes, and then that
 /// no statement is an END, at the last line.
-pub fn notes_of(alloc: Global, text: &str) -> Result<Notes, OutOfMemory>
-    ensures { IfOk result (λ notes. notes ≡ notes_of (chars text.now)) }
+pub fn notes_of(alloc: Global, path: PathId, text: &str) -> Result<Notes, OutOfMemory>
+    ensures { IfOk result (λ notes. notes ≡ notes_of path (chars text.now)) }
 {
     let statements = read_statements(alloc, text)?;
     let statements = statements.as_slice();
     let mut notes = Notes::new(alloc);
     for statement in statements {
-        add_faults(alloc, statement, &mut notes)?;
+        add_faults(alloc, path, statement, &mut notes)?;
     }
-    add_missing_end(alloc, statements, &mut notes)?;
+    add_missing_end(alloc, path, statements, &mut notes)?;
     Ok(notes)
 }

@@ -130,17 +130,19 @@ pub(crate) fn last_list(published: &[KeptList], path: PathId) -> Option<&KeptLis
     published.iter().find(|kept| kept.last().path == path)
 }
 
-/// Whether the last list of a program is of the version that it has now and was made of this text.
+/// Whether the last list of a program is of the version that it has now and was made of this text under
+/// this budget.
 pub(crate) fn is_kept(
     published: &[KeptList],
     path: PathId,
     document: &Document<'_>,
     text: &str,
+    budget: u32,
 ) -> bool
-    ensures { IsTrue result → is_published (last_list published.now path) document.now.version (diagnostics_of (chars text.now)) ≡ true }
+    ensures { IsTrue result → is_published (last_list published.now path) document.now.version (diagnostics_of budget path (chars text.now)) ≡ true }
 {
     match last_list(published, path) {
-        Some(kept) => kept.is_of(document, text),
+        Some(kept) => kept.is_of(document, text, budget),
         None => false,
     }
 }

@@ -143,15 +143,15 @@ impl Standing {
             return Ok(Bodies::none(alloc));
         };
         let text = text_at(alloc, &self.store, path)?;
-        if is_kept(&self.published, path, &document, text.as_str()) {
+        if is_kept(&self.published, path, &document, text.as_str(), self.budget) {
             return Ok(Bodies::none(alloc));
         }
-        let list = diagnostics_of(alloc, text.as_str())?;
+        let list = diagnostics_of(alloc, self.budget, path, text.as_str())?;
         if is_published(&self.published, path, &document, list.as_slice()) {
             return Ok(Bodies::none(alloc));
         }
         let (body, list) = listed_body(alloc, &document, list)?;
-        let kept = KeptList::new(path, &document, list, text);
+        let kept = KeptList::new(path, &document, list, text, self.budget);
         keep_list(&mut self.published, kept)?;
         Bodies::one(alloc, body)
     }

@@ -5,4 +5,4 @@ use Rattle.session_core.proofs.notes.notes_of.Given as goal
 
 -- the statements so far have their faults noted
 abbrev pub invariant-loop-statement : goal.invariant-loop-statement
-invariant-loop-statement l = l.notes ≡ flat_map fault_notes (take l.statement-index l.statements)
+invariant-loop-statement l = l.notes ≡ flat_map (fault_notes l.path) (take l.statement-index l.statements)

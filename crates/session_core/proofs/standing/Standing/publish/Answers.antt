@@ -17,12 +17,12 @@ returns-then-is_kept c =
     let n = c.args.path in
     let shown = c.in-Some.document in
     let text = chars (rc_str_bytes c.in_ok-text.text) in
-    let is = listed s n shown text (diagnostics_of text) c.in-Some.ensures c.in_ok-text.ensures refl in
-    let old : is_published (last_list fields.published.items n) shown.version (diagnostics_of text) ≡ true =
-    ap (λ p. is_published (last_list p n) shown.version (diagnostics_of text)) (sym c.deref.ensures.value)
-    ∙ ap (λ b. is_published (last_list c.deref.result.now n) shown.version (diagnostics_of (chars b))) (sym c.as_str.ensures.value) ∙ c.is_kept.ensures c.if-is_kept.true in
+    let is = listed s n shown text (diagnostics_of s.budget n text) c.in-Some.ensures c.in_ok-text.ensures refl in
+    let old : is_published (last_list fields.published.items n) shown.version (diagnostics_of s.budget n text) ≡ true =
+    ap (λ p. is_published (last_list p n) shown.version (diagnostics_of s.budget n text)) (sym c.deref.ensures.value)
+    ∙ ap (λ b. is_published (last_list c.deref.result.now n) shown.version (diagnostics_of s.budget n (chars b))) (sym c.as_str.ensures.value) ∙ c.is_kept.ensures c.if-is_kept.true in
     with_bodies _ _ _ _ c.none-then-is_kept.ensures
-    (subst (λ z. IsStep (turn_at z n (document_at z.store n)) z []) c.self.view_is (publish_again s n shown (diagnostics_of text) is old))
+    (subst (λ z. IsStep (turn_at z n (document_at z.store n)) z []) c.self.view_is (publish_again s n shown (diagnostics_of s.budget n text) is old))
 
 pub returns-then-is_published : goal.returns-then-is_published
 returns-then-is_published c =
@@ -31,7 +31,7 @@ returns-then-is_published c =
     let n = c.args.path in
     let shown = c.in-Some.document in
     let list = c.in_ok-list.list in
-    let is = listed s n shown _ list c.in-Some.ensures c.in_ok-text.ensures (c.in_ok-list.ensures ∙ ap (λ b. diagnostics_of (chars b)) c.as_str-2.ensures.value) in
+    let is = listed s n shown _ list c.in-Some.ensures c.in_ok-text.ensures (c.in_ok-list.ensures ∙ ap (λ b. diagnostics_of s.budget n (chars b)) c.as_str-2.ensures.value) in
     let old : is_published (last_list fields.published.items n) shown.version list ≡ true =
     ap (λ p. is_published (last_list p n) shown.version list) (sym c.deref-2.ensures.value)
     ∙ ap (λ l. is_published (last_list c.deref-2.result.now n) shown.version l) (sym c.as_slice.ensures) ∙ sym c.is_published.ensures ∙ c.if-is_published.true in
@@ -45,7 +45,7 @@ returns c =
     let n = c.args.path in
     let shown = c.in-Some.document in
     let list = c.in_ok-list.list in
-    let is = listed s n shown _ list c.in-Some.ensures c.in_ok-text.ensures (c.in_ok-list.ensures ∙ ap (λ b. diagnostics_of (chars b)) c.as_str-2.ensures.value) in
+    let is = listed s n shown _ list c.in-Some.ensures c.in_ok-text.ensures (c.in_ok-list.ensures ∙ ap (λ b. diagnostics_of s.budget n (chars b)) c.as_str-2.ensures.value) in
     let fresh : is_published (last_list fields.published.items n) shown.version list ≡ false =
     ap (λ p. is_published (last_list p n) shown.version list) (sym c.deref-2.ensures.value)
     ∙ ap (λ l. is_published (last_list c.deref-2.result.now n) shown.version l) (sym c.as_slice.ensures) ∙ sym c.is_published.ensures ∙ c.if-is_published.false in
