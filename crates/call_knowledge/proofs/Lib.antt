@@ -1,0 +1,4 @@
+pub mod ListLaws
+pub mod DeedLaws
+pub mod MeaningLaws
+pub mod TellingLaws

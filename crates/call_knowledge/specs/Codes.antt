@@ -1,0 +1,25 @@
+-- How what a call knows is stored as tuples, so that it is a value that can be told apart. This project.
+use Rattle.std.specs.Prelude.{ℕ, List, refl}
+use Rattle.std.specs.Coded.{Coded, code_by, coded×, coded_ℕ, coded_list}
+use Rattle.set_symbols.specs.Codes.{table_code}
+use Rattle.set_symbols.specs.Table.{Table}
+use Rattle.call_knowledge.specs.declared.system.SystemVariable.{SystemVariable}
+use Rattle.call_knowledge.specs.Knowledge.{Knowledge}
+
+abbrev pub system_code : Coded SystemVariable
+system_code =
+    code_by
+    (List ℕ × List ℕ)
+    (coded× (coded_list coded_ℕ) (coded_list coded_ℕ))
+    (λ s. (s.name, s.text))
+    (λ t. record { name = t.0; text = t.1 })
+    (λ _. refl)
+
+abbrev pub knowledge_code : Coded Knowledge
+knowledge_code =
+    code_by
+    ((Table × Table) × (ℕ × List SystemVariable))
+    (coded× (coded× table_code table_code) (coded× coded_ℕ (coded_list system_code)))
+    (λ k. ((k.scalars, k.arrays), (k.branches, k.systems)))
+    (λ t. record { scalars = t.0.0; arrays = t.0.1; branches = t.1.0; systems = t.1.1 })
+    (λ _. refl)

@@ -1,0 +1,7 @@
+pub mod Knowledge
+pub mod Codes
+pub mod Standing
+pub mod Changes
+pub mod Deeds
+pub mod Tellings
+pub mod Views
