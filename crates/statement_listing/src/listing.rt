@@ -1,0 +1,149 @@
+//! Lists of statements.
+ghost use Rattle.std.specs.Prelude.{◌≡◌, IfOk, is_some, option_copied, option_map, slice_get};
+ghost use Rattle.statement_listing.specs.Listings.{elements, lent, listing_of, place_of};
+ghost use Rattle.statement_listing.specs.Sources.{plain_lines};
+ghost use Rattle.statement_listing.specs.Views.{lent_line, lent_of};
+
+use crate::index::{found_label, note_found};
+use crate::{Line, begun_behind, lines_of};
+use hl_base::{Name, Origin, OutOfMemory, PathId};
+use hlasm_statements::Statements;
+use indexmap::IndexMap;
+use statement_reading::ReadStatement;
+use std::alloc::Global;
+use std::marker::Model;
+use std::rc::Rc;
+
+/// What a list holds: its lines, those that are processed, and the places among these of their labels.
+#[derive(Drop)]
+struct Body {
+    lines: Vec<Line>,
+    points: Vec<Line>,
+    places: IndexMap<String, u32>,
+}
+
+/// A list of statements. Contracts see the list of them with the places where they stand. It is shared: `share` takes no
+/// memory.
+#[derive(Drop)]
+pub struct Listing {
+    body: Rc<Body>,
+}
+
+impl Model for Listing {
+    ghost use Rattle.std.specs.Prelude.{◌≡◌, List};
+    ghost use Rattle.statement_listing.specs.Listings.{Listed, elements};
+    ghost use Rattle.statement_listing.specs.Sources.{IsIndex, plain_lines};
+
+    ghost Value = { List Listed };
+
+    ghost view = { λ l. l.body.value.lines.items };
+
+    ghost invariant = { λ l. (l.body.value.points.items ≡ plain_lines l.body.value.lines.items) × IsIndex l.body.value.places.entries (elements l.body.value.lines.items) };
+}
+
+/// A statement that is processed: where it stands, and how it is read.
+#[derive(Drop)]
+pub struct Element<'a> {
+    pub origin: Origin,
+    pub reading: &'a ReadStatement,
+}
+
+/// A line as a statement that is processed, if it is.
+fn lend(line: &Line) -> Option<Element<'_>>
+    ensures { option_map lent_of result ≡ lent_line line.now }
+{
+    match line.reading() {
+        Some(reading) => Some(Element {
+            origin: line.origin(),
+            reading,
+        }),
+        None => None,
+    }
+}
+
+impl Listing {
+    /// The statements of the text of a path. `OutOfMemory` also where more are processed than a `u32` counts.
+    pub fn of(alloc: Global, path: PathId, statements: Statements) -> Result<Listing, OutOfMemory>
+        ensures { IfOk result (λ l. l ≡ listing_of path statements) }
+    {
+        Listing::of_lines(alloc, lines_of(alloc, path, statements)?)
+    }
+
+    /// A list of these lines. `OutOfMemory` also where more are processed than a `u32` counts.
+    pub fn of_lines(alloc: Global, lines: Vec<Line>) -> Result<Listing, OutOfMemory>
+        ensures { IfOk result (λ l. l ≡ lines.items) }
+    {
+        let mut points = Vec::new(alloc);
+        let mut places = IndexMap::new(alloc);
+        let mut begun = 0;
+        for line in lines.as_slice() {
+            let Some(reading) = line.reading() else {
+                continue;
+            };
+            let label = found_label(begun, &reading.sequence_label);
+            let place = points.as_slice().len();
+            note_found(&mut places, alloc, label, place)?;
+            begun = begun_behind(begun, &reading.instruction);
+            let point = line.share()?;
+            points.push(point)?;
+        }
+        let body = Body {
+            lines,
+            points,
+            places,
+        };
+        Ok(Listing {
+            body: Rc::new(alloc, body)?,
+        })
+    }
+
+    /// The same list. It takes no memory; an `Err` comes only where it is shared more often than can be counted.
+    pub fn share(&self) -> Result<Listing, OutOfMemory>
+        ensures { IfOk result (λ l. l ≡ self.now) }
+    {
+        Ok(Listing {
+            body: self.body.clone()?,
+        })
+    }
+
+    /// The lines in order, comments and blank statements among them.
+    pub fn lines(&self) -> &[Line]
+        ensures { result.now ≡ self.now }
+    {
+        self.body.lines.as_slice()
+    }
+
+    /// The line that is processed at this place.
+    fn point(&self, place: u32) -> Option<&Line>
+        ensures { option_copied result ≡ slice_get (plain_lines self.now) place }
+    {
+        match self.body.points.get(place as usize) {
+            Some(line) => Some(line),
+            None => None,
+        }
+    }
+
+    /// Whether a statement is processed at this place.
+    pub fn has(&self, place: u32) -> bool
+        ensures { result ≡ is_some (slice_get (elements self.now) place) }
+    {
+        self.point(place).is_some()
+    }
+
+    /// The statement that is processed at this place.
+    pub fn element(&self, place: u32) -> Option<Element<'_>>
+        ensures { option_map lent_of result ≡ option_map lent (slice_get (elements self.now) place) }
+    {
+        match self.point(place) {
+            Some(line) => lend(line),
+            None => None,
+        }
+    }
+
+    /// The place of the first statement that a branch to this sequence symbol finds.
+    pub fn place_of(&self, label: &Name) -> Option<u32>
+        ensures { result ≡ place_of label.now (elements self.now) }
+    {
+        self.body.places.get(label.text()).copied()
+    }
+}
