@@ -1,0 +1,5 @@
+pub mod Passages
+pub mod Acts
+pub mod Items
+pub mod Language
+pub mod Codes
