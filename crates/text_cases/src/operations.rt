@@ -1,8 +1,6 @@
 //! What a name means as an operation.
 use hl_base::{Name, OutOfMemory};
-use instruction_table::{
-    Format, Kind, Operation, encoding, length, operands, operation, optional,
-};
+use instruction_table::{Format, Kind, Operation, encoding, length, operands, operation, optional};
 use std::alloc::{AllocError, Global};
 
 /// The letters of a kind of operand.
