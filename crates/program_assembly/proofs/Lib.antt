@@ -5,3 +5,4 @@ pub mod PointLaws
 pub mod FlatRuns
 pub mod NoNesting
 pub mod PlainRuns
+pub mod OpenCode

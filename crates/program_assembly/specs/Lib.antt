@@ -3,3 +3,4 @@ pub mod PointNotes
 pub mod Stacks
 pub mod Notes
 pub mod Runs
+pub mod Assembly

@@ -14,7 +14,9 @@ mod column_notes;
 mod end_notes;
 mod notes;
 mod places;
+mod plain;
 mod point_notes;
 
 pub use assembler::Assembler;
 pub use assembly::{Assembly, assemble};
+pub use plain::assembly_notes;

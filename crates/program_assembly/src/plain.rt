@@ -1,0 +1,43 @@
+//! Assembling a program afresh.
+ghost use Rattle.std.specs.Prelude.{◌≡◌, IfOk};
+ghost use Rattle.std.specs.Rc.{rc_str_bytes};
+ghost use Rattle.std.specs.Str.{chars};
+ghost use Rattle.program_assembly.specs.Assembly.{assembly_notes};
+
+use crate::Assembly;
+use crate::assembly::assemble_text;
+use expansion_memo::Memo;
+use expansion_step::runs_are_expansions;
+use hl_base::{Ledger, Notes, OutOfMemory, PathId, Steps};
+use macro_expand::{Expander, HlasmLanguage};
+use program_world::ProgramWorld;
+use std::alloc::Global;
+use std::rc::RcStr;
+use trace_arena::TraceArena;
+
+/// What is reported of the program of a path and a text, with this SYSPARM and budget. It is assembled afresh, and nothing
+/// of the assembly is kept.
+pub fn assembly_notes<L: Ledger>(
+    alloc: Global,
+    path: PathId,
+    text: &RcStr,
+    parm: &str,
+    budget: u32,
+    steps: &mut Steps<L>,
+) -> Result<Notes, OutOfMemory>
+    ensures { IfOk result (λ notes. notes ≡ assembly_notes path.0 (chars (rc_str_bytes text.now)) (chars parm.now) budget) }
+{
+    runs_are_expansions::<HlasmLanguage, ProgramWorld>();
+    let machine = Expander::new(HlasmLanguage);
+    let mut memo: Memo<Expander> = Memo::new(alloc);
+    let mut arena = TraceArena::new(alloc);
+    let assembly = assemble_text(
+        &machine, alloc, path, text, parm, &mut memo, &mut arena, budget, steps,
+    )?;
+    let Assembly {
+        root: _,
+        points: _,
+        notes,
+    } = assembly;
+    Ok(notes)
+}
