@@ -1,0 +1,3 @@
+pub mod Pools
+pub mod Views
+pub mod Shown
