@@ -1,0 +1,6 @@
+pub mod TextLaws
+pub mod ParameterLaws
+pub mod PrototypeLaws
+pub mod SortingLaws
+pub mod BindingLaws
+pub mod ValueLaws
