@@ -16,7 +16,7 @@ import time
 HERE = os.path.dirname(os.path.realpath(__file__))
 PAGE = os.path.join(HERE, "README.md")
 BEGIN, END = "<!-- figures, written by make bench -->\n", "<!-- end of the figures -->\n"
-SCRIPTS = ["statements.sh", "expressions.sh", "edits.sh", "session.sh"]
+SCRIPTS = ["statements.sh", "expressions.sh", "edits.sh", "session.sh", "open_code.sh"]
 # More than so much of the processors' time in use: the figures would be those of a busy machine.
 MOST_BUSY = 0.05
 
@@ -72,6 +72,10 @@ ROWS = [
         r"one of 1 open programs.*: ([\d.]+) ms", most=1.1),
     Row("session.sh", "10,000 changes in one message, downwards", r"downwards.* (\d+) copies", "copies of the text", most=100),
     Row("session.sh", "10,000 changes in one message, upwards", r"upwards.* (\d+) copies", "copies of the text", most=100),
+    Row("open_code.sh", "50,000 statements assembled, without conditional assembly", r"assembled in ([\d.]+) ms", "ms", "reading them alone",
+        r"read alone in ([\d.]+) ms", most=4),
+    Row("open_code.sh", "a loop of 90,000 points", r"points: ([\d.]+) ms", "ms", most=150),
+    Row("open_code.sh", "memory of a point", r"(?m)^memory: (\d+) bytes", "bytes", most=300),
 ]
 
 

@@ -106,7 +106,6 @@ fn make_turns<S: Source, K: Sink, L: Ledger>(
     ensures faults { S.faults source.new ≡ S.faults source.old }
     ensures later { K.faults sink.old ≤ K.faults sink.new }
     ensures cause { HasStopCause result (K.faults sink.old) (K.faults sink.new) }
-    ensures steps { steps.new ≡ steps.old }
 {
     'queue: while session.has_work() {
         if is_held(source, *since) {
@@ -139,7 +138,6 @@ pub fn hear<S: Source, K: Sink, B: Library, L: Ledger>(
     ensures later { K.faults sink.old ≤ K.faults sink.new }
     ensures cause { HasStopCause result (K.faults sink.old) (K.faults sink.new) }
     ensures library { (B.calls library.new ≡ B.calls library.old) × (B.faults library.new ≡ B.faults library.old) }
-    ensures steps { steps.new ≡ steps.old }
 {
     match session.message(alloc, body, library, steps)? {
         Phase::Running => {

@@ -43,7 +43,6 @@ fn serve<S: Source, K: Sink, B: Library, L: Ledger>(
     ensures cause { HasStatusCause result (S.faults source.old) (S.faults source.new) (K.faults sink.old) (K.faults sink.new) }
     ensures words { result ≢ Status.BadWords }
     ensures library { (B.calls library.new ≡ B.calls library.old) × (B.faults library.new ≡ B.faults library.old) }
-    ensures steps { steps.new ≡ steps.old }
     ensures later_source { S.faults source.old ≤ S.faults source.new }
     ensures later_sink { K.faults sink.old ≤ K.faults sink.new }
 {
@@ -87,7 +86,7 @@ fn serve<S: Source, K: Sink, B: Library, L: Ledger>(
 /// messages came since the last Turn, it asks the source first whether more input waits, and then makes none. Any other
 /// words are `BadWords`, and nothing is read or written.
 ///
-/// The library and the steps are handed to the session, which asks nothing of them yet.
+/// The library is handed to the session, which asks nothing of it yet. An assembly counts in the steps; how much is not said.
 pub fn run<S: Source, K: Sink, B: Library, L: Ledger>(
     alloc: Global,
     words: &[String],
@@ -112,14 +111,14 @@ pub fn run<S: Source, K: Sink, B: Library, L: Ledger>(
         → Completes budget (B.calls library.old) (B.calls library.new) (S.waits source.old) (S.waits source.new)
         (S.left source.old) (S.left source.new) (K.held sink.old) (K.held sink.new) result }
 
-    // With wrong words nothing is read, asked or written.
+    // With wrong words nothing is read, asked, written or counted.
     ensures unread { result ≡ Status.BadWords → (S.left source.new ≡ S.left source.old) × (S.faults source.new ≡ S.faults source.old) }
     ensures unasked { result ≡ Status.BadWords → S.waits source.new ≡ S.waits source.old }
     ensures unwritten { result ≡ Status.BadWords → (K.held sink.new ≡ K.held sink.old) × (K.faults sink.new ≡ K.faults sink.old) }
+    ensures uncounted { result ≡ Status.BadWords → steps.new ≡ steps.old }
 
-    // Nothing is asked of the library or of the steps.
+    // Nothing is asked of the library.
     ensures library { (B.calls library.new ≡ B.calls library.old) × (B.faults library.new ≡ B.faults library.old) }
-    ensures steps { steps.new ≡ steps.old }
     ensures later_source { S.faults source.old ≤ S.faults source.new }
     ensures later_sink { K.faults sink.old ≤ K.faults sink.new }
 {

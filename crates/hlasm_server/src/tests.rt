@@ -350,7 +350,7 @@ const SESSIONS: [(&[&str], &[&str], Status); 9] = [
             INITIALIZED,
             r#"{"jsonrpc":"2.0","method":"textDocument/publishDiagnostics","params":{"diagnostics":[],"uri":"file:///w/a.hlasm","version":1}}"#,
             r#"{"jsonrpc":"2.0","method":"textDocument/publishDiagnostics","params":{"diagnostics":[],"uri":"file:///w/b.hlasm","version":4}}"#,
-            r#"{"jsonrpc":"2.0","method":"textDocument/publishDiagnostics","params":{"diagnostics":[{"code":"H003","message":"END statement is missing","range":{"end":{"character":0,"line":0},"start":{"character":0,"line":0}},"severity":2,"source":"hlasm_ls"}],"uri":"file:///w/b.hlasm","version":5}}"#,
+            r#"{"jsonrpc":"2.0","method":"textDocument/publishDiagnostics","params":{"diagnostics":[{"code":"H040","message":"operation AND is not defined","range":{"end":{"character":4,"line":0},"start":{"character":0,"line":0}},"severity":1,"source":"hlasm_ls"},{"code":"H003","message":"END statement is missing","range":{"end":{"character":0,"line":0},"start":{"character":0,"line":0}},"severity":2,"source":"hlasm_ls"}],"uri":"file:///w/b.hlasm","version":5}}"#,
             r#"{"jsonrpc":"2.0","method":"textDocument/publishDiagnostics","params":{"diagnostics":[],"uri":"file:///w/a.hlasm","version":2}}"#,
             r#"{"jsonrpc":"2.0","method":"textDocument/publishDiagnostics","params":{"diagnostics":[],"uri":"file:///w/b.hlasm"}}"#,
             SHUT,

@@ -1,6 +1,6 @@
 -- The list of diagnostics that an editor shows of a text (LSP 3.17, "PublishDiagnostics Notification"); its codes and
 -- places are this project's.
-use Rattle.std.specs.Prelude.{◌/◌, ◌%◌, ℕ, List, [], ◌∷◌, ◌++◌, codes, map, take, slice_index_or, if◌then◌else◌}
+use Rattle.std.specs.Prelude.{◌==◌, ◌/◌, ◌%◌, ℕ, List, [], ◌∷◌, ◌++◌, codes, map, take, slice_index_or, if◌then◌else◌}
 use Rattle.std.specs.Fmt.{decimal}
 use Rattle.std.specs.Str.{chars}
 use Rattle.hl_base.specs.Texts.{lines, units}
@@ -12,11 +12,15 @@ use Rattle.hl_base.specs.declared.place.PathId.{PathId}
 use Rattle.lsp_messages.specs.declared.outgoing.Span.{Span}
 use Rattle.lsp_messages.specs.declared.outgoing.Diagnostic.{Diagnostic}
 use Rattle.note_rows.specs.Table.{is_at_start}
-use Rattle.session_core.specs.Notes.{notes_of}
+use Rattle.program_assembly.specs.Assembly.{assembly_notes}
 
 -- the letter H and three digits
+abbrev pub numbered : ℕ → List ℕ
+numbered code = codes "H" ++ (decimal (code / 100 % 10) ++ (decimal (code / 10 % 10) ++ decimal (code % 10)))
+
+-- the code of a note; what the author of the text says with MNOTE has no number
 abbrev pub code_text : ℕ → List ℕ
-code_text code = codes "H" ++ (decimal (code / 100 % 10) ++ (decimal (code / 10 % 10) ++ decimal (code % 10)))
+code_text code = if code == 0 then codes "MNOTE" else numbered code
 
 -- the line of the statement of open code
 abbrev pub line_of : List Frame → ℕ
@@ -61,6 +65,7 @@ most_published = 1000
 unfoldable pub published : List Note → List ℕ → List Diagnostic
 published notes text = map (diagnostic_of_note (lines text)) (take most_published notes)
 
--- The diagnostics of the text of a path, where a program may be given so many statements. No statement is counted yet.
+-- The diagnostics of a program: those of the notes of an assembly of its text, which is that of a path, where it may be given
+-- so many statements. SYSPARM is empty.
 unfoldable pub diagnostics_of : (budget : ℕ) → PathId → List ℕ → List Diagnostic
-diagnostics_of budget path text = published (notes_of path text) text
+diagnostics_of budget path text = published (assembly_notes path.0 text [] budget) text

@@ -4,7 +4,6 @@ pub mod Held
 pub mod Inside
 pub mod Laws
 pub mod Message
-pub mod Notes
 pub mod Refusals
 pub mod Replies
 pub mod Same

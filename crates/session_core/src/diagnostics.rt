@@ -1,15 +1,19 @@
 //! The list of diagnostics of a text (LSP 3.17, "PublishDiagnostics Notification").
 ghost use Rattle.std.specs.Prelude.{◌≡◌, ◌≤◌, ℕ, List, IfOk, map, length, slice_index_or, [], take};
+ghost use Rattle.std.specs.Rc.{rc_str_bytes};
 ghost use Rattle.std.specs.Str.{chars};
 ghost use Rattle.hl_base.specs.Texts.{lines};
-ghost use Rattle.session_core.specs.Diagnostics.{code_text, line_of, width_of, span_of_note, severity_number, diagnostic_of_note, published, diagnostics_of};
+ghost use Rattle.session_core.specs.Diagnostics.{numbered, code_text, line_of, width_of, span_of_note, severity_number, diagnostic_of_note, published, diagnostics_of};
 
-use crate::notes::notes_of;
-use hl_base::{Frame, Note, OutOfMemory, PathId, Position, Severity, Text, lines, units};
+use hl_base::{
+    Frame, Ledger, Note, OutOfMemory, PathId, Position, Severity, Steps, Text, lines, units,
+};
 use hlasm_statements::split_columns;
 use lsp_messages::{Diagnostic, Diagnostics, Relations, Span};
 use note_rows::stands_at_start;
+use program_assembly::assembly_notes;
 use std::alloc::Global;
+use std::rc::RcStr;
 
 /// The columns that a note is shown over: those of a statement.
 const SHOWN_COLUMNS: usize = 71;
@@ -17,15 +21,26 @@ const SHOWN_COLUMNS: usize = 71;
 /// At most so many notes of a document are sent.
 const MOST_PUBLISHED: usize = 1000;
 
-/// The letter H and the three digits of a code.
-fn code_text(alloc: Global, code: u16) -> Result<Text, OutOfMemory>
-    ensures { IfOk result (λ text. text ≡ chars (code_text code)) }
+/// The letter H and the three digits of a number.
+fn numbered(alloc: Global, code: u16) -> Result<Text, OutOfMemory>
+    ensures { IfOk result (λ text. text ≡ chars (numbered code)) }
 {
     let hundreds = code / 100 % 10;
     let tens = code / 10 % 10;
     let ones = code % 10;
     let digits = format!(in alloc; "H{hundreds}{tens}{ones}")?;
     Text::of(alloc, &digits)
+}
+
+/// The code of a note; what the author of the text says with MNOTE has no number.
+fn code_text(alloc: Global, code: u16) -> Result<Text, OutOfMemory>
+    ensures { IfOk result (λ text. text ≡ chars (code_text code)) }
+{
+    if code == 0 {
+        Text::of(alloc, "MNOTE")
+    } else {
+        numbered(alloc, code)
+    }
 }
 
 /// The width of the shown columns of a line, in UTF-16 units.
@@ -113,16 +128,18 @@ pub fn published(alloc: Global, notes: &[Note], text: &str) -> Result<Diagnostic
     Ok(list)
 }
 
-/// The diagnostics of the text of a path, where a program may be given so many statements. No statement is counted yet.
+/// The diagnostics of a program: those of an assembly of its text, which is that of a path, where it may be given so many
+/// statements. SYSPARM is empty.
 #[tactic(auto, unfolding(crate::specs::Diagnostics::diagnostics_of))]
-pub fn diagnostics_of(
+pub fn diagnostics_of<L: Ledger>(
     alloc: Global,
-    _budget: u32,
+    budget: u32,
     path: PathId,
-    text: &str,
+    text: &RcStr,
+    steps: &mut Steps<L>,
 ) -> Result<Diagnostics, OutOfMemory>
-    ensures { IfOk result (λ list. list ≡ diagnostics_of _budget path (chars text.now)) }
+    ensures { IfOk result (λ list. list ≡ diagnostics_of budget path (chars (rc_str_bytes text.now))) }
 {
-    let notes = notes_of(alloc, path, text)?;
-    published(alloc, notes.as_slice(), text)
+    let notes = assembly_notes(alloc, path, text, "", budget, steps)?;
+    published(alloc, notes.as_slice(), text.as_str())
 }

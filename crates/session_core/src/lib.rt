@@ -9,7 +9,7 @@
 //!
 //! Within the crate, `receiving` goes from a body to what it does: `lifecycle` begins and ends the session, `requests` and
 //! `notifications` take the others, `replies` has the bodies written. `standing` has the state and its Turns, `programs`
-//! the queue and the documents by number, `kept` the last list of a program, `notes` and `diagnostics` the list of a text, `same` when two lists are the same.
+//! the queue and the documents by number, `kept` the last list of a program, `diagnostics` the list of a program, `same` when two lists are the same.
 #![tactic(auto)]
 
 mod bodies;
@@ -18,7 +18,6 @@ mod fault;
 mod kept;
 pub mod laws;
 mod lifecycle;
-mod notes;
 mod notifications;
 mod phase;
 mod programs;

@@ -10,7 +10,7 @@ use crate::replies;
 use crate::requests::{out_of_place, too_early};
 use crate::standing::Standing;
 use crate::state::Stage;
-use hl_base::{OutOfMemory, Text};
+use hl_base::{Ledger, OutOfMemory, Steps, Text};
 use lsp_messages::Id;
 use std::alloc::Global;
 
@@ -56,22 +56,32 @@ impl Standing {
     }
 
     /// `shutdown`: the lists of all queued programs, and then the reply.
-    pub(crate) fn shutdown(&mut self, alloc: Global, id: Id) -> Result<Bodies, OutOfMemory>
+    pub(crate) fn shutdown<L: Ledger>(
+        &mut self,
+        alloc: Global,
+        id: Id,
+        steps: &mut Steps<L>,
+    ) -> Result<Bodies, OutOfMemory>
         ensures { IfOk result (λ bodies. IsStep (messages.asked self.old (Ok (said.Shutdown id))) self.new bodies) }
     {
         match self.stage {
             Stage::Fresh => too_early(alloc, id),
-            Stage::Active => self.shut(alloc, id),
+            Stage::Active => self.shut(alloc, id, steps),
             Stage::Closing => out_of_place(alloc, id),
             Stage::Ended { .. } => out_of_place(alloc, id),
         }
     }
 
     /// The lists, and then the reply.
-    fn shut(&mut self, alloc: Global, id: Id) -> Result<Bodies, OutOfMemory>
+    fn shut<L: Ledger>(
+        &mut self,
+        alloc: Global,
+        id: Id,
+        steps: &mut Steps<L>,
+    ) -> Result<Bodies, OutOfMemory>
         ensures { IfOk result (λ bodies. IsStep (messages.shut self.old id) self.new bodies) }
     {
-        let mut bodies = self.assemble_all(alloc)?;
+        let mut bodies = self.assemble_all(alloc, steps)?;
         let reply = replies::shutdown_reply(alloc, id)?;
         bodies.push(reply)?;
         self.stage = Stage::Closing;

@@ -13,7 +13,7 @@ use crate::bodies::Bodies;
 use crate::replies;
 use crate::standing::Standing;
 use crate::state::Stage;
-use hl_base::OutOfMemory;
+use hl_base::{Ledger, OutOfMemory, Steps};
 use json_view::{ParseFault, parse};
 use lsp_messages::{LspIn, Refusal, is_response, read_lsp};
 use serde_json::Value;
@@ -22,14 +22,19 @@ use std::alloc::Global;
 impl Standing {
     /// Takes one message, and answers what is written for it.
     #[tactic(auto, unfolding(crate::specs::Message::message))]
-    pub(crate) fn message(&mut self, alloc: Global, body: &[u8]) -> Result<Bodies, OutOfMemory>
+    pub(crate) fn message<L: Ledger>(
+        &mut self,
+        alloc: Global,
+        body: &[u8],
+        steps: &mut Steps<L>,
+    ) -> Result<Bodies, OutOfMemory>
         ensures { IfOk result (λ bodies. IsStep (messages.message self.old body.now []) self.new bodies) }
     {
         if self.is_ended() {
             return Ok(Bodies::none(alloc));
         }
         match parse(alloc, body) {
-            Ok(value) => self.hear(alloc, &value),
+            Ok(value) => self.hear(alloc, &value, steps),
             Err(ParseFault::NotJson) => {
                 let refusal = replies::parse_error(alloc)?;
                 Bodies::one(alloc, refusal)
@@ -51,34 +56,49 @@ impl Standing {
     }
 
     /// Takes a value; the answers of a client are passed over, since nothing was asked of it.
-    fn hear(&mut self, alloc: Global, value: &Value) -> Result<Bodies, OutOfMemory>
+    fn hear<L: Ledger>(
+        &mut self,
+        alloc: Global,
+        value: &Value,
+        steps: &mut Steps<L>,
+    ) -> Result<Bodies, OutOfMemory>
         ensures { IfOk result (λ bodies. IsStep (messages.heard self.old (view value.now)) self.new bodies) }
     {
         if is_response(value) {
             return Ok(Bodies::none(alloc));
         }
         let told = read_lsp(alloc, value);
-        self.answer(alloc, told)
+        self.answer(alloc, told, steps)
     }
 
     /// Takes a message, or what was read in place of one.
-    fn answer(&mut self, alloc: Global, told: Result<LspIn, Refusal>) -> Result<Bodies, OutOfMemory>
+    fn answer<L: Ledger>(
+        &mut self,
+        alloc: Global,
+        told: Result<LspIn, Refusal>,
+        steps: &mut Steps<L>,
+    ) -> Result<Bodies, OutOfMemory>
         ensures { IfOk result (λ bodies. (wanted : Result LspIn Refusal) → IsReading told wanted
             → IsStep (messages.asked self.old wanted) self.new bodies) }
     {
         match told {
-            Ok(message) => self.take(alloc, message),
+            Ok(message) => self.take(alloc, message, steps),
             Err(refusal) => self.refuse(alloc, refusal),
         }
     }
 
     /// Takes a message of a known method with right parameters.
-    fn take(&mut self, alloc: Global, message: LspIn) -> Result<Bodies, OutOfMemory>
+    fn take<L: Ledger>(
+        &mut self,
+        alloc: Global,
+        message: LspIn,
+        steps: &mut Steps<L>,
+    ) -> Result<Bodies, OutOfMemory>
         ensures { IfOk result (λ bodies. IsStep (messages.asked self.old (Ok message)) self.new bodies) }
     {
         match message {
             LspIn::Initialize { id, root } => self.initialize(alloc, id, root),
-            LspIn::Shutdown { id } => self.shutdown(alloc, id),
+            LspIn::Shutdown { id } => self.shutdown(alloc, id, steps),
             LspIn::Exit => Ok(self.exit(alloc)),
             LspIn::Initialized => self.initialized(alloc),
             LspIn::DidOpen {

@@ -47,7 +47,7 @@ fn phase_of(standing: &Standing) -> Phase
 }
 
 impl Session {
-    /// Before the first message. A program may be given so many statements in a Turn, once statements are processed.
+    /// Before the first message. A program may be given so many statements in a Turn.
     pub fn new(alloc: Global, budget: u32) -> Result<Session, OutOfMemory>
         ensures { IfOk result (λ session. session ≡ beginning budget) }
     {
@@ -60,20 +60,25 @@ impl Session {
     }
 
     /// Takes a message, and adds what is written for it to the output last.
-    fn hear(&mut self, alloc: Global, body: &[u8]) -> Result<(), OutOfMemory>
+    fn hear<L: Ledger>(
+        &mut self,
+        alloc: Global,
+        body: &[u8],
+        steps: &mut Steps<L>,
+    ) -> Result<(), OutOfMemory>
         ensures ok { OnOk result (Adds (message self.old.state body.now []) self.old self.new) }
         ensures err { OnErr result (KeepsOutput self.old self.new) }
     {
-        let bodies = self.standing.message(alloc, body)?;
+        let bodies = self.standing.message(alloc, body, steps)?;
         bodies.write_to(alloc, &mut self.output)
     }
 
     /// Makes a Turn, and adds what it publishes to the output last.
-    fn publish(&mut self, alloc: Global) -> Result<(), OutOfMemory>
+    fn publish<L: Ledger>(&mut self, alloc: Global, steps: &mut Steps<L>) -> Result<(), OutOfMemory>
         ensures ok { OnOk result (Adds (turn self.old.state) self.old self.new) }
         ensures err { OnErr result (KeepsOutput self.old self.new) }
     {
-        let bodies = self.standing.turn(alloc)?;
+        let bodies = self.standing.turn(alloc, steps)?;
         bodies.write_to(alloc, &mut self.output)
     }
 
@@ -88,14 +93,12 @@ impl Session {
         ensures comes { Comes result (message self.old.state body.now []) self.old self.new }
         ensures phase { IfOk result (λ phase. phase ≡ phase_of self.new.state) }
         ensures library { (B.calls library.new ≡ B.calls library.old) × (B.faults library.new ≡ B.faults library.old) }
-        ensures steps { steps.new ≡ steps.old }
     {
         let _ = library;
-        let _ = steps;
         if self.spent {
             return Err(SessionFault::Spent);
         }
-        match self.hear(alloc, body) {
+        match self.hear(alloc, body, steps) {
             Ok(()) => Ok(phase_of(&self.standing)),
             Err(_) => {
                 self.spent = true;
@@ -119,13 +122,11 @@ impl Session {
     ) -> Result<(), SessionFault>
         requires work { self.old.state.queue ≢ [] }
         ensures comes { Comes result (turn self.old.state) self.old self.new }
-        ensures steps { steps.new ≡ steps.old }
     {
-        let _ = steps;
         if self.spent {
             return Err(SessionFault::Spent);
         }
-        match self.publish(alloc) {
+        match self.publish(alloc, steps) {
             Ok(()) => Ok(()),
             Err(_) => {
                 self.spent = true;

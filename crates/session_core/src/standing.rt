@@ -15,7 +15,7 @@ use crate::replies;
 use crate::same::is_same_list;
 use crate::state::Stage;
 use document_store::{Document, DocumentStore};
-use hl_base::{OutOfMemory, PathId, Text};
+use hl_base::{Ledger, OutOfMemory, PathId, Steps, Text};
 use lsp_messages::{Diagnostic, Diagnostics};
 use std::alloc::Global;
 use std::marker::Model;
@@ -106,10 +106,14 @@ impl Standing {
     }
 
     /// Makes one Turn, and answers what is written for it. After an `Err` the state is not to be used.
-    pub(crate) fn turn(&mut self, alloc: Global) -> Result<Bodies, OutOfMemory>
+    pub(crate) fn turn<L: Ledger>(
+        &mut self,
+        alloc: Global,
+        steps: &mut Steps<L>,
+    ) -> Result<Bodies, OutOfMemory>
         ensures { IfOk result (λ bodies. IsStep (turn self.old) self.new bodies) }
     {
-        let mut bodies = self.assemble_first(alloc)?;
+        let mut bodies = self.assemble_first(alloc, steps)?;
         let answers = self.answer_waiting(alloc);
         bodies.append(answers)?;
         Ok(bodies)
@@ -123,20 +127,29 @@ impl Standing {
     }
 
     /// Takes the first program from the queue, and publishes its list. After an `Err` the state is not to be used.
-    fn assemble_first(&mut self, alloc: Global) -> Result<Bodies, OutOfMemory>
+    fn assemble_first<L: Ledger>(
+        &mut self,
+        alloc: Global,
+        steps: &mut Steps<L>,
+    ) -> Result<Bodies, OutOfMemory>
         ensures { IfOk result (λ bodies. IsStep (assemble_first self.old) self.new bodies) }
     {
         let Some(path) = self.queue.first().copied() else {
             return Ok(Bodies::none(alloc));
         };
-        let bodies = self.publish(alloc, path)?;
+        let bodies = self.publish(alloc, path, steps)?;
         let _ = self.queue.remove(0);
         Ok(bodies)
     }
 
     /// Publishes the list of a program, unless it was already. Where its last list is of this version and was made of this
     /// text, none is made.
-    fn publish(&mut self, alloc: Global, path: PathId) -> Result<Bodies, OutOfMemory>
+    fn publish<L: Ledger>(
+        &mut self,
+        alloc: Global,
+        path: PathId,
+        steps: &mut Steps<L>,
+    ) -> Result<Bodies, OutOfMemory>
         ensures { IfOk result (λ bodies. IsStep (turn_at self.old path (document_at self.old.store path)) self.new bodies) }
     {
         let Some(document) = document_at(&self.store, path) else {
@@ -146,7 +159,7 @@ impl Standing {
         if is_kept(&self.published, path, &document, text.as_str(), self.budget) {
             return Ok(Bodies::none(alloc));
         }
-        let list = diagnostics_of(alloc, self.budget, path, text.as_str())?;
+        let list = diagnostics_of(alloc, self.budget, path, &text, steps)?;
         if is_published(&self.published, path, &document, list.as_slice()) {
             return Ok(Bodies::none(alloc));
         }
@@ -181,12 +194,16 @@ impl Standing {
     }
 
     /// Publishes the lists of all queued programs.
-    pub(crate) fn assemble_all(&mut self, alloc: Global) -> Result<Bodies, OutOfMemory>
+    pub(crate) fn assemble_all<L: Ledger>(
+        &mut self,
+        alloc: Global,
+        steps: &mut Steps<L>,
+    ) -> Result<Bodies, OutOfMemory>
         ensures { IfOk result (λ bodies. IsStep (assemble_all self.old) self.new bodies) }
     {
         let mut bodies = Bodies::none(alloc);
         'queue: while self.has_work() {
-            let more = self.assemble_first(alloc)?;
+            let more = self.assemble_first(alloc, steps)?;
             bodies.append(more)?;
         }
         Ok(bodies)

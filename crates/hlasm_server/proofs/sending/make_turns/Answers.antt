@@ -10,7 +10,6 @@ queue-init g c = record {
   turning = turning_begins c.args.session.now c.args.since.now _ _ _ c.requires.ready;
   left = refl;
   faults = refl;
-  steps = refl;
 }
 
 pub returns-then-is_held-clause-makes : goal.returns-then-is_held-clause-makes
@@ -44,5 +43,4 @@ queue-preserved g c =
           c.put_output.ensures.rest c.in_ok-put_output.ensures.ok c.put_output.ensures.later;
       left = c.is_held.ensures.left ∙ c.queue.invariant.left;
       faults = c.is_held.ensures.faults ∙ c.queue.invariant.faults;
-      steps = c.turn.ensures.steps ∙ c.queue.invariant.steps;
     }

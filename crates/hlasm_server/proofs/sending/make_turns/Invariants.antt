@@ -12,7 +12,6 @@ invariant-queue g l =
           (k.held l.initial.sink) (k.held l.sink) (k.faults l.initial.sink) (k.faults l.sink);
       left : s.left l.source ≡ s.left l.initial.source;
       faults : s.faults l.source ≡ s.faults l.initial.source;
-      steps : l.steps ≡ l.initial.steps;
     }
 
 abbrev pub decreases-queue : goal.decreases-queue

@@ -15,7 +15,6 @@ loop-body-init g c =
       buffer = refl;
       calls = refl;
       faults = refl;
-      steps = refl;
     }
 
 pub next_body-requires-clause-buffer : goal.next_body-requires-clause-buffer
@@ -106,5 +105,4 @@ loop-body-preserved g c =
       buffer = c.next_body.auto.buffer ∙ c.loop-body.invariant.buffer;
       calls = c.hear.ensures.library.0 ∙ c.loop-body.invariant.calls;
       faults = c.hear.ensures.library.1 ∙ c.loop-body.invariant.faults;
-      steps = c.hear.ensures.steps ∙ c.loop-body.invariant.steps;
     }

@@ -16,7 +16,6 @@ invariant-loop-body g l =
       buffer : length l.buffer ≡ LARGEST_PIECE;
       calls : b.calls l.library ≡ b.calls l.initial.library;
       faults : b.faults l.library ≡ b.faults l.initial.library;
-      steps : l.steps ≡ l.initial.steps;
     }
 
 abbrev pub decreases-loop-body : goal.decreases-loop-body

@@ -4,7 +4,7 @@ use Rattle.session_core.proofs.standing.Standing.assemble_all.Given as goal
 
 -- what is written so far, and what is left, are all
 abbrev pub invariant-queue : goal.invariant-queue
-invariant-queue l = IsTurning l.initial.self l.self l.bodies
+invariant-queue g l = IsTurning l.initial.self l.self l.bodies
 
 abbrev pub decreases-queue : goal.decreases-queue
-decreases-queue l = length l.self.queue
+decreases-queue g l = length l.self.queue

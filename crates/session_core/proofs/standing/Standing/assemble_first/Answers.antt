@@ -7,13 +7,13 @@ use Rattle.session_core.proofs.TurnLaws.{turn_first, turn_none}
 use Rattle.session_core.proofs.standing.Standing.assemble_first.Goals as goal
 
 pub returns-in_default : goal.returns-in_default
-returns-in_default c =
+returns-in_default g c =
     let first : slice_get c.args.self.now.queue 0 ≡ c.copied.result =
     ap (λ (z : State). slice_get z.queue 0) (sym c.self.view_is) ∙ ap (λ q. slice_get q 0) (sym c.deref.ensures.value) ∙ sym c.first.ensures.value ∙ sym c.copied.ensures in
     with_bodies _ _ _ _ c.none.ensures (turn_none c.args.self.now (first ∙ c.in_default.is))
 
 pub returns : goal.returns
-returns c =
+returns g c =
     let first : slice_get c.args.self.now.queue 0 ≡ c.copied.result =
     ap (λ (z : State). slice_get z.queue 0) (sym c.self.view_is) ∙ ap (λ q. slice_get q 0) (sym c.deref.ensures.value) ∙ sym c.first.ensures.value ∙ sym c.copied.ensures in
     let done = turn_first c.args.self.now c.publish.new.self c.in-Some.path _ (first ∙ c.in-Some.is) c.in_ok-bodies.ensures in

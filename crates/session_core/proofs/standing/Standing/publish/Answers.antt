@@ -11,7 +11,7 @@ use Rattle.session_core.proofs.TextLaws.{listed, publish_again, publish_new}
 use Rattle.session_core.proofs.standing.Standing.publish.Goals as goal
 
 pub returns-then-is_kept : goal.returns-then-is_kept
-returns-then-is_kept c =
+returns-then-is_kept g c =
     let fields = c.self.inside in
     let s : State = record { stage = fields.stage; root = fields.root; budget = fields.budget; store = fields.store.store; queue = fields.queue.items; published = fields.published.items } in
     let n = c.args.path in
@@ -25,13 +25,13 @@ returns-then-is_kept c =
     (subst (λ z. IsStep (turn_at z n (document_at z.store n)) z []) c.self.view_is (publish_again s n shown (diagnostics_of s.budget n text) is old))
 
 pub returns-then-is_published : goal.returns-then-is_published
-returns-then-is_published c =
+returns-then-is_published g c =
     let fields = c.self.inside in
     let s : State = record { stage = fields.stage; root = fields.root; budget = fields.budget; store = fields.store.store; queue = fields.queue.items; published = fields.published.items } in
     let n = c.args.path in
     let shown = c.in-Some.document in
     let list = c.in_ok-list.list in
-    let is = listed s n shown _ list c.in-Some.ensures c.in_ok-text.ensures (c.in_ok-list.ensures ∙ ap (λ b. diagnostics_of s.budget n (chars b)) c.as_str-2.ensures.value) in
+    let is = listed s n shown _ list c.in-Some.ensures c.in_ok-text.ensures c.in_ok-list.ensures in
     let old : is_published (last_list fields.published.items n) shown.version list ≡ true =
     ap (λ p. is_published (last_list p n) shown.version list) (sym c.deref-2.ensures.value)
     ∙ ap (λ l. is_published (last_list c.deref-2.result.now n) shown.version l) (sym c.as_slice.ensures) ∙ sym c.is_published.ensures ∙ c.if-is_published.true in
@@ -39,13 +39,13 @@ returns-then-is_published c =
     (subst (λ z. IsStep (turn_at z n (document_at z.store n)) z []) c.self.view_is (publish_again s n shown list is old))
 
 pub returns : goal.returns
-returns c =
+returns g c =
     let fields = c.self.inside in
     let s : State = record { stage = fields.stage; root = fields.root; budget = fields.budget; store = fields.store.store; queue = fields.queue.items; published = fields.published.items } in
     let n = c.args.path in
     let shown = c.in-Some.document in
     let list = c.in_ok-list.list in
-    let is = listed s n shown _ list c.in-Some.ensures c.in_ok-text.ensures (c.in_ok-list.ensures ∙ ap (λ b. diagnostics_of s.budget n (chars b)) c.as_str-2.ensures.value) in
+    let is = listed s n shown _ list c.in-Some.ensures c.in_ok-text.ensures c.in_ok-list.ensures in
     let fresh : is_published (last_list fields.published.items n) shown.version list ≡ false =
     ap (λ p. is_published (last_list p n) shown.version list) (sym c.deref-2.ensures.value)
     ∙ ap (λ l. is_published (last_list c.deref-2.result.now n) shown.version l) (sym c.as_slice.ensures) ∙ sym c.is_published.ensures ∙ c.if-is_published.false in
