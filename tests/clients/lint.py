@@ -21,6 +21,7 @@ MARGIN = "error: columns 1 to 15 of a continuation line are not blank [H001]"
 SURPLUS = "error: more than nine continuation lines [H002]"
 NO_END = "warning: END statement is missing [H003]"
 CUT = "warning: the text ends where a continuation line is expected [H005]"
+OPEN = "error: an apostrophe is not closed [H006]"
 
 END = "         END\n"
 
@@ -44,8 +45,8 @@ LISTED = [
     ("at_column_16.hlasm", marked("A        LR    1,2") + " " * 15 + "B\n" + END, []),
     ("nine.hlasm", marked("*") + marked("") * 8 + "\n" + END, []),
     ("ten.hlasm", marked("*") + marked("") * 9 + "\n" + END, [f"1:1: {SURPLUS}"]),
-    ("ten_of_a_constant.hlasm", marked("A        DC    X'") + marked("") * 9 + " " * 15 + "00'\n" + END, [f"1:1: {SURPLUS}"]),
-    ("ten_of_a_macro_call.hlasm", marked("         CALL  1,") + marked(" " * 15 + "2,") * 9 + " " * 15 + "3\n" + END, []),
+    ("ten_of_a_constant.hlasm", marked("A        DC    X'") + marked("") * 9 + " " * 15 + "00'\n" + END, [f"1:1: {SURPLUS}", f"1:1: {OPEN}"]),
+    ("ten_of_a_condition.hlasm", marked("         AIF   (0).A,") + marked(" " * 15 + "(0).A,") * 9 + " " * 15 + "(1).B\n.A       LR    1\n.B" + END[2:], []),
     ("cut.hlasm", END + marked("*")[:-1], [f"2:1: {CUT}"]),
     ("order.hlasm", "\n" + marked("*") + "*\n" + BAD_MARGIN, [f"2:1: {MARGIN}", f"4:1: {MARGIN}", f"6:1: {NO_END}"]),
     ("crlf.hlasm", ("\n" + BAD_MARGIN + END).replace("\n", "\r\n"), [f"2:1: {MARGIN}"]),
@@ -126,18 +127,28 @@ class Lint(unittest.TestCase):
         """Each code has examples that give exactly it: a ruler above, no line end behind, and below it what is listed."""
         with open(os.path.join(TOP, "docs/USER.md"), encoding="utf-8") as file:
             sections = re.split(r"\n(?=##)", file.read())
-        heads = [re.match(r"### (\w+) \((\w+)\): (.*)\n", section) for section in sections]
+        heads = [re.match(r"### (\w+) \(([\w ]+)\): (.*)\n", section) for section in sections]
         for head, section in [it for it in zip(heads, sections) if it[0]]:
             code, severity, says = head.groups()
             examples = re.findall(r"```hlasm\n.*\n([^`]*)\n```\n```text\n(.*)\n```\n", section)
             self.assertNotEqual([], examples, code)
             for text, listed in examples:
                 with self.subTest(listed):
-                    self.assertRegex(listed, rf"^example.hlasm:\d+:\d+: {severity}: {re.escape(says)} \[{code}\]$")
-                    self.assertEqual([listed], lint(self.file("example.hlasm", text), folder=self.folder)[1])
+                    self.assertRegex(listed, rf"^example.hlasm:\d+:\d+: {self.any_of(severity)}: {self.any_of(says)} \[{code}\]$")
+                    self.assertEqual([listed], lint(self.file("example.hlasm", text), folder=self.folder, program=self.server_of(section))[1])
         with open(os.path.join(TOP, "README.md"), encoding="utf-8") as file:
-            table = re.findall(r"^\| `(H\d+)` \| (\w+) \| ", file.read(), re.MULTILINE)
+            table = re.findall(r"^\| `(H\d+|MNOTE)` \| ([\w ]+) \| ", file.read(), re.MULTILINE)
         self.assertEqual(table, [head.groups()[:2] for head in heads if head])
+
+    @staticmethod
+    def any_of(says):
+        """A pattern of a title, in which words in capitals stand for names, texts and numbers."""
+        return re.sub(r"\bby its operand\b", r"\\w+", re.sub(r"\bTEXT\b", ".+", re.sub(r"\b(NAME|N)\b", r"\\w+", says)))
+
+    def server_of(self, section):
+        """The program, under the budget that a section names."""
+        budget = re.search(r"With `--budget (\d+)`", section)
+        return self.script("budgeted", f"exec '{server}' serve --budget {budget[1]}") if budget else None
 
     def test_what_is_listed(self):
         for name, text, reports in LISTED:
