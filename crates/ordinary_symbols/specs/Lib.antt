@@ -1,0 +1,7 @@
+pub mod Known
+pub mod Sections
+pub mod Values
+pub mod Table
+pub mod Rounds
+pub mod Views
+pub mod Shown
