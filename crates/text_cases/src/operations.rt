@@ -58,9 +58,11 @@ fn machine(alloc: Global, format: Format) -> Result<String, AllocError> {
 
 /// What a name means: a machine instruction, or what the operation is for.
 pub fn meaning(alloc: Global, text: &str) -> Result<String, OutOfMemory> {
-    match Name::read(text).as_ref().map(operation) {
-        Some(Operation::Machine(format)) => Ok(machine(alloc, format)?),
-        Some(other) => Ok(format!(in alloc; "{other:?}")?),
-        None => Ok(String::from_str(alloc, "no name")?),
+    let Some(name) = Name::read(text) else {
+        return Ok(String::from_str(alloc, "no name")?);
+    };
+    match operation(&name) {
+        Operation::Machine(format) => Ok(machine(alloc, format)?),
+        other => Ok(format!(in alloc; "{other:?}")?),
     }
 }
