@@ -1,0 +1,4 @@
+pub mod Meanings
+pub mod Equates
+pub mod Constants
+pub mod Attributes
