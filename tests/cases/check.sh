@@ -19,6 +19,7 @@ program_of() {
         numbers | truths | texts | note_texts) echo expression_cases ;;
         declarations | branches | templates | field_ends | operations | effects) echo statement_cases ;;
         expansions) echo expansion_cases ;;
+        prototypes | bindings | parameter_values) echo definition_cases ;;
     esac
 }
 
