@@ -17,6 +17,7 @@ import tempfile
 HERE = os.path.join(os.path.dirname(os.path.realpath(__file__)), "colours")
 CLIENTS = os.path.normpath(os.path.join(HERE, "../../../clients"))
 TABLES = os.path.normpath(os.path.join(HERE, "../../../crates/instruction_table/specs"))
+INSTRUCTIONS = os.path.normpath(os.path.join(HERE, "../../../tools/instructions/instructions.tsv"))
 SKIPPED = 77
 
 
@@ -116,11 +117,15 @@ def faults_of_colours(name, letters, same):
             yield f"{name}:\n  {line}\n  {row}\n  {right}, by the rules"
 
 
-def operations():
-    """The operations that are built in and decide how operands go on, by the definitions of the crate that has the table."""
-    machine = re.findall(r'of_format \w+ \(words \(codes "([A-Z ]+)"\)\)', read_all(TABLES))
+def machine_instructions():
+    """The mnemonics of machine instructions."""
+    return {line.split("\t")[0] for line in read(INSTRUCTIONS).splitlines() if line and not line.startswith("#")}
+
+
+def other_operations():
+    """The other operations that are built in and decide how operands go on, by the definitions of the crate that has them."""
     rest = dict(re.findall(r'^(conditional|ordinary|both|silent) = words \(codes "([A-Z ]+)"\)', read_all(TABLES), re.MULTILINE))
-    return {name for names in (*machine, *rest.values()) for name in names.split()}
+    return {name for names in rest.values() for name in names.split()}
 
 
 def read_all(folder):
@@ -128,8 +133,9 @@ def read_all(folder):
 
 
 def faults_of_lists():
-    """Which files of colours know other operations than are built in."""
-    wanted = operations()
+    """Which files of colours lack an operation of the assembler, know fewer instructions than the 168 of every day, or know an
+    operation that is none. The other instructions are coloured as macro calls."""
+    wanted, machine = other_operations(), machine_instructions()
     lists = {
         "neovim/syntax/hlasm.vim": r"(?m)(?:\\\||^ +\\)([A-Z]+)(?=\\\||$)",
         "emacs/hlasm-mode.el": r"\b([A-Z]+)\b",
@@ -141,14 +147,16 @@ def faults_of_lists():
         if path.endswith(".el"):
             text = " ".join(re.findall(r'\(split-string "([A-Z\s]+)"\)', text))
         found = set(re.findall(form, text))
-        if found != wanted:
-            yield f"{path}: operations missing {sorted(wanted - found)}, and too many {sorted(found - wanted)}"
+        if wanted - found or found - wanted - machine:
+            yield f"{path}: operations missing {sorted(wanted - found)}, and too many {sorted(found - wanted - machine)}"
+        if len(found & machine) < 168:
+            yield f"{path}: {len(found & machine)} instructions only"
 
 
 def main():
     faults, seen = list(faults_of_lists()), []
-    if len(operations()) < 200:
-        faults.append(f"the tables of operations have {len(operations())} names only")
+    if len(other_operations()) < 39 or len(machine_instructions()) < 2413:
+        faults.append(f"there are {len(other_operations())} operations and {len(machine_instructions())} instructions only")
     for name, letters_of, same in EDITORS:
         if is_there(name):
             seen.append(name)
