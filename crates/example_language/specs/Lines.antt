@@ -10,6 +10,7 @@ line_by (line.Says number) = example.Says number
 line_by line.SaysValue = example.SaysValue
 line_by line.SaysCalls = example.SaysCalls
 line_by (line.Sets number) = example.Sets number
+line_by (line.SkipsTo place) = example.SkipsTo place
 line_by (line.BranchesTo label) = example.BranchesTo label
 line_by (line.BranchesIf label) = example.BranchesIf label
 line_by (line.Labelled label) = example.Labelled label

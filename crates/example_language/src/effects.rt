@@ -3,7 +3,7 @@ ghost use Rattle.std.specs.Prelude.{◌≡◌, ℕ, Some, [], ◌∷◌, IfOk, o
 ghost use Rattle.kept_values.specs.Trees.{Leaf, look_up};
 ghost use Rattle.asking_core.specs.Places.{pairs_of};
 ghost use Rattle.plain_expansion.specs.Questions.{led_by, Comes};
-ghost use Rattle.plain_expansion.specs.Language.{Continues, Enters};
+ghost use Rattle.plain_expansion.specs.Language.{Continues, Skips, Enters};
 ghost use Rattle.plain_expansion.specs.Example.{Knows, example_effect, branch_left, branch_if, value_key};
 ghost use Rattle.expansion_step.specs.Meaning.{performed_by, entry_by};
 ghost use Rattle.example_language.specs.Lines.{line_by};
@@ -63,9 +63,9 @@ fn branching<P: Program>(alloc: Global, known: Knowledge, label: u32, value: u32
     Performed::Does(0, Act::Branches(label, branch_left(known)))
 }
 
-/// Sets the value.
-fn setting<P: Program>(alloc: Global, number: u32) -> Result<Done, OutOfMemory>
-    ensures { IfOk result (λ p. (k : Knows) → performed_by (means P.lists P.branches) k p ≡ Some (Comes (record { said = Leaf 0; act = Continues k (record { key = value_key; value = Leaf number } ∷ []) }))) }
+/// What is put, so that this is the value.
+fn value_put(alloc: Global, number: u32) -> Result<Vec<Noted<Question, Value>>, OutOfMemory>
+    ensures { IfOk result (λ ps. pairs_of question_tree value_tree ps.items ≡ record { key = value_key; value = Leaf number } ∷ []) }
 {
     let mut puts = Vec::new(alloc);
     let value = Value { number };
@@ -73,7 +73,23 @@ fn setting<P: Program>(alloc: Global, number: u32) -> Result<Done, OutOfMemory>
         key: Question::Value,
         value,
     })?;
+    Ok(puts)
+}
+
+/// Sets the value.
+fn setting<P: Program>(alloc: Global, number: u32) -> Result<Done, OutOfMemory>
+    ensures { IfOk result (λ p. (k : Knows) → performed_by (means P.lists P.branches) k p ≡ Some (Comes (record { said = Leaf 0; act = Continues k (record { key = value_key; value = Leaf number } ∷ []) }))) }
+{
+    let puts = value_put(alloc, number)?;
     Ok(Performed::Does(0, Act::Continues(Change::Unchanged, puts)))
+}
+
+/// Sets the value to the number of a line, and goes on there.
+fn skipping<P: Program>(alloc: Global, line: u32) -> Result<Done, OutOfMemory>
+    ensures { IfOk result (λ p. (k : Knows) → performed_by (means P.lists P.branches) k p ≡ Some (Comes (record { said = Leaf 0; act = Skips line k (record { key = value_key; value = Leaf line } ∷ []) }))) }
+{
+    let puts = value_put(alloc, line)?;
+    Ok(Performed::Does(0, Act::Skips(line, Change::Unchanged, puts)))
 }
 
 /// What a line does, as far as the answers lead.
@@ -93,6 +109,7 @@ pub(crate) fn performed<P: Program>(
         },
         Line::SaysCalls => Ok(going_on::<P>(alloc, known.calls)),
         Line::Sets(number) => setting::<P>(alloc, number),
+        Line::SkipsTo(line) => skipping::<P>(alloc, line),
         Line::BranchesTo(label) => Ok(Performed::Does(0, Act::Branches(label, branch_left(known)))),
         Line::BranchesIf(label) => match value_told(answers) {
             Some(value) => Ok(branching::<P>(alloc, known, label, value)),

@@ -2,7 +2,7 @@
 ghost use Rattle.std.specs.Prelude.{◌≡◌, ◌<◌, ℕ, Some, None, map, option_map, slice_get, nat_lt, if◌then◌else◌, vec_len};
 
 /// What a line does: it says a number, what the world's value is, or how many calls were counted at its call's entry; it
-/// sets the value; it branches to a label, always or where the value is not 0; it bears a label; it calls or copies a list,
+/// sets the value; it sets it to the number of a line and goes on at that line; it branches to a label, always or where the value is not 0; it bears a label; it calls or copies a list,
 /// or one that is not there; it ends its call; or it ends all.
 #[derive(Clone, Copy)]
 pub enum Line {
@@ -10,6 +10,7 @@ pub enum Line {
     SaysValue,
     SaysCalls,
     Sets(u32),
+    SkipsTo(u32),
     BranchesTo(u32),
     BranchesIf(u32),
     Labelled(u32),
@@ -34,6 +35,7 @@ impl Line {
             Line::SaysValue => false,
             Line::SaysCalls => false,
             Line::Sets(_) => false,
+            Line::SkipsTo(_) => false,
             Line::BranchesTo(_) => false,
             Line::BranchesIf(_) => false,
             Line::CallsList(_) => false,

@@ -41,6 +41,7 @@ fn numbered_line(word: &str, number: u32) -> Option<Line> {
     match word {
         "says" => Some(Line::Says(number)),
         "sets" => Some(Line::Sets(number)),
+        "skip" => Some(Line::SkipsTo(number)),
         "goto" => Some(Line::BranchesTo(number)),
         "if" => Some(Line::BranchesIf(number)),
         "label" => Some(Line::Labelled(number)),

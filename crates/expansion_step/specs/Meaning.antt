@@ -6,7 +6,7 @@ use Rattle.asking_core.specs.declared.footprint.Noted.{Noted}
 use Rattle.plain_expansion.specs.Questions.{Led, Comes, Wants}
 use Rattle.plain_expansion.specs.Language.{Language, Effect, Point}
 use Rattle.plain_expansion.specs.Language.{Level as LevelOf, Stack as StackOf, Act as ActOf, Entry as EntryOf, Fault as FaultOf}
-use Rattle.plain_expansion.specs.Language.{Nowhere, Calling, Copying, Continues, Branches, Enters, Returns, Finishes, NoFault, NoLabel, NoBranchLeft, NoRoom}
+use Rattle.plain_expansion.specs.Language.{Nowhere, Calling, Copying, Continues, Skips, Branches, Enters, Returns, Finishes, NoFault, NoLabel, NoBranchLeft, NoRoom}
 use Rattle.expansion_step.specs.declared.stack.Level.{Level}
 use Rattle.expansion_step.specs.declared.stack.Stack.{Stack}
 use Rattle.expansion_step.specs.declared.act.Entry.{Entry}
@@ -65,6 +65,7 @@ module _ {L : Language} {T B N D S I C K V : Type 0} (m : Means L T B N D S I C 
   -- an act of code says what changes; what is known after it is a matter of what was known before
   abbrev pub act_by : L.words.Known → Act T B D S C K V → ActOf L.words
   act_by known (act.Continues change puts) = Continues (m.reads.changed change known) (pairs_by puts.items)
+  act_by known (act.Skips position change puts) = Skips position (m.reads.changed change known) (pairs_by puts.items)
   act_by known (act.Branches label change) = Branches (m.reads.label label) (option_map (λ d. m.reads.changed d known) change)
   act_by known (act.Enters limited entry) = Enters (m.reads.said limited) (entry_by entry)
   act_by known act.Returns = Returns

@@ -10,12 +10,14 @@ pub enum Entry<T, C, K, V> {
     Copying(T),
 }
 
-/// What a statement does. It goes on with the next one, after this change of what is known, and puts so much; it branches to
-/// a label, with such a change, or none is left to it; it wants room for one more frame, for want of which only so much is
-/// said; it ends its call; or it ends all.
+/// What a statement does. It goes on with the next one, after this change of what is known, and puts so much; it goes on so at
+/// the statement of a number of its list, counted from 0, passing over those between; it branches to a label, with such a
+/// change, or none is left to it; it wants room for one more frame, for want of which only so much is said; it ends its call;
+/// or it ends all.
 #[derive(Drop)]
 pub enum Act<T, B, D, S, C, K, V> {
     Continues(D, Vec<Noted<K, V>>),
+    Skips(u32, D, Vec<Noted<K, V>>),
     Branches(B, Option<D>),
     Enters(S, Entry<T, C, K, V>),
     Returns,

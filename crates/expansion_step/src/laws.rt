@@ -1,5 +1,5 @@
 //! What holds of the machine of each language in code, over each world. The functions do nothing: their contracts are laws.
-ghost use Rattle.std.specs.Prelude.{ℕ, true};
+ghost use Rattle.std.specs.Prelude.{ℕ, [], true};
 ghost use Rattle.asking_core.specs.Machines.{Nothing};
 ghost use Rattle.asking_core.specs.Runs.{Run, Plain};
 ghost use Rattle.plain_expansion.specs.Expansion.{expansion};
@@ -15,7 +15,7 @@ use asking_core::{AskMachine, World};
 pub fn runs_are_expansions<X: CodedLanguage, W: World>()
     ensures { (call : X.language.words.Call) (s : (W.model).State) (fuel depth : ℕ) (run : Run X.language.words.Call X.language.Item) →
         Plain ⟦<Expander<X> as AskMachine>⟧.model W.model s (⟦<Expander<X> as AskMachine>⟧.model.start call) Nothing fuel depth 0 run →
-        Gives ⟦<Expander<X> as AskMachine>⟧.model W.model (⟦<Expander<X> as AskMachine>⟧.model.start call) Nothing s 0 run
+        Gives ⟦<Expander<X> as AskMachine>⟧.model W.model [] (⟦<Expander<X> as AskMachine>⟧.model.start call) Nothing s 0 run
         (expansion X.language W.model call s fuel depth) }
 {}
 

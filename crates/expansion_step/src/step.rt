@@ -192,6 +192,12 @@ impl<X: CodedLanguage> Expander<X> {
                 self.language.change(alloc, &mut stack.known, change)?;
                 Ok(Self::tell(item, false, puts, Onward::On))
             }
+            Act::Skips(position, change, puts) => {
+                let item = self.language.item(alloc, stack, said, Fault::NoFault)?;
+                stack.here.position = position;
+                self.language.change(alloc, &mut stack.known, change)?;
+                Ok(Self::tell(item, false, puts, Onward::On))
+            }
             Act::Branches(label, change) => {
                 let place = self.language.place_of(&stack.here.listing, &label);
                 self.branch(alloc, stack, said, place, change)

@@ -1,10 +1,12 @@
 -- Each unit of fuel is a point, and no frame stands deeper than the limit.
-use Rattle.std.proofs.Common.{◌≡◌, ◌<◌, ◌≤◌, ℕ, zero, suc, ◌+◌, ◌-◌, Bool, true, false, cond, nat_lt, List, [], ◌∷◌, length, Option, Some, None, refl, subst, arith, length-append}
+use Rattle.std.proofs.Common.{◌≡◌, ◌<◌, ◌≤◌, ℕ, zero, suc, ◌+◌, ◌-◌, Bool, true, false, cond, nat_lt, List, [], ◌∷◌, length, Option, Some, None, refl, ◌∙◌, subst, arith, length-append}
+use Rattle.std.proofs.lemmas.List.{length-map}
+use Rattle.trace_arena.specs.Points.{within}
 use Rattle.asking_core.specs.Worlds.{WorldModel}
 use Rattle.asking_core.specs.Runs.{Ending, ByLeave, ByEnd, ByBudget, deepest_depth}
 use Rattle.plain_expansion.specs.Questions.{result_by}
-use Rattle.plain_expansion.specs.Language.{Level, Stack, Entry, Nowhere, Calling, Copying, Act, Continues, Branches, Enters, Returns, Finishes, Effect, Fault, Point, Language}
-use Rattle.plain_expansion.specs.Expansion.{stepped, place_of, Going, GoesOn, GoesBack, GoesOut, GoesIn, carried, first_stack, copying, statement_at, met_from, outermost, put_each, placed, answers_of, Expansion, ended_by, spent_at, pointed, paid, nesting, come_back, Expands, called, entered, followed, processed, met_with, expand, branched}
+use Rattle.plain_expansion.specs.Language.{Level, Stack, Entry, Nowhere, Calling, Copying, Act, Continues, Skips, Branches, Enters, Returns, Finishes, Effect, Fault, Point, Language}
+use Rattle.plain_expansion.specs.Expansion.{stepped, place_of, Going, GoesOn, GoesBack, GoesOut, GoesIn, carried, first_stack, copying, statement_at, met_from, outermost, put_each, placed, answers_of, Expansion, ended_by, spent_at, pointed, behind, paid, nesting, come_back, Expands, called, entered, followed, processed, met_with, expand, branched}
 use Rattle.plain_expansion.specs.Laws.{EachUnitIsAPoint}
 
 -- the same, where so many points were not paid yet, at so many open frames
@@ -29,6 +31,16 @@ c_paid fuel depth e c = record {
   each = let more = c.each in omega arith;
   enough = let less = c.enough in omega arith;
   starved = λ is. let all = c.starved is in omega arith;
+  owing = c.owing;
+  shallow = c.shallow;
+}
+
+c_behind : {I F A : Type 0} (calls : List I) (more fuel depth : ℕ) (e : Expansion I F A) → Counts more fuel depth e →
+    Counts more fuel depth (behind calls e)
+c_behind calls more fuel depth e c = record {
+  each = length-map e.points (within calls) ∙ c.each;
+  enough = c.enough;
+  starved = c.starved;
   owing = c.owing;
   shallow = c.shallow;
 }
@@ -101,38 +113,38 @@ module _ (L : Language) (W : WorldModel) where
   CountsTo rec gas = (x : Stack L.words) (s : W.State) (f d : ℕ) → f < gas → d + length x.below ≤ deepest_depth → Counts 0 f d (rec x s f d)
 
   module _ (rec : Expands L W) (gas : ℕ) (counts : CountsTo rec gas) where
-    c_called : (c : L.words.Call) (x : Stack L.words) (s : W.State) (f d : ℕ) → f < gas → d + length x.below < deepest_depth →
-        Counts 0 f d (called L W rec c x s f d)
-    c_called c x s f d enough room =
-        let within : ℕ = length x.below + 1 in
-        let deeper : d + length x.below + 1 ≡ d + within = omega arith in
+    c_called : (i : L.Item) (c : L.words.Call) (x : Stack L.words) (s : W.State) (f d : ℕ) → f < gas → d + length x.below < deepest_depth →
+        Counts 0 f d (called L W rec i c x s f d)
+    c_called i c x s f d enough room =
+        let frames : ℕ = length x.below + 1 in
+        let deeper : d + length x.below + 1 ≡ d + frames = omega arith in
         let open_still : d + length x.below ≤ deepest_depth = omega arith in
         let start : Stack L.words = first_stack L c (answers_of W s (L.entry_keys c)) in
         let child : Expansion L.Item L.Frames W.State = rec start s f (d + length x.below + 1) in
         let left : f - child.cost < gas = omega arith in
         let roomy : d + length x.below + 1 + 0 ≤ deepest_depth = omega arith in
         let At_depth : ℕ → Type 0 = λ y. Counts 0 f y child in
-        c_back within f d (L.frames_of (x.here ∷ x.below)) W.after_leave child
+        c_back frames f d (L.frames_of (x.here ∷ x.below)) W.after_leave (behind (i ∷ []) child)
         (rec (stepped x) (W.after_leave child.world) (f - child.cost) d)
-        (subst At_depth deeper (counts start s f (d + length x.below + 1) enough roomy))
+        (c_behind (i ∷ []) 0 f (d + frames) child (subst At_depth deeper (counts start s f (d + length x.below + 1) enough roomy)))
         (counts (stepped x) (W.after_leave child.world) (f - child.cost) d left open_still) child.ended refl
 
-    c_entered : (entry : Entry L.words) (x : Stack L.words) (s : W.State) (f d : ℕ) → f < gas → d + length x.below < deepest_depth →
-        Counts 0 f d (entered L W rec entry x s f d)
-    c_entered Nowhere x s f d enough room = let still : d + length x.below ≤ deepest_depth = omega arith in
+    c_entered : (i : L.Item) (entry : Entry L.words) (x : Stack L.words) (s : W.State) (f d : ℕ) → f < gas → d + length x.below < deepest_depth →
+        Counts 0 f d (entered L W rec i entry x s f d)
+    c_entered i Nowhere x s f d enough room = let still : d + length x.below ≤ deepest_depth = omega arith in
         counts (stepped x) s f d enough still
-    c_entered (Calling c puts) x s f d enough room = c_called c x (W.after_enter (put_each W (W.after_bump s 1) puts)) f d enough room
-    c_entered (Copying l) x s f d enough room = let still : d + length (copying l x).below ≤ deepest_depth = omega arith in
+    c_entered i (Calling c puts) x s f d enough room = c_called i c x (W.after_enter (put_each W (W.after_bump s 1) puts)) f d enough room
+    c_entered i (Copying l) x s f d enough room = let still : d + length (copying l x).below ≤ deepest_depth = omega arith in
         counts (copying l x) s f d enough still
 
     c_tried : (i j : L.Item) (entry : Entry L.words) (x : Stack L.words) (s : W.State) (f d : ℕ) (b : Bool) →
         nat_lt (d + length x.below) deepest_depth ≡ b → f < gas → d + length x.below ≤ deepest_depth →
-        Counts 1 f d (cond b (nesting (length x.below + 1) (pointed i (entered L W rec entry x s f d))) (pointed j (rec (stepped x) s f d)))
+        Counts 1 f d (cond b (nesting (length x.below + 1) (pointed i (entered L W rec i entry x s f d))) (pointed j (rec (stepped x) s f d)))
     c_tried i j entry x s f d true is enough still =
         let room : d + length x.below < deepest_depth = grind arith in
         let more : d + (length x.below + 1) ≤ deepest_depth = omega arith in
-        c_nesting (length x.below + 1) f d (pointed i (entered L W rec entry x s f d)) more
-        (c_pointed i f d (entered L W rec entry x s f d) (c_entered entry x s f d enough room))
+        c_nesting (length x.below + 1) f d (pointed i (entered L W rec i entry x s f d)) more
+        (c_pointed i f d (entered L W rec i entry x s f d) (c_entered i entry x s f d enough room))
     c_tried i j entry x s f d false is enough still = c_pointed j f d (rec (stepped x) s f d) (counts (stepped x) s f d enough still)
 
     -- going on does not change how many frames stand open
@@ -164,6 +176,7 @@ module _ (L : Language) (W : WorldModel) where
 
     carried_steady : (said : L.words.Said) (act : Act L.words) (x : Stack L.words) → IsSteady (carried L said act x) x
     carried_steady said (Continues known puts) x = refl
+    carried_steady said (Skips position known puts) x = refl
     carried_steady said (Branches label known) x =
         branched_steady (place_of L x.here.listing label) known
         (λ fault. record { stack = x; said = said; fault = fault }) x

@@ -1,5 +1,5 @@
 -- A run of a machine that watches itself is one of the machine.
-use Rattle.std.proofs.Common.{◌≡◌, ℕ, Bool, false, refl, ap, ◌∙◌}
+use Rattle.std.proofs.Common.{◌≡◌, ℕ, List, Bool, false, refl, ap, ◌∙◌}
 use Rattle.kept_values.specs.Trees.{Tree}
 use Rattle.asking_core.specs.Worlds.{WorldModel}
 use Rattle.asking_core.specs.Machines.{MachineModel, Told, Nothing, Answered, Returned, TooDeep, Move, Ask, Put, Count, Bump, Emit, Deepen, Rise, Enter, At, Leave, End}
@@ -66,10 +66,10 @@ module _ (M : MachineModel) (full : ℕ) (moving writable : Tree → Bool) (quie
       Plain G W s p g f d o t → Plain M W s p.place g f d o t
   plain_own W s p g f d o t plain = record { follows = follows_own t p g plain.follows; agrees = plain.agrees; within = plain.within }
 
-  pub gives_own : (W : WorldModel) (s : W.State) (p : Watched M.Place) (g : Told) (o : ℕ) (t : Run M.Call M.Item)
+  pub gives_own : (W : WorldModel) (last : List M.Item) (s : W.State) (p : Watched M.Place) (g : Told) (o : ℕ) (t : Run M.Call M.Item)
       (e : Expansion M.Item M.Frames W.State) →
-      Gives M W p.place g s o t e → Gives G W p g s o t e
-  gives_own W s p g o t e gives = record {
+      Gives M W last p.place g s o t e → Gives G W last p g s o t e
+  gives_own W last s p g o t e gives = record {
     points = gives.points;
     world = gives.world;
     cost_is = gives.cost_is;

@@ -1,10 +1,12 @@
 -- A move before a run: what it gives.
-use Rattle.std.proofs.Common.{◌≡◌, ◌<◌, ◌≤◌, ℕ, suc, ◌+◌, ◌-◌, max, [], ◌∷◌, ◌++◌, refl, sym, ap, ◌∙◌, subst, arith, append-nil}
+use Rattle.std.proofs.Common.{◌≡◌, ◌<◌, ◌≤◌, ℕ, suc, ◌+◌, ◌-◌, max, List, [], ◌∷◌, ◌++◌, map, refl, sym, ap, ◌∙◌, subst, arith, append-nil}
 use Rattle.kept_values.specs.Trees.{Tree}
 use Rattle.asking_core.specs.Worlds.{WorldModel}
 use Rattle.asking_core.specs.Machines.{MachineModel, Told, Nothing, Answered, Returned, TooDeep, Ask, Put, Count, Bump, Emit, Deepen, Rise, Enter, At, Leave, End}
-use Rattle.asking_core.specs.Runs.{Run, Leaves, Ends, Spent, Asks, Puts, Counts, Bumps, Emits, Moves, Deepens, Rises, Refused, Calls, Barred, Ending, ByLeave, ByEnd, ByBudget, ending, Back, Follows, Agrees, Within, after_run, cost, deepest, deepest_depth, emitted, unpaid, unpaid_back}
-use Rattle.plain_expansion.specs.Expansion.{Expansion, ended_by, spent_at, pointed, paid, nesting, come_back}
+use Rattle.asking_core.specs.Runs.{Run, Leaves, Ends, Spent, Asks, Puts, Counts, Bumps, Emits, Moves, Deepens, Rises, Refused, Calls, Barred, Ending, ByLeave, ByEnd, ByBudget, ending, Back, Follows, Agrees, Within, after_run, cost, deepest, deepest_depth, unpaid, unpaid_back}
+use Rattle.trace_arena.specs.Points.{own, within}
+use Rattle.kept_outcomes.specs.Traces.{traced}
+use Rattle.plain_expansion.specs.Expansion.{Expansion, ended_by, spent_at, pointed, behind, paid, nesting, come_back}
 use Rattle.plain_expansion.specs.Laws.{HasRun}
 
 -- a run that fuel ended took all of it
@@ -60,9 +62,9 @@ module _ (M : MachineModel) where
       ap (λ x. unpaid_back (ending child) (unpaid M (M.start c) Nothing child) (M.frames_at x) (unpaid M x Returned t)) a
   unpaid_as (Barred c t) p q g h a = ap (λ x. unpaid M x TooDeep t) a
 
-module _ (M : MachineModel) (W : WorldModel) where
+module _ (M : MachineModel) (W : WorldModel) (last : List M.Item) where
   pub runs_as : (p q : M.Place) (g h : Told) (s : W.State) (f d o : ℕ) (e : Expansion M.Item M.Frames W.State) →
-      M.move_at p g ≡ M.move_at q h → M.after p g ≡ M.after q h → HasRun M W q h s f d o e → HasRun M W p g s f d o e
+      M.move_at p g ≡ M.move_at q h → M.after p g ≡ M.after q h → HasRun M W last q h s f d o e → HasRun M W last p g s f d o e
   runs_as p q g h s f d o e m a r = record {
     run = r.run;
     plain = record { follows = follows_as M r.run p q g h m a r.plain.follows; agrees = r.plain.agrees; within = r.plain.within };
@@ -79,7 +81,7 @@ module _ (M : MachineModel) (W : WorldModel) where
   -- what leaves the expansion as it is
   pub m_ask : (p : M.Place) (g : Told) (s : W.State) (f d o : ℕ) (e : Expansion M.Item M.Frames W.State) (key : Tree) →
       M.move_at p g ≡ Ask key →
-      HasRun M W (M.after p g) (Answered (W.answer s key)) s f d o e → HasRun M W p g s f d o e
+      HasRun M W last (M.after p g) (Answered (W.answer s key)) s f d o e → HasRun M W last p g s f d o e
   m_ask p g s f d o e key m r = record {
     run = Asks key (W.answer s key) r.run;
     plain = record { follows = (m, r.plain.follows); agrees = (refl, r.plain.agrees); within = r.plain.within };
@@ -95,7 +97,7 @@ module _ (M : MachineModel) (W : WorldModel) where
 
   pub m_put : (p : M.Place) (g : Told) (s : W.State) (f d o : ℕ) (e : Expansion M.Item M.Frames W.State) (key value : Tree) →
       M.move_at p g ≡ Put key value →
-      HasRun M W (M.after p g) Nothing (W.after_put s key value) f d o e → HasRun M W p g s f d o e
+      HasRun M W last (M.after p g) Nothing (W.after_put s key value) f d o e → HasRun M W last p g s f d o e
   m_put p g s f d o e key value m r = record {
     run = Puts key value r.run;
     plain = record { follows = (m, r.plain.follows); agrees = r.plain.agrees; within = r.plain.within };
@@ -110,7 +112,7 @@ module _ (M : MachineModel) (W : WorldModel) where
   }
 
   pub m_bump : (p : M.Place) (g : Told) (s : W.State) (f d o : ℕ) (e : Expansion M.Item M.Frames W.State) → M.move_at p g ≡ Bump →
-      HasRun M W (M.after p g) Nothing (W.after_bump s 1) f d o e → HasRun M W p g s f d o e
+      HasRun M W last (M.after p g) Nothing (W.after_bump s 1) f d o e → HasRun M W last p g s f d o e
   m_bump p g s f d o e m r = record {
     run = Bumps r.run;
     plain = record { follows = (m, r.plain.follows); agrees = r.plain.agrees; within = r.plain.within };
@@ -125,7 +127,7 @@ module _ (M : MachineModel) (W : WorldModel) where
   }
 
   pub m_at : (p : M.Place) (g : Told) (s : W.State) (f d o : ℕ) (e : Expansion M.Item M.Frames W.State) (n : ℕ) → M.move_at p g ≡ At n →
-      HasRun M W (M.after p g) Nothing (W.after_at s n) f d o e → HasRun M W p g s f d o e
+      HasRun M W last (M.after p g) Nothing (W.after_at s n) f d o e → HasRun M W last p g s f d o e
   m_at p g s f d o e n m r = record {
     run = Moves n r.run;
     plain = record { follows = (m, r.plain.follows); agrees = r.plain.agrees; within = r.plain.within };
@@ -140,7 +142,7 @@ module _ (M : MachineModel) (W : WorldModel) where
   }
 
   pub m_rise : (p : M.Place) (g : Told) (s : W.State) (f d o : ℕ) (e : Expansion M.Item M.Frames W.State) → M.move_at p g ≡ Rise →
-      HasRun M W (M.after p g) Nothing s f d (o - 1) e → HasRun M W p g s f d o e
+      HasRun M W last (M.after p g) Nothing s f d (o - 1) e → HasRun M W last p g s f d o e
   m_rise p g s f d o e m r = record {
     run = Rises r.run;
     plain = record { follows = (m, r.plain.follows); agrees = r.plain.agrees; within = r.plain.within };
@@ -156,7 +158,7 @@ module _ (M : MachineModel) (W : WorldModel) where
 
   pub m_refused : (p : M.Place) (g : Told) (s : W.State) (f d o : ℕ) (e : Expansion M.Item M.Frames W.State) → M.move_at p g ≡ Deepen →
       deepest_depth ≤ d + o →
-      HasRun M W (M.after p g) TooDeep s f d o e → HasRun M W p g s f d o e
+      HasRun M W last (M.after p g) TooDeep s f d o e → HasRun M W last p g s f d o e
   m_refused p g s f d o e m full r = record {
     run = Refused r.run;
     plain = record { follows = (m, r.plain.follows); agrees = r.plain.agrees; within = (full, r.plain.within) };
@@ -173,12 +175,12 @@ module _ (M : MachineModel) (W : WorldModel) where
   -- what adds to it
   pub m_emit : (p : M.Place) (g : Told) (s : W.State) (f d o : ℕ) (e : Expansion M.Item M.Frames W.State) (item : M.Item) →
       M.move_at p g ≡ Emit item →
-      HasRun M W (M.after p g) Nothing s f d o e → HasRun M W p g s f d o (pointed item e)
+      HasRun M W (item ∷ []) (M.after p g) Nothing s f d o e → HasRun M W last p g s f d o (pointed item e)
   m_emit p g s f d o e item m r = record {
     run = Emits item r.run;
     plain = record { follows = (m, r.plain.follows); agrees = r.plain.agrees; within = r.plain.within };
     gives = record {
-      points = ap (λ x. item ∷ x) r.gives.points;
+      points = ap (λ x. own item ∷ x) r.gives.points;
       world = r.gives.world;
       cost_is = r.gives.cost_is;
       ended = r.gives.ended;
@@ -188,7 +190,7 @@ module _ (M : MachineModel) (W : WorldModel) where
   }
 
   pub m_count : (p : M.Place) (g : Told) (s : W.State) (f d o : ℕ) (e : Expansion M.Item M.Frames W.State) → M.move_at p g ≡ Count →
-      HasRun M W (M.after p g) Nothing s f d o e → HasRun M W p g s (suc f) d o (paid e)
+      HasRun M W last (M.after p g) Nothing s f d o e → HasRun M W last p g s (suc f) d o (paid e)
   m_count p g s f d o e m r =
       let less : f ≡ suc f - 1 = omega arith in
       let some : 0 < suc f = omega arith in
@@ -211,7 +213,7 @@ module _ (M : MachineModel) (W : WorldModel) where
 
   pub m_deepen : (p : M.Place) (g : Told) (s : W.State) (f d o : ℕ) (e : Expansion M.Item M.Frames W.State) → M.move_at p g ≡ Deepen →
       d + o < deepest_depth →
-      HasRun M W (M.after p g) Nothing s f d (o + 1) e → HasRun M W p g s f d o (nesting (o + 1) e)
+      HasRun M W last (M.after p g) Nothing s f d (o + 1) e → HasRun M W last p g s f d o (nesting (o + 1) e)
   m_deepen p g s f d o e m room r = record {
     run = Deepens r.run;
     plain = record { follows = (m, r.plain.follows); agrees = r.plain.agrees; within = (room, r.plain.within) };
@@ -226,14 +228,14 @@ module _ (M : MachineModel) (W : WorldModel) where
   }
 
   -- the ends
-  pub m_leave : (p : M.Place) (g : Told) (s : W.State) (f d o : ℕ) → M.move_at p g ≡ Leave → HasRun M W p g s f d o (ended_by ByLeave s)
+  pub m_leave : (p : M.Place) (g : Told) (s : W.State) (f d o : ℕ) → M.move_at p g ≡ Leave → HasRun M W last p g s f d o (ended_by ByLeave s)
   m_leave p g s f d o m = record {
     run = Leaves;
     plain = record { follows = m; agrees = tt; within = tt };
     gives = record { points = refl; world = refl; cost_is = refl; ended = refl; nested = refl; unpaid_is = refl };
   }
 
-  pub m_end : (p : M.Place) (g : Told) (s : W.State) (f d o : ℕ) → M.move_at p g ≡ End → HasRun M W p g s f d o (ended_by ByEnd s)
+  pub m_end : (p : M.Place) (g : Told) (s : W.State) (f d o : ℕ) → M.move_at p g ≡ End → HasRun M W last p g s f d o (ended_by ByEnd s)
   m_end p g s f d o m = record {
     run = Ends;
     plain = record { follows = m; agrees = tt; within = tt };
@@ -241,7 +243,7 @@ module _ (M : MachineModel) (W : WorldModel) where
   }
 
   pub m_spent : (p : M.Place) (g : Told) (s : W.State) (d o : ℕ) → M.move_at p g ≡ Count →
-      HasRun M W p g s 0 d o (spent_at (M.frames_at (M.after p g)) s)
+      HasRun M W last p g s 0 d o (spent_at (M.frames_at (M.after p g)) s)
   m_spent p g s d o m = record {
     run = Spent;
     plain = record { follows = m; agrees = tt; within = refl };
@@ -250,15 +252,15 @@ module _ (M : MachineModel) (W : WorldModel) where
 
   -- a nested call, by how it ends
   abbrev Child : M.Call → W.State → ℕ → ℕ → Expansion M.Item M.Frames W.State → Type 0
-  Child c s f d ec = HasRun M W (M.start c) Nothing (W.after_enter s) f d 0 ec
+  Child c s f d ec = HasRun M W [] (M.start c) Nothing (W.after_enter s) f d 0 ec
 
   abbrev Rest : M.Place → W.State → ℕ → ℕ → ℕ → Expansion M.Item M.Frames W.State → Type 0
-  Rest p s f d o er = HasRun M W p Returned s f d o er
+  Rest p s f d o er = HasRun M W last p Returned s f d o er
 
   left : (p : M.Place) (g : Told) (s : W.State) (f d o : ℕ) (c : M.Call) (ec er : Expansion M.Item M.Frames W.State) →
       M.move_at p g ≡ Enter c → d + o < deepest_depth →
       Child c s f (d + o + 1) ec → ec.ended ≡ ByLeave → Rest (M.after p g) (W.after_leave ec.world) (f - ec.cost) d o er →
-      HasRun M W p g s f d o (come_back ByLeave (o + 1) (M.frames_at (M.after p g)) W.after_leave ec er)
+      HasRun M W last p g s f d o (come_back ByLeave (o + 1) (M.frames_at (M.after p g)) W.after_leave (behind last ec) er)
   left p g s f d o c ec er m room child by rest =
       let ends : ending child.run ≡ ByLeave = child.gives.ended ∙ by in
       record {
@@ -274,7 +276,7 @@ module _ (M : MachineModel) (W : WorldModel) where
           within = (room, child.plain.within, subst (λ x. Within (f - x) d o rest.run) (sym child.gives.cost_is) rest.plain.within);
         };
         gives = record {
-          points = ap (λ x. x ++ emitted rest.run) child.gives.points ∙ ap (λ x. ec.points ++ x) rest.gives.points;
+          points = ap (λ x. map (within last) x ++ traced last rest.run) child.gives.points ∙ ap (λ x. map (within last) ec.points ++ x) rest.gives.points;
           world = ap (λ x. after_run W (W.after_leave x) rest.run) child.gives.world ∙ rest.gives.world;
           cost_is = ap (λ x. x + cost rest.run) child.gives.cost_is ∙ ap (λ x. ec.cost + x) rest.gives.cost_is;
           ended = rest.gives.ended;
@@ -287,7 +289,7 @@ module _ (M : MachineModel) (W : WorldModel) where
   finished : (p : M.Place) (g : Told) (s : W.State) (f d o : ℕ) (c : M.Call) (ec er : Expansion M.Item M.Frames W.State) →
       M.move_at p g ≡ Enter c → d + o < deepest_depth →
       Child c s f (d + o + 1) ec → ec.ended ≡ ByEnd →
-      HasRun M W p g s f d o (come_back ByEnd (o + 1) (M.frames_at (M.after p g)) W.after_leave ec er)
+      HasRun M W last p g s f d o (come_back ByEnd (o + 1) (M.frames_at (M.after p g)) W.after_leave (behind last ec) er)
   finished p g s f d o c ec er m room child by =
       let ends : ending child.run ≡ ByEnd = child.gives.ended ∙ by in
       let Goes : Ending → Type 0 = λ x. Back {C = M.Call} {I = M.Item} x Ends (Follows M (M.after p g) Returned Ends) in
@@ -301,7 +303,7 @@ module _ (M : MachineModel) (W : WorldModel) where
           within = (room, child.plain.within, tt);
         };
         gives = record {
-          points = append-nil (emitted child.run) ∙ child.gives.points;
+          points = append-nil (map (within last) (traced [] child.run)) ∙ ap (map (within last)) child.gives.points;
           world = ap W.after_leave child.gives.world;
           cost_is = all ∙ child.gives.cost_is;
           ended = sym by;
@@ -313,7 +315,7 @@ module _ (M : MachineModel) (W : WorldModel) where
   starved : (p : M.Place) (g : Told) (s : W.State) (f d o : ℕ) (c : M.Call) (ec er : Expansion M.Item M.Frames W.State) →
       M.move_at p g ≡ Enter c → d + o < deepest_depth →
       Child c s f (d + o + 1) ec → ec.ended ≡ ByBudget →
-      HasRun M W p g s f d o (come_back ByBudget (o + 1) (M.frames_at (M.after p g)) W.after_leave ec er)
+      HasRun M W last p g s f d o (come_back ByBudget (o + 1) (M.frames_at (M.after p g)) W.after_leave (behind last ec) er)
   starved p g s f d o c ec er m room child by =
       let ends : ending child.run ≡ ByBudget = child.gives.ended ∙ by in
       let Goes : Ending → Type 0 = λ x. Back {C = M.Call} {I = M.Item} x Spent (Follows M (M.after p g) Returned Spent) in
@@ -329,7 +331,7 @@ module _ (M : MachineModel) (W : WorldModel) where
           within = (room, child.plain.within, none);
         };
         gives = record {
-          points = append-nil (emitted child.run) ∙ child.gives.points;
+          points = append-nil (map (within last) (traced [] child.run)) ∙ ap (map (within last)) child.gives.points;
           world = ap W.after_leave child.gives.world;
           cost_is = all ∙ child.gives.cost_is;
           ended = sym by;
@@ -343,10 +345,10 @@ module _ (M : MachineModel) (W : WorldModel) where
   pub m_enter : (p : M.Place) (g : Told) (s : W.State) (f d o : ℕ) (c : M.Call) (ec er : Expansion M.Item M.Frames W.State) →
       M.move_at p g ≡ Enter c → d + o < deepest_depth →
       Child c s f (d + o + 1) ec → Rest (M.after p g) (W.after_leave ec.world) (f - ec.cost) d o er →
-      HasRun M W p g s f d o (come_back ec.ended (o + 1) (M.frames_at (M.after p g)) W.after_leave ec er)
+      HasRun M W last p g s f d o (come_back ec.ended (o + 1) (M.frames_at (M.after p g)) W.after_leave (behind last ec) er)
   m_enter p g s f d o c ec er m room child rest =
       let by : (x : Ending) → ec.ended ≡ x →
-      HasRun M W p g s f d o (come_back x (o + 1) (M.frames_at (M.after p g)) W.after_leave ec er) = elim [
+      HasRun M W last p g s f d o (come_back x (o + 1) (M.frames_at (M.after p g)) W.after_leave (behind last ec) er) = elim [
         | ByLeave ↦ λ is. left p g s f d o c ec er m room child is rest
         | ByEnd ↦ λ is. finished p g s f d o c ec er m room child is
         | ByBudget ↦ λ is. starved p g s f d o c ec er m room child is

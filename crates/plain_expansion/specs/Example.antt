@@ -1,20 +1,22 @@
 -- A small language, and what some of its calls expand to. This project.
-use Rattle.std.specs.Prelude.{◌≡◌, ℕ, zero, suc, ◌+◌, ◌-◌, ◌==◌, Bool, false, List, [], ◌∷◌, map, length, Option, Some, None, if◌then◌else◌}
+use Rattle.std.specs.Prelude.{◌≡◌, ℕ, zero, suc, ◌+◌, ◌-◌, ◌==◌, Bool, false, List, [], ◌∷◌, ◌++◌, map, length, Option, Some, None, if◌then◌else◌}
 use Rattle.kept_values.specs.Trees.{Tree, Leaf, Fork, Pair}
+use Rattle.trace_arena.specs.Points.{Point, own}
 use Rattle.asking_core.specs.Worlds.{WorldModel}
 use Rattle.asking_core.specs.Runs.{ByLeave, ByEnd, ByBudget}
 use Rattle.plain_expansion.specs.Questions.{Asking, done, needs}
-use Rattle.plain_expansion.specs.Language.{Vocabulary, Nowhere, Calling, Copying, Continues, Branches, Enters, Returns, Finishes, Effect, Fault, NoFault, NoLabel, NoBranchLeft, NoRoom, Language}
+use Rattle.plain_expansion.specs.Language.{Vocabulary, Nowhere, Calling, Copying, Continues, Skips, Branches, Enters, Returns, Finishes, Effect, Fault, NoFault, NoLabel, NoBranchLeft, NoRoom, Language}
 use Rattle.plain_expansion.specs.Expansion.{Expansion, expansion}
 
--- It says a number, says what the world's value is or how many calls were counted at its call's entry, sets the value, branches
--- to a label where the value is not 0, calls or copies a list, looks for a list that is not there, returns, and finishes. A
--- label stands on any.
+-- It says a number, says what the world's value is or how many calls were counted at its call's entry, sets the value, sets it
+-- to the number of a line and goes on at that line, branches to a label where the value is not 0, calls or copies a list, looks
+-- for a list that is not there, returns, and finishes. A label stands on any.
 pub data Line : Type 0 where
   Says : (number : ℕ) → Line
   SaysValue : Line
   SaysCalls : Line
   Sets : (number : ℕ) → Line
+  SkipsTo : (line : ℕ) → Line
   BranchesTo : (label : ℕ) → Line
   BranchesIf : (label : ℕ) → Line
   Labelled : (label : ℕ) → Line
@@ -67,6 +69,7 @@ example_effect (Says number) k = done (record { said = Leaf number; act = Contin
 example_effect SaysValue k = needs value_key (λ value. done (record { said = value; act = Continues k [] }))
 example_effect SaysCalls k = done (record { said = k.calls; act = Continues k [] })
 example_effect (Sets number) k = done (record { said = silent; act = Continues k (record { key = value_key; value = Leaf number } ∷ []) })
+example_effect (SkipsTo line) k = done (record { said = silent; act = Skips line k (record { key = value_key; value = Leaf line } ∷ []) })
 example_effect (BranchesTo label) k = done (record { said = silent; act = Branches label (branch_left k) })
 example_effect (BranchesIf label) k = needs value_key (λ value. done (branch_if value label k))
 example_effect (Labelled label) k = done (record { said = silent; act = Continues k [] })
@@ -84,6 +87,7 @@ has_example_label (Says number) l = false
 has_example_label SaysValue l = false
 has_example_label SaysCalls l = false
 has_example_label (Sets number) l = false
+has_example_label (SkipsTo line) l = false
 has_example_label (CallsList list) l = false
 has_example_label (CopiesList list) l = false
 has_example_label CopiesNothing l = false
@@ -137,9 +141,16 @@ cells = record {
 abbrev pub fresh : Cells
 fresh = record { value = Leaf 0; calls = 0; depth = 0; at = 0 }
 
--- a point of the rows
+-- what a point of the rows shows
 abbrev pub row : ℕ → ℕ → ℕ → Fault → Shown
 row line deep said fault = record { line = line; deep = deep; said = Leaf said; fault = fault }
+
+-- points of the outermost call, and points of a call that such a point made
+abbrev pub outer : List Shown → List (Point Shown)
+outer rows = map own rows
+
+abbrev pub called_by : Shown → List Shown → List (Point Shown)
+called_by call rows = map (λ r. record { calls = call ∷ []; item = r }) rows
 
 abbrev pub ExpandsTo : List (List Line) → (branches fuel depth : ℕ) → Expansion Shown (List ℕ) Cells → Type 0
 ExpandsTo lists branches fuel depth e = expansion (example lists branches) cells 0 fresh fuel depth ≡ e
@@ -150,7 +161,7 @@ loop = (Labelled 1 ∷ BranchesTo 1 ∷ []) ∷ []
 
 abbrev pub LoopEnds : Type 0
 LoopEnds = ExpandsTo loop 2 100 0 (record {
-  points = row 0 0 0 NoFault ∷ row 1 0 0 NoFault ∷ row 0 0 0 NoFault ∷ row 1 0 0 NoFault ∷ row 0 0 0 NoFault ∷ row 1 0 0 NoBranchLeft ∷ [];
+  points = outer (row 0 0 0 NoFault ∷ row 1 0 0 NoFault ∷ row 0 0 0 NoFault ∷ row 1 0 0 NoFault ∷ row 0 0 0 NoFault ∷ row 1 0 0 NoBranchLeft ∷ []);
   world = record fresh { at = 1 };
   cost = 6;
   ended = ByLeave;
@@ -161,7 +172,7 @@ LoopEnds = ExpandsTo loop 2 100 0 (record {
 -- The same with fuel for three points.
 abbrev pub LoopIsCut : Type 0
 LoopIsCut = ExpandsTo loop 2 3 0 (record {
-  points = row 0 0 0 NoFault ∷ row 1 0 0 NoFault ∷ row 0 0 0 NoFault ∷ [];
+  points = outer (row 0 0 0 NoFault ∷ row 1 0 0 NoFault ∷ row 0 0 0 NoFault ∷ []);
   world = record fresh { at = 0 };
   cost = 3;
   ended = ByBudget;
@@ -172,7 +183,7 @@ LoopIsCut = ExpandsTo loop 2 3 0 (record {
 -- A label that is nowhere is found missing before the branches that are left are counted, and takes none.
 abbrev pub LabelIsMissing : Type 0
 LabelIsMissing = ExpandsTo ((BranchesTo 5 ∷ Says 1 ∷ []) ∷ []) 0 100 0 (record {
-  points = row 0 0 0 NoLabel ∷ row 1 0 1 NoFault ∷ [];
+  points = outer (row 0 0 0 NoLabel ∷ row 1 0 1 NoFault ∷ []);
   world = record fresh { at = 1 };
   cost = 2;
   ended = ByLeave;
@@ -185,7 +196,7 @@ abbrev pub FirstLabel : Type 0
 FirstLabel = ExpandsTo
     ((Labelled 1 ∷ CopiesList 1 ∷ FinishesNow ∷ Says 2 ∷ []) ∷ (BranchesTo 1 ∷ Says 3 ∷ Labelled 1 ∷ Labelled 1 ∷ []) ∷ []) 9 100 0
     (record {
-      points = row 0 0 0 NoFault ∷ row 1 0 7 NoFault ∷ row 0 1 0 NoFault ∷ row 2 1 0 NoFault ∷ row 3 1 0 NoFault ∷ row 2 0 0 NoFault ∷ [];
+      points = outer (row 0 0 0 NoFault ∷ row 1 0 7 NoFault ∷ row 0 1 0 NoFault ∷ row 2 1 0 NoFault ∷ row 3 1 0 NoFault ∷ row 2 0 0 NoFault ∷ []);
       world = record fresh { at = 2 };
       cost = 6;
       ended = ByEnd;
@@ -198,10 +209,10 @@ abbrev pub CallReturns : Type 0
 CallReturns = ExpandsTo
     ((Sets 4 ∷ CallsList 1 ∷ SaysValue ∷ CallsList 1 ∷ []) ∷ (SaysCalls ∷ SaysValue ∷ CopiesList 2 ∷ Says 6 ∷ []) ∷
     (Sets 5 ∷ ReturnsNow ∷ Says 6 ∷ []) ∷ []) 9 100 0 (record {
-      points = row 0 0 0 NoFault ∷ row 1 0 7 NoFault ∷ row 0 0 1 NoFault ∷ row 1 0 4 NoFault ∷ row 2 0 7 NoFault ∷ row 0 1 0 NoFault ∷ row 1 1
-          0 NoFault ∷
-          row 2 0 5 NoFault ∷ row 3 0 7 NoFault ∷ row 0 0 2 NoFault ∷ row 1 0 5 NoFault ∷ row 2 0 7 NoFault ∷ row 0 1 0 NoFault ∷ row 1 1 0
-          NoFault ∷ [];
+      points = outer (row 0 0 0 NoFault ∷ row 1 0 7 NoFault ∷ [])
+          ++ (called_by (row 1 0 7 NoFault) (row 0 0 1 NoFault ∷ row 1 0 4 NoFault ∷ row 2 0 7 NoFault ∷ row 0 1 0 NoFault ∷ row 1 1 0 NoFault ∷ [])
+          ++ (outer (row 2 0 5 NoFault ∷ row 3 0 7 NoFault ∷ [])
+          ++ called_by (row 3 0 7 NoFault) (row 0 0 2 NoFault ∷ row 1 0 5 NoFault ∷ row 2 0 7 NoFault ∷ row 0 1 0 NoFault ∷ row 1 1 0 NoFault ∷ [])));
       world = record { value = Leaf 5; calls = 2; depth = 0; at = 3 };
       cost = 14;
       ended = ByLeave;
@@ -212,7 +223,7 @@ CallReturns = ExpandsTo
 -- The end of all within a call, and fuel that is wanting in a copied list of a call: frames from the innermost outwards.
 abbrev pub CallFinishes : Type 0
 CallFinishes = ExpandsTo ((CallsList 1 ∷ Says 2 ∷ []) ∷ (FinishesNow ∷ []) ∷ []) 9 100 0 (record {
-  points = row 0 0 7 NoFault ∷ row 0 0 0 NoFault ∷ [];
+  points = outer (row 0 0 7 NoFault ∷ []) ++ called_by (row 0 0 7 NoFault) (row 0 0 0 NoFault ∷ []);
   world = record fresh { calls = 1 };
   cost = 2;
   ended = ByEnd;
@@ -222,7 +233,8 @@ CallFinishes = ExpandsTo ((CallsList 1 ∷ Says 2 ∷ []) ∷ (FinishesNow ∷ [
 
 abbrev pub CallIsCut : Type 0
 CallIsCut = ExpandsTo ((Says 2 ∷ CallsList 1 ∷ []) ∷ (Says 1 ∷ CopiesList 2 ∷ []) ∷ (Says 1 ∷ Says 1 ∷ []) ∷ []) 9 5 0 (record {
-  points = row 0 0 2 NoFault ∷ row 1 0 7 NoFault ∷ row 0 0 1 NoFault ∷ row 1 0 7 NoFault ∷ row 0 1 1 NoFault ∷ [];
+  points = outer (row 0 0 2 NoFault ∷ row 1 0 7 NoFault ∷ [])
+      ++ called_by (row 1 0 7 NoFault) (row 0 0 1 NoFault ∷ row 1 0 7 NoFault ∷ row 0 1 1 NoFault ∷ []);
   world = record fresh { calls = 1; at = 1 };
   cost = 5;
   ended = ByBudget;
@@ -237,7 +249,8 @@ deep_lists = (CallsList 1 ∷ CopiesList 1 ∷ CopiesNothing ∷ []) ∷ (Copies
 
 abbrev pub LastRoom : Type 0
 LastRoom = ExpandsTo deep_lists 9 100 127 (record {
-  points = row 0 0 7 NoFault ∷ row 0 0 9 NoRoom ∷ row 1 0 7 NoFault ∷ row 0 1 9 NoRoom ∷ row 2 0 8 NoFault ∷ [];
+  points = outer (row 0 0 7 NoFault ∷ []) ++ (called_by (row 0 0 7 NoFault) (row 0 0 9 NoRoom ∷ [])
+      ++ outer (row 1 0 7 NoFault ∷ row 0 1 9 NoRoom ∷ row 2 0 8 NoFault ∷ []));
   world = record fresh { calls = 1; at = 2 };
   cost = 5;
   ended = ByLeave;
@@ -247,8 +260,19 @@ LastRoom = ExpandsTo deep_lists 9 100 127 (record {
 
 abbrev pub NoMoreRoom : Type 0
 NoMoreRoom = ExpandsTo deep_lists 9 100 128 (record {
-  points = row 0 0 9 NoRoom ∷ row 1 0 9 NoRoom ∷ row 2 0 9 NoRoom ∷ [];
+  points = outer (row 0 0 9 NoRoom ∷ row 1 0 9 NoRoom ∷ row 2 0 9 NoRoom ∷ []);
   world = record fresh { at = 2 };
+  cost = 3;
+  ended = ByLeave;
+  nested = 0;
+  unpaid = [];
+})
+
+-- What is passed over is no point; puts are made all the same, also where the list ends before the place.
+abbrev pub LinesArePassedOver : Type 0
+LinesArePassedOver = ExpandsTo ((SkipsTo 2 ∷ Says 1 ∷ SaysValue ∷ SkipsTo 9 ∷ Says 2 ∷ []) ∷ []) 9 100 0 (record {
+  points = outer (row 0 0 0 NoFault ∷ row 2 0 2 NoFault ∷ row 3 0 0 NoFault ∷ []);
+  world = record fresh { value = Leaf 9; at = 3 };
   cost = 3;
   ended = ByLeave;
   nested = 0;

@@ -2,10 +2,12 @@
 -- project, after the Language Reference (SC26-4940): conditional assembly, macro calls, COPY.
 use Rattle.std.specs.Prelude.{ℕ, zero, suc, ◌+◌, ◌-◌, Bool, true, false, nat_lt, if◌then◌else◌, List, [], ◌∷◌, ◌++◌, map, length, max, Option, Some, None, option_map, slice_get}
 use Rattle.kept_values.specs.Trees.{Tree, Pair}
+use Rattle.trace_arena.specs.Points as trace
+use Rattle.trace_arena.specs.Points.{own, within}
 use Rattle.asking_core.specs.Worlds.{WorldModel}
 use Rattle.asking_core.specs.Runs.{Ending, ByLeave, ByEnd, ByBudget, deepest_depth}
 use Rattle.plain_expansion.specs.Questions.{result_by}
-use Rattle.plain_expansion.specs.Language.{Vocabulary, Level, Stack, Entry, Nowhere, Calling, Copying, Act, Continues, Branches, Enters, Returns, Finishes, Fault, NoFault, NoLabel, NoBranchLeft, NoRoom, Point, Language}
+use Rattle.plain_expansion.specs.Language.{Vocabulary, Level, Stack, Entry, Nowhere, Calling, Copying, Act, Continues, Skips, Branches, Enters, Returns, Finishes, Fault, NoFault, NoLabel, NoBranchLeft, NoRoom, Point, Language}
 
 -- the statement behind this one
 abbrev pub next_of : {V : Vocabulary} → Level V → Level V
@@ -41,6 +43,9 @@ branched (Some n) (Some known) point x = GoesOn (point NoFault) []
 abbrev pub carried : (L : Language) → L.words.Said → Act L.words → Stack L.words → Going L.words
 carried L said (Continues known puts) x =
     GoesOn (record { stack = x; said = said; fault = NoFault }) puts (record (stepped x) { known = known })
+carried L said (Skips position known puts) x =
+    GoesOn (record { stack = x; said = said; fault = NoFault }) puts
+    (record x { known = known; here = record { listing = x.here.listing; position = position } })
 carried L said (Branches label known) x =
     branched (place_of L x.here.listing label) known (λ fault. record { stack = x; said = said; fault = fault }) x
 carried L said (Enters limited entry) x =
@@ -93,11 +98,11 @@ placed W false s n = s
 abbrev pub answers_of : (W : WorldModel) → W.State → List Tree → List Pair
 answers_of W s keys = map (λ key. record { key = key; value = W.answer s key }) keys
 
--- What comes of it: what is kept of each point, in order; the world after; how many statements were processed; how it ended;
+-- What comes of it: what is kept of each point, in order, in a nested call with the points that called; the world after; how many statements were processed; how it ended;
 -- how many frames it wanted to stand in one another at most; and where fuel was wanting, the frames of the statement that
 -- was not processed, innermost first.
 pub record Expansion (I F A : Type 0) : Type 0 where
-  pub points : List I
+  pub points : List (trace.Point I)
   pub world : A
   pub cost : ℕ
   pub ended : Ending
@@ -114,7 +119,11 @@ spent_at frames s = record { points = []; world = s; cost = 0; ended = ByBudget;
 
 -- a point, and then the rest
 abbrev pub pointed : {I F A : Type 0} → I → Expansion I F A → Expansion I F A
-pointed item e = record e { points = item ∷ e.points }
+pointed item e = record e { points = own item ∷ e.points }
+
+-- the points of a nested call stand behind the point that called
+abbrev pub behind : {I F A : Type 0} → List I → Expansion I F A → Expansion I F A
+behind calls e = record e { points = map (within calls) e.points }
 
 -- a unit of fuel, and then the rest
 abbrev pub paid : {I F A : Type 0} → Expansion I F A → Expansion I F A
@@ -148,18 +157,20 @@ module _ (L : Language) (W : WorldModel) (expand : Expands L W) where
   abbrev pub frames_at : Stack L.words → L.Frames
   frames_at x = L.frames_of (x.here ∷ x.below)
 
-  -- a nested call, one frame deeper than the frames that stand open in its caller, and what follows it
-  abbrev pub called : L.words.Call → Stack L.words → W.State → (fuel depth : ℕ) → Expansion L.Item L.Frames W.State
-  called call x s fuel depth =
+  -- a nested call, one frame deeper than the frames that stand open in its caller, behind the item of the point that called,
+  -- and what follows it
+  abbrev pub called : L.Item → L.words.Call → Stack L.words → W.State → (fuel depth : ℕ) → Expansion L.Item L.Frames W.State
+  called item call x s fuel depth =
       let child = expand (first_stack L call (answers_of W s (L.entry_keys call))) s fuel (depth + length x.below + 1) in
-      come_back child.ended (length x.below + 1) (frames_at x) W.after_leave child
+      come_back child.ended (length x.below + 1) (frames_at x) W.after_leave (behind (item ∷ []) child)
       (expand (stepped x) (W.after_leave child.world) (fuel - child.cost) depth)
 
   -- what is entered, where there is room
-  abbrev pub entered : Entry L.words → Stack L.words → W.State → (fuel depth : ℕ) → Expansion L.Item L.Frames W.State
-  entered Nowhere x s fuel depth = expand (stepped x) s fuel depth
-  entered (Calling call puts) x s fuel depth = called call x (W.after_enter (put_each W (W.after_bump s 1) puts)) fuel depth
-  entered (Copying listing) x s fuel depth = expand (copying listing x) s fuel depth
+  abbrev pub entered : L.Item → Entry L.words → Stack L.words → W.State → (fuel depth : ℕ) → Expansion L.Item L.Frames W.State
+  entered item Nowhere x s fuel depth = expand (stepped x) s fuel depth
+  entered item (Calling call puts) x s fuel depth =
+      called item call x (W.after_enter (put_each W (W.after_bump s 1) puts)) fuel depth
+  entered item (Copying listing) x s fuel depth = expand (copying listing x) s fuel depth
 
   -- a point, and what follows it; frames and calls stand in one another so deep at most
   abbrev pub followed : Going L.words → Stack L.words → W.State → (fuel depth : ℕ) → Expansion L.Item L.Frames W.State
@@ -168,7 +179,7 @@ module _ (L : Language) (W : WorldModel) (expand : Expands L W) where
   followed (GoesOut point) x s fuel depth = pointed (L.item_of point) (ended_by ByEnd s)
   followed (GoesIn point limited entry) x s fuel depth =
       if nat_lt (depth + length x.below) deepest_depth
-      then nesting (length x.below + 1) (pointed (L.item_of point) (entered entry x s fuel depth))
+      then nesting (length x.below + 1) (pointed (L.item_of point) (entered (L.item_of point) entry x s fuel depth))
       else pointed (L.item_of limited) (expand (stepped x) s fuel depth)
 
   -- a statement that is processed: its effect under what the world answers

@@ -34,11 +34,12 @@ pub data Entry (V : Vocabulary) : Type 0 where
   Calling : (call : V.Call) (puts : List Pair) → Entry V
   Copying : (listing : V.Listing) → Entry V
 
--- What a statement does: it goes on with the next one, knowing and putting so much; it branches to a label, after which so
--- much is known, or for which no branch is left; it wants room for one more frame, for want of which only so much is said; it
--- ends its call; or it ends all.
+-- What a statement does: it goes on with the next one, knowing and putting so much; it goes on so at the statement of a number
+-- of its list, passing over those between; it branches to a label, after which so much is known, or for which no branch is
+-- left; it wants room for one more frame, for want of which only so much is said; it ends its call; or it ends all.
 pub data Act (V : Vocabulary) : Type 0 where
   Continues : (known : V.Known) (puts : List Pair) → Act V
+  Skips : (position : ℕ) (known : V.Known) (puts : List Pair) → Act V
   Branches : (label : V.Label) (known : Option V.Known) → Act V
   Enters : (limited : V.Said) (entry : Entry V) → Act V
   Returns : Act V

@@ -3,7 +3,8 @@ use Rattle.std.specs.Prelude.{◌≡◌, ◌↔◌, ℕ, ◌+◌, ◌<◌, ◌�
 use Rattle.kept_values.specs.Trees.{Tree}
 use Rattle.asking_core.specs.Worlds.{WorldModel}
 use Rattle.asking_core.specs.Machines.{MachineModel, Told, Nothing}
-use Rattle.asking_core.specs.Runs.{Run, Follows, Plain, ByBudget, emitted, after_run, cost, ending, deepest, deepest_depth, unpaid}
+use Rattle.asking_core.specs.Runs.{Run, Follows, Plain, ByBudget, after_run, cost, ending, deepest, deepest_depth, unpaid}
+use Rattle.kept_outcomes.specs.Traces.{traced}
 use Rattle.plain_expansion.specs.Language.{Stack, Language}
 use Rattle.plain_expansion.specs.Expansion.{Expansion, expand, expansion}
 use Rattle.plain_expansion.specs.Engine.{Place, expander}
@@ -11,11 +12,11 @@ use Rattle.plain_expansion.specs.Guard.{Watched, guarded}
 use Rattle.plain_expansion.specs.Marks.{is_quiet, is_marked}
 use Rattle.plain_expansion.specs.Watch.{KeepsToWatch}
 
--- A run gives an expansion, from a place and what is told there, and from a state of the world, where so many frames stand
--- open.
-pub record Gives (M : MachineModel) (W : WorldModel) (p : M.Place) (g : Told) (s : W.State) (frames : ℕ) (run : Run M.Call M.Item)
+-- A run gives an expansion, from a place and what is told there, and from a state of the world, where this item was told last,
+-- if one was, and so many frames stand open.
+pub record Gives (M : MachineModel) (W : WorldModel) (last : List M.Item) (p : M.Place) (g : Told) (s : W.State) (frames : ℕ) (run : Run M.Call M.Item)
     (e : Expansion M.Item M.Frames W.State) : Type 0 where
-  pub points : emitted run ≡ e.points
+  pub points : traced last run ≡ e.points
   pub world : after_run W s run ≡ e.world
   pub cost_is : cost run ≡ e.cost
   pub ended : ending run ≡ e.ended
@@ -23,22 +24,22 @@ pub record Gives (M : MachineModel) (W : WorldModel) (p : M.Place) (g : Told) (s
   pub unpaid_is : unpaid M p g run ≡ e.unpaid
 
 -- some plain run gives it
-pub record HasRun (M : MachineModel) (W : WorldModel) (p : M.Place) (g : Told) (s : W.State) (fuel depth frames : ℕ)
+pub record HasRun (M : MachineModel) (W : WorldModel) (last : List M.Item) (p : M.Place) (g : Told) (s : W.State) (fuel depth frames : ℕ)
     (e : Expansion M.Item M.Frames W.State) : Type 0 where
   pub run : Run M.Call M.Item
   pub plain : Plain M W s p g fuel depth frames run
-  pub gives : Gives M W p g s frames run e
+  pub gives : Gives M W last p g s frames run e
 
 -- each plain run of a call gives its plain expansion
 abbrev pub RunsAreExpansions : Language → WorldModel → Type 0
 RunsAreExpansions L W = (call : L.words.Call) (s : W.State) (fuel depth : ℕ) (run : Run L.words.Call L.Item) →
     Plain (expander L) W s ((expander L).start call) Nothing fuel depth 0 run →
-    Gives (expander L) W ((expander L).start call) Nothing s 0 run (expansion L W call s fuel depth)
+    Gives (expander L) W [] ((expander L).start call) Nothing s 0 run (expansion L W call s fuel depth)
 
 -- each call has a plain run
 abbrev pub EachCallRuns : Language → WorldModel → Type 0
 EachCallRuns L W = (call : L.words.Call) (s : W.State) (fuel depth : ℕ) →
-    HasRun (expander L) W ((expander L).start call) Nothing s fuel depth 0 (expansion L W call s fuel depth)
+    HasRun (expander L) W [] ((expander L).start call) Nothing s fuel depth 0 (expansion L W call s fuel depth)
 
 -- the first number of the definition is free, if it is greater than the fuel
 abbrev pub GasIsFree : Language → WorldModel → Type 0
@@ -54,7 +55,7 @@ abbrev pub CarefulRunsAreExpansions : Language → WorldModel → Type 0
 CarefulRunsAreExpansions L W = (full : ℕ) (moving writable : Tree → Bool) (call : L.words.Call) (s : W.State) (fuel depth : ℕ)
     (run : Run L.words.Call L.Item) →
     Plain (careful_expander L full moving writable) W s ((careful_expander L full moving writable).start call) Nothing fuel depth 0 run →
-    Gives (careful_expander L full moving writable) W ((careful_expander L full moving writable).start call) Nothing s 0 run
+    Gives (careful_expander L full moving writable) W [] ((careful_expander L full moving writable).start call) Nothing s 0 run
     (expansion L W call s fuel depth)
 
 -- A run of the machine is one of the machine that watches itself exactly where it keeps to the watch: so that one gives up only

@@ -1,8 +1,8 @@
 //! What the definition gives of a small language, row by row.
-ghost use Rattle.plain_expansion.specs.Example.{LoopEnds, LoopIsCut, LabelIsMissing, FirstLabel, CallReturns, CallFinishes, CallIsCut, LastRoom, NoMoreRoom, LongLoop};
+ghost use Rattle.plain_expansion.specs.Example.{LoopEnds, LoopIsCut, LabelIsMissing, FirstLabel, CallReturns, CallFinishes, CallIsCut, LastRoom, NoMoreRoom, LinesArePassedOver, LongLoop};
 
 /// The definition, worked out: loops, and loops cut by the budget; a label that is nowhere, and the first of several;
-/// calls that return, that end all, and that fuel ends; and the last room for a frame. It does nothing; its contract is
+/// calls that return, that end all, and that fuel ends; the last room for a frame; and lines that are passed over. It does nothing; its contract is
 /// the claim.
 pub fn the_rows_come_out()
     ensures ends { LoopEnds }
@@ -14,5 +14,6 @@ pub fn the_rows_come_out()
     ensures call_cut { CallIsCut }
     ensures last_room { LastRoom }
     ensures no_room { NoMoreRoom }
+    ensures passed { LinesArePassedOver }
     ensures long { LongLoop }
 {}

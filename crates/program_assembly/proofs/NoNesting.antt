@@ -3,12 +3,13 @@ use Rattle.std.proofs.Common.{◌≡◌, ℕ, zero, suc, ◌+◌, Option, Some, 
 use Rattle.kept_values.specs.Trees.{Tree}
 use Rattle.asking_core.specs.Worlds.{WorldModel}
 use Rattle.plain_expansion.specs.Questions.{result_by}
-use Rattle.plain_expansion.specs.Language.{Vocabulary, Stack, Act, Continues, Branches, Enters, Returns, Finishes, Fault, Point, Language}
+use Rattle.plain_expansion.specs.Language.{Vocabulary, Stack, Act, Continues, Skips, Branches, Enters, Returns, Finishes, Fault, Point, Language}
 use Rattle.plain_expansion.specs.Expansion.{Going, GoesOn, GoesBack, GoesOut, GoesIn, Met, Over, Meets, Expands, branched, carried, place_of, put_each, placed, outermost, met_from, statement_at, answers_of, first_stack, followed, met_with, expand, expansion}
 
 -- an act that enters nothing
 abbrev pub IsNoEntry : {V : Vocabulary} → Act V → Type 0
 IsNoEntry (Continues known puts) = Unit {0}
+IsNoEntry (Skips position known puts) = Unit {0}
 IsNoEntry (Branches label known) = Unit {0}
 IsNoEntry (Enters limited entry) = ⊥
 IsNoEntry Returns = Unit {0}
@@ -30,6 +31,7 @@ branched_flat (Some n) (Some k) point x = tt
 
 carried_flat : (L : Language) (said : L.words.Said) (act : Act L.words) (x : Stack L.words) → IsNoEntry act → IsFlat (carried L said act x)
 carried_flat L said (Continues known puts) x stays = tt
+carried_flat L said (Skips position known puts) x stays = tt
 carried_flat L said (Branches label known) x stays =
     branched_flat (place_of L x.here.listing label) known (λ fault. record { stack = x; said = said; fault = fault }) x
 carried_flat L said (Enters limited entry) x stays = absurd stays
