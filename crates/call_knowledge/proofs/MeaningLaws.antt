@@ -43,10 +43,20 @@ typed : {P : Type 0} (b : Bool) (one : Aim) (at : ℕ) → (one ≡ Local at →
 typed true one at then is = then is
 typed false one at then is = cc
 
-pub aim_local : (meaning : Meaning) (element : Option ℕ) (kind : SetKind) (at : ℕ) → aim_by meaning element kind ≡ Local at → place element ≡ Some at
-aim_local Unknown element kind at is = aim_at-local false (place element) at is
-aim_local (SystemText text) element kind at is = cc
-aim_local (Scalar d) element kind at is =
+aim_by-local : (meaning : Meaning) (element : Option ℕ) (kind : SetKind) (at : ℕ) → aim_by meaning element kind ≡ Local at → place element ≡ Some at
+aim_by-local Unknown element kind at is = aim_at-local false (place element) at is
+aim_by-local (SystemText text) element kind at is = cc
+aim_by-local (Scalar d) element kind at is =
     typed (same_kind d.kind kind) (scalar_aim d.global element) at (λ e. scalar-local d.global element at e) is
-aim_local (Array d) element kind at is =
+aim_by-local (Array d) element kind at is =
     typed (same_kind d.kind kind) (array_aim d.global element) at (λ e. array-local d.global element at e) is
+
+-- where a parameter aims at nothing
+chosen : {P : Type 0} (b : Bool) (one : Aim) (at : ℕ) → (one ≡ Local at → P) → cond b OtherType one ≡ Local at → P
+chosen true one at then is = cc
+chosen false one at then is = then is
+
+pub aim_local : (bound : Bool) (meaning : Meaning) (element : Option ℕ) (kind : SetKind) (at : ℕ) →
+    cond bound OtherType (aim_by meaning element kind) ≡ Local at → place element ≡ Some at
+aim_local bound meaning element kind at is =
+    chosen bound (aim_by meaning element kind) at (λ e. aim_by-local meaning element kind at e) is

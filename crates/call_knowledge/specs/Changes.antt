@@ -10,7 +10,7 @@ use Rattle.call_knowledge.specs.declared.aim.Aim.{Aim}
 use Rattle.call_knowledge.specs.declared.aim.Aim.TheVariants.{OtherType, NoPlace, Local, Global}
 use Rattle.call_knowledge.specs.declared.change.Change.{Change}
 use Rattle.call_knowledge.specs.declared.change.Change.TheVariants as change
-use Rattle.call_knowledge.specs.Knowledge.{Knowledge, Meaning, Unknown, SystemText, Scalar, Array, meaning, is_known}
+use Rattle.call_knowledge.specs.Knowledge.{Knowledge, Meaning, Unknown, SystemText, Scalar, Array, meaning, is_bound, is_known}
 
 -- whether two types are one
 abbrev pub same_kind : SetKind → SetKind → Bool
@@ -42,8 +42,9 @@ aim_by (SystemText text) element kind = OtherType
 aim_by (Scalar declared) element kind = if same_kind declared.kind kind then scalar_aim declared.global element else OtherType
 aim_by (Array declared) element kind = if same_kind declared.kind kind then array_aim declared.global element else OtherType
 
+-- a parameter and a system variable symbol are of no type that SETx sets
 abbrev pub aim : Knowledge → (name : List ℕ) (element : Option ℕ) → SetKind → Aim
-aim k name element kind = aim_by (meaning k name) element kind
+aim k name element kind = if is_bound k.binding name then OtherType else aim_by (meaning k name) element kind
 
 -- a local SET symbol, or an element of one, gets a value
 abbrev pub holding : Knowledge → (name : List ℕ) (element : Option ℕ) → SetValue → (at : ℕ) → Knowledge

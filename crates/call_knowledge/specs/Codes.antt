@@ -1,8 +1,9 @@
 -- How what a call knows is stored as tuples, so that it is a value that can be told apart. This project.
-use Rattle.std.specs.Prelude.{ℕ, List, refl}
-use Rattle.std.specs.Coded.{Coded, code_by, coded×, coded_ℕ, coded_list}
+use Rattle.std.specs.Prelude.{ℕ, List, Option, refl}
+use Rattle.std.specs.Coded.{Coded, code_by, coded×, coded_ℕ, coded_list, coded_option}
 use Rattle.set_symbols.specs.Codes.{table_code}
 use Rattle.set_symbols.specs.Table.{Table}
+use Rattle.macro_binding.specs.Bindings.{Binding, Bound}
 use Rattle.call_knowledge.specs.declared.system.SystemVariable.{SystemVariable}
 use Rattle.call_knowledge.specs.Knowledge.{Knowledge}
 
@@ -15,11 +16,29 @@ system_code =
     (λ t. record { name = t.0; text = t.1 })
     (λ _. refl)
 
+abbrev pub bound_code : Coded Bound
+bound_code =
+    code_by
+    (List ℕ × List ℕ)
+    (coded× (coded_list coded_ℕ) (coded_list coded_ℕ))
+    (λ b. (b.name, b.value))
+    (λ t. record { name = t.0; value = t.1 })
+    (λ _. refl)
+
+abbrev pub binding_code : Coded Binding
+binding_code =
+    code_by
+    (List ℕ × (List (List ℕ) × List Bound))
+    (coded× (coded_list coded_ℕ) (coded× (coded_list (coded_list coded_ℕ)) (coded_list bound_code)))
+    (λ b. (b.name_entry, (b.positionals, b.parameters)))
+    (λ t. record { name_entry = t.0; positionals = t.1.0; parameters = t.1.1 })
+    (λ _. refl)
+
 abbrev pub knowledge_code : Coded Knowledge
 knowledge_code =
     code_by
-    ((Table × Table) × (ℕ × List SystemVariable))
-    (coded× (coded× table_code table_code) (coded× coded_ℕ (coded_list system_code)))
-    (λ k. ((k.scalars, k.arrays), (k.branches, k.systems)))
-    (λ t. record { scalars = t.0.0; arrays = t.0.1; branches = t.1.0; systems = t.1.1 })
+    ((Table × Table) × (ℕ × (List SystemVariable × Option Binding)))
+    (coded× (coded× table_code table_code) (coded× coded_ℕ (coded× (coded_list system_code) (coded_option binding_code))))
+    (λ k. ((k.scalars, k.arrays), (k.branches, (k.systems, k.binding))))
+    (λ t. record { scalars = t.0.0; arrays = t.0.1; branches = t.1.0; systems = t.1.1.0; binding = t.1.1.1 })
     (λ _. refl)

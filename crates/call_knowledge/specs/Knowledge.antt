@@ -1,18 +1,22 @@
 -- What a call knows of variable symbols (HLASM Language Reference SC26-4940, "SET symbols", "Subscripted SET symbols",
--- "System variable symbols", "ACTR instruction").
-use Rattle.std.specs.Prelude.{ℕ, Bool, true, false, List, [], ◌∷◌, Option, Some, None, find, codes}
+-- "Symbolic parameters", "System variable symbols", "ACTR instruction").
+use Rattle.std.specs.Prelude.{ℕ, ℤ, ◌||◌, Bool, true, false, List, [], ◌∷◌, length, is_some, Option, Some, None, find, codes}
 use Rattle.std.specs.Str.{bytes_eq}
 use Rattle.set_symbols.specs.Table.{Table, declared_of}
 use Rattle.set_symbols.specs.declared.symbol.Declared.{Declared}
+use Rattle.macro_binding.specs.Bindings.{Binding}
+use Rattle.macro_binding.specs.Values.{bound_of, value_of}
+use Rattle.macro_binding.specs.declared.value.Worth.{Worth}
 use Rattle.call_knowledge.specs.declared.system.SystemVariable.{SystemVariable}
 
 -- What is known: the SET symbols without a subscript and those with one, each declared here or set; how many branches are
--- left; and the system variable symbols of this place.
+-- left; the system variable symbols of this place but &SYSLIST; and in a macro what its parameters and &SYSLIST are worth.
 pub record Knowledge : Type 0 where
   pub scalars : Table
   pub arrays : Table
   pub branches : ℕ
   pub systems : List SystemVariable
+  pub binding : Option Binding
 
 -- how many branches a call may take, as long as no ACTR says otherwise
 abbrev pub most_branches : ℕ
@@ -25,9 +29,36 @@ open_code sysparm = record {
   arrays = [];
   branches = most_branches;
   systems = record { name = codes "SYSPARM"; text = sysparm } ∷ [];
+  binding = None;
 }
 
--- what a variable symbol is: nothing here; a system variable symbol; or a SET symbol without or with a subscript
+-- what a macro knows before its first statement
+abbrev pub in_macro : List SystemVariable → Binding → Knowledge
+in_macro systems binding = record {
+  scalars = [];
+  arrays = [];
+  branches = most_branches;
+  systems = systems;
+  binding = Some binding;
+}
+
+-- what a parameter, or &SYSLIST, with these subscripts is worth, where the name is that of one
+abbrev pub bound_value : Option Binding → (name : List ℕ) (subscripts : List ℤ) → Option Worth
+bound_value None name subscripts = None
+bound_value (Some binding) name subscripts = value_of binding name subscripts
+
+-- whether a name is that of a parameter, or SYSLIST
+abbrev pub is_bound : Option Binding → (name : List ℕ) → Bool
+is_bound None name = false
+is_bound (Some binding) name = bytes_eq name (codes "SYSLIST") || is_some (bound_of binding.parameters name)
+
+-- how many positional operands a call has; open code has none
+abbrev pub positional_count : Option Binding → ℕ
+positional_count None = 0
+positional_count (Some binding) = length binding.positionals
+
+-- what a variable symbol that is no parameter is: nothing here; a system variable symbol; or a SET symbol without or with a
+-- subscript
 pub data Meaning : Type 0 where
   Unknown : Meaning
   SystemText : (text : List ℕ) → Meaning
@@ -62,4 +93,4 @@ is_meaning (Scalar declared) = true
 is_meaning (Array declared) = true
 
 abbrev pub is_known : Knowledge → List ℕ → Bool
-is_known k name = is_meaning (meaning k name)
+is_known k name = is_bound k.binding name || is_meaning (meaning k name)

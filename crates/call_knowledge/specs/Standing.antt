@@ -1,5 +1,5 @@
--- What a variable symbol stands for (HLASM Language Reference SC26-4940, "SET symbols", "Subscripted SET symbols", "System
--- variable symbols"): one that means nothing here has no value (20); a subscript that is below 1 or above 4,096, more than
+-- What a variable symbol stands for (HLASM Language Reference SC26-4940, "SET symbols", "Subscripted SET symbols", "Symbolic
+-- parameters", "System variable symbols"): one that means nothing here has no value (20); a subscript that is below 1 or above 4,096, more than
 -- one, one at a symbol that has none, and none at a symbol that has one are out of range (22). The value of a global SET
 -- symbol is asked for: where nothing is answered it is 0, 0 or the empty text.
 use Rattle.std.specs.Prelude.{ℕ, ℤ, pos, negsuc, List, [], ◌∷◌, Option, Some, None, unwrap_or, if◌then◌else◌}
@@ -16,7 +16,9 @@ use Rattle.cond_expr.specs.Frames as frames
 use Rattle.cond_expr.specs.Frames.{Standing, Frame, value, parameter, fault}
 use Rattle.set_symbols.specs.Table.{Table, value_of, unset, place}
 use Rattle.set_symbols.specs.declared.symbol.Declared.{Declared}
-use Rattle.call_knowledge.specs.Knowledge.{Knowledge, Meaning, Unknown, SystemText, Scalar, Array, meaning}
+use Rattle.macro_binding.specs.declared.value.Worth.{Worth}
+use Rattle.macro_binding.specs.declared.value.Worth.TheVariants.{Text, OutOfRange}
+use Rattle.call_knowledge.specs.Knowledge.{Knowledge, Meaning, Unknown, SystemText, Scalar, Array, meaning, bound_value, positional_count}
 
 -- the element of this number, 1 to 4,096
 abbrev pub element : ℤ → Option ℕ
@@ -65,12 +67,21 @@ standing_by k (SystemText text) name subscripts = system_value text subscripts
 standing_by k (Scalar declared) name subscripts = symbol_value k.scalars declared name (scalar_place subscripts)
 standing_by k (Array declared) name subscripts = symbol_value k.arrays declared name (array_place subscripts)
 
+-- a parameter, or &SYSLIST
+abbrev pub bound_standing : Worth → Standing
+bound_standing (Text text) = parameter text
+bound_standing OutOfRange = fault 22
+
+abbrev pub standing_or : Option Worth → Asking Standing → Asking Standing
+standing_or None other = other
+standing_or (Some worth) other = done (bound_standing worth)
+
 abbrev pub standing : Knowledge → (name : List ℕ) (subscripts : List ℤ) → Asking Standing
-standing k name subscripts = standing_by k (meaning k name) name subscripts
+standing k name subscripts = standing_or (bound_value k.binding name subscripts) (standing_by k (meaning k name) name subscripts)
 
 -- What surrounds the expressions of a call. Open code has no operands.
 abbrev pub frame : Knowledge → Frame
-frame k = record { variable = standing k; positionals = 0 }
+frame k = record { variable = standing k; positionals = positional_count k.binding }
 
 -- what an expression of a call is told, under the answers given
 abbrev pub told_by : Knowledge → Answers → Told

@@ -1,5 +1,5 @@
 //! What a call knows of variable symbols.
-ghost use Rattle.std.specs.Prelude.{◌≡◌, ℕ, Some, IfOk, OnOk};
+ghost use Rattle.std.specs.Prelude.{◌≡◌, ℕ, Some, IfOk, OnOk, option_copied};
 ghost use Rattle.set_symbols.specs.Table.{place, put};
 ghost use Rattle.call_knowledge.specs.Changes as changes;
 ghost use Rattle.call_knowledge.specs.Knowledge as knowledge;
@@ -12,6 +12,7 @@ use crate::meaning::Meaning;
 use crate::system::{sysparm, system_of};
 use crate::{Aim, Change, SystemVariable};
 use hl_base::{Declaration, Declarations, Name, OutOfMemory, SetKind, SetValue, Text};
+use macro_binding::{Binding, Worth};
 use set_symbols::SetTable;
 use std::alloc::Global;
 use std::marker::Model;
@@ -20,18 +21,21 @@ use std::marker::Model;
 const MOST_BRANCHES: u32 = 4096;
 
 /// What a call knows of variable symbols. Contracts see the tables of its SET symbols, those without a subscript and those
-/// with one, how many branches are left, and its system variable symbols.
+/// with one, how many branches are left, its system variable symbols, and what the operands of a macro call are bound to.
 #[derive(Drop)]
 pub struct Knowledge {
     pub(crate) scalars: SetTable,
     pub(crate) arrays: SetTable,
     branches: u32,
     systems: Vec<SystemVariable>,
+    binding: Option<Binding>,
+    pub(crate) positionals: u32,
 }
 
 impl Model for Knowledge {
+    ghost use Rattle.std.specs.Prelude.{◌≡◌};
     ghost use Rattle.call_knowledge.specs.Codes.{knowledge_code};
-    ghost use Rattle.call_knowledge.specs.Knowledge.{Knowledge};
+    ghost use Rattle.call_knowledge.specs.Knowledge.{Knowledge, positional_count};
 
     ghost Value = { Knowledge };
 
@@ -42,7 +46,10 @@ impl Model for Knowledge {
       arrays = k.arrays;
       branches = k.branches;
       systems = k.systems.items;
+      binding = k.binding;
     } };
+
+    ghost invariant = { λ k. k.positionals ≡ positional_count k.binding };
 }
 
 /// Declares a symbol in a table that does not have it.
@@ -90,7 +97,70 @@ impl Knowledge {
             arrays: SetTable::new(alloc),
             branches: MOST_BRANCHES,
             systems,
+            binding: None,
+            positionals: 0,
         })
+    }
+
+    /// What a macro knows before its first statement: its system variable symbols but `&SYSLIST`, and what its operands are
+    /// bound to. `OutOfMemory` also where it has more operands than a `u32` counts.
+    pub fn in_macro(
+        alloc: Global,
+        systems: Vec<SystemVariable>,
+        binding: Binding,
+    ) -> Result<Knowledge, OutOfMemory>
+        ensures { IfOk result (λ k. k ≡ knowledge.in_macro systems.items binding) }
+    {
+        let Ok(positionals) = u32::try_from(binding.positional_count()) else {
+            return Err(OutOfMemory);
+        };
+        Ok(Knowledge {
+            scalars: SetTable::new(alloc),
+            arrays: SetTable::new(alloc),
+            branches: MOST_BRANCHES,
+            systems,
+            binding: Some(binding),
+            positionals,
+        })
+    }
+
+    /// What a parameter, or `&SYSLIST`, with these subscripts is worth; `None` where the name is that of neither.
+    pub(crate) fn bound_value(
+        &self,
+        alloc: Global,
+        name: &Name,
+        subscripts: &[i32],
+    ) -> Result<Option<Worth>, OutOfMemory>
+        ensures { IfOk result (λ w. w ≡ knowledge.bound_value self.now.binding name.now subscripts.now) }
+    {
+        match &self.binding {
+            None => Ok(None),
+            Some(binding) => binding.value(alloc, name, subscripts),
+        }
+    }
+
+    /// Whether a name is that of a parameter, or SYSLIST.
+    fn is_bound(&self, name: &Name) -> bool
+        ensures { result ≡ knowledge.is_bound self.now.binding name.now }
+    {
+        match &self.binding {
+            None => false,
+            Some(binding) => name.text() == "SYSLIST" || binding.parameter(name).is_some(),
+        }
+    }
+
+    /// What the operands of its macro call are bound to; open code has none.
+    pub fn binding(&self) -> Option<&Binding>
+        ensures { option_copied result ≡ self.now.binding }
+    {
+        self.binding.as_ref()
+    }
+
+    /// Its system variable symbols but `&SYSLIST`.
+    pub fn systems(&self) -> &[SystemVariable]
+        ensures { result.now ≡ self.now.systems }
+    {
+        self.systems.as_slice()
     }
 
     /// What a name means.
@@ -113,13 +183,16 @@ impl Knowledge {
     pub fn is_known(&self, name: &Name) -> bool
         ensures { result ≡ knowledge.is_known self.now name.now }
     {
-        self.meaning(name).is_known()
+        self.is_bound(name) || self.meaning(name).is_known()
     }
 
     /// What SETx of a type aims at.
     pub fn aim(&self, name: &Name, element: Option<u32>, kind: SetKind) -> Aim
         ensures { result ≡ changes.aim self.now name.now element kind }
     {
+        if self.is_bound(name) {
+            return Aim::OtherType;
+        }
         aim_by(self.meaning(name), element, kind)
     }
 

@@ -1,5 +1,6 @@
 //! What a call knows of variable symbols, and what a statement changes of it: the SET symbols that are declared or set in it,
-//! how many branches it may still take, and its system variable symbols.
+//! how many branches it may still take, its system variable symbols, and in a macro what its parameters and `&SYSLIST` are
+//! worth.
 //!
 //! `Surroundings` tell an expression what each variable symbol stands for; the value of a global SET symbol is asked for.
 //! SETx (`setting`), a declaration (`declaring`), ACTR (`counting`) and a branch (`branching`) change nothing by themselves:

@@ -5,7 +5,7 @@ ghost use Rattle.call_knowledge.specs.Tellings.{answers_of};
 ghost use Rattle.call_sites.specs.Values.{known_tree};
 ghost use Rattle.question_trees.specs.Answers.{answer_in};
 ghost use Rattle.cond_expr.specs.Asking.{Answers};
-ghost use Rattle.cond_expr.specs.Frames.{found_by};
+ghost use Rattle.cond_expr.specs.Frames.{found_by, found_of};
 ghost use Rattle.cond_expr.specs.declared.lookups.Found.TheVariants as found;
 ghost use Rattle.set_symbols.specs.Table.{declared_of, place, value_of};
 
@@ -17,6 +17,7 @@ use call_sites::Known;
 use cond_expr::{Found, Lookups};
 use hl_base::{Answer, Key, Name, OutOfMemory, SetKind, SetValue, Text};
 use kept_values::Kept;
+use macro_binding::Worth;
 use set_symbols::{Declared, SetTable};
 use std::alloc::Global;
 
@@ -75,6 +76,16 @@ fn system_value(alloc: Global, text: &Text, subscripts: &[i32]) -> Result<Found,
         return Ok(Found::Fault(22));
     }
     Ok(Found::Parameter(text.copy(alloc)?))
+}
+
+/// What a parameter, or `&SYSLIST`, stands for.
+fn bound_value(worth: Worth) -> Found
+    ensures { result ≡ found_of (standing.bound_standing worth) }
+{
+    match worth {
+        Worth::Text(text) => Found::Parameter(text),
+        Worth::OutOfRange => Found::Fault(22),
+    }
 }
 
 /// The value at a place of a table, which has the symbol.
@@ -194,6 +205,9 @@ impl Lookups for Surroundings<'_> {
         name: &Name,
         subscripts: &[i32],
     ) -> Result<Found, OutOfMemory> {
+        if let Some(worth) = self.knowledge.bound_value(alloc, name, subscripts)? {
+            return Ok(bound_value(worth));
+        }
         match self.knowledge.meaning(name) {
             Meaning::Unknown => Ok(Found::Fault(20)),
             Meaning::System(text) => system_value(alloc, text, subscripts),
@@ -203,7 +217,8 @@ impl Lookups for Surroundings<'_> {
     }
 
     fn positionals(&self) -> u32 {
-        0
+        let knowledge = self.knowledge;
+        knowledge.positionals
     }
 
     fn answer(&self, key: &Key) -> Option<&Answer> {
