@@ -100,7 +100,7 @@ def ordinary():
 
 
 def character():
-    """The arithmetic expressions in it have gaps; it has none of its own."""
+    """Its arithmetic expressions have gaps, and the `*` of a substring stands between two; it has no others."""
     g = arithmetic()
     g.start = "character"
     g.add("arithmetic", ("gap", "sum", "gap"))
@@ -109,7 +109,7 @@ def character():
     g.add("part", only("T'") + ["variable"], only("T'") + ["name"])
     g.add("text", ("quoted",))
     g.add("text", ("quoted", Chars("("), "arithmetic", Chars(","), "arithmetic", Chars(")")))
-    g.add("text", ("quoted", Chars("("), "arithmetic", Chars(","), Chars("*"), Chars(")")))
+    g.add("text", ("quoted", Chars("("), "arithmetic", Chars(","), "gap", Chars("*"), "gap", Chars(")")))
     # what stands within apostrophes, by what stands before: nothing of note, the name of a symbol, or its subscripts
     quote, ampersand = Chars("'"), Chars("&")
     g.add("quoted", (quote, "free", quote), (quote, "named", quote), (quote, "closed", quote), (quote, "lone", quote))

@@ -60,6 +60,11 @@ def quoted(r, depth):
     return text + "'"
 
 
+def starred(r):
+    """The `*` of a substring, often with blanks around it."""
+    return r.choice(["", "", " ", "\t  "]) + "*" + r.choice(["", "", " ", " \t"])
+
+
 def part(r, depth):
     if r.randrange(5) == 0:
         text = r.choice(["T'", "t'"]) + r.choice(["&", "&", ""]) + name(r)
@@ -67,7 +72,7 @@ def part(r, depth):
     text = "(" + expression(r, "arith", depth) + ")" if r.randrange(4) == 0 else ""
     text += quoted(r, depth)
     if r.randrange(4) == 0:
-        text += "(" + expression(r, "arith", depth) + "," + r.choice(["*", expression(r, "arith", 0), "*"]) + ")"
+        text += "(" + expression(r, "arith", depth) + "," + r.choice([starred(r), expression(r, "arith", 0), starred(r)]) + ")"
     return text
 
 

@@ -32,8 +32,8 @@ spell_text-over (Substring text start count) ks js =
     ∙ ap (λ xs. spell_text text (One kind.Open ∷ Gap ∷ xs)) (spell-over start (Gap ∷ One kind.Comma ∷ Gap ∷ spell count (Gap ∷ One kind.Close ∷ ks)) js)
     ∙ spell_text-over text (One kind.Open ∷ Gap ∷ spell start (Gap ∷ One kind.Comma ∷ Gap ∷ spell count (Gap ∷ One kind.Close ∷ ks))) js
 spell_text-over (SubstringToEnd text start) ks js =
-    ap (λ xs. spell_text text (One kind.Open ∷ Gap ∷ xs)) (spell-over start (Gap ∷ One kind.Comma ∷ One (kind.Mark Multiply) ∷ One kind.Close ∷ ks) js)
-    ∙ spell_text-over text (One kind.Open ∷ Gap ∷ spell start (Gap ∷ One kind.Comma ∷ One (kind.Mark Multiply) ∷ One kind.Close ∷ ks)) js
+    ap (λ xs. spell_text text (One kind.Open ∷ Gap ∷ xs)) (spell-over start (Gap ∷ One kind.Comma ∷ Gap ∷ One (kind.Mark Multiply) ∷ Gap ∷ One kind.Close ∷ ks) js)
+    ∙ spell_text-over text (One kind.Open ∷ Gap ∷ spell start (Gap ∷ One kind.Comma ∷ Gap ∷ One (kind.Mark Multiply) ∷ Gap ∷ One kind.Close ∷ ks)) js
 spell_text-over (Joined left right) ks js =
     ap (λ xs. spell_text left (Period ∷ xs)) (spell_text-over right ks js) ∙ spell_text-over left (Period ∷ spell_text right ks) js
 spell_text-over _ ks js = refl

@@ -9,7 +9,7 @@ use Rattle.expression_grammar.specs.declared.character.Kind.{Kind}
 use Rattle.expression_grammar.specs.declared.character.Kind.TheVariants as kind
 use Rattle.expression_grammar.specs.declared.tree.Symbol.{Symbol}
 use Rattle.expression_grammar.specs.Characters.{kind_of}
-use Rattle.expression_grammar.specs.Spelling.{Placed, Piece, Gap, One, Reads, IsOf, AreOf, codes, spell, spell_subscripts, begin_subscripts}
+use Rattle.expression_grammar.specs.Spelling.{Placed, Piece, Gap, One, IsGap, Reads, IsOf, AreOf, codes, spell, spell_subscripts, begin_subscripts}
 use Rattle.expression_grammar.specs.Trees.{Tree, Trees, Items, Quoted, Substring, NoTrees, More}
 use Rattle.expression_grammar.specs.Parts.{symbol_at, finish}
 use Rattle.expression_grammar.specs.Reading as reading
@@ -20,7 +20,7 @@ use Rattle.expression_grammar.proofs.Names.{and-left, and-right, name-parts}
 use Rattle.expression_grammar.proofs.Pieces.{append-nil, reads-cut, length-codes}
 use Rattle.expression_grammar.proofs.Appends.{spell-over}
 use Rattle.expression_grammar.proofs.Completions.{if-true}
-use Rattle.expression_grammar.proofs.Leads.{IsAtTree, as_tree, as_part, first, lt-test}
+use Rattle.expression_grammar.proofs.Leads.{IsAtTree, as_tree, as_part, first, lt-test, blank-want}
 use Rattle.expression_grammar.proofs.LeadsOf.{accepted}
 use Rattle.expression_grammar.proofs.Finds.{whole-some}
 use Rattle.character_grammar.proofs.TextMoveLaws.{at_within, leaves}
@@ -49,6 +49,16 @@ pub reached-then : (from mid to : TextState) (js ks : List Piece) (cs : List Pla
 reached-then from mid to js ks cs l more =
     let n : Reached mid to ks l.rest = more l.rest l.reads in
     record { rest = n.rest; runs = l.runs ∙ n.runs; reads = n.reads }
+
+-- Blanks.
+
+gap-stays : (state : TextState) → ((p : Placed) → kind_of p.code ≡ kind.Blank → text_step state p ≡ Some state) → (front back : List Placed) → IsGap Arithmetic front → text_run state (front ++ back) ≡ text_run state back
+gap-stays state steps [] back i = refl
+gap-stays state steps (p ∷ front) back i = text_run-step state state p (front ++ back) (steps p i.1) ∙ gap-stays state steps front back i.2
+
+-- where a state stays at blanks
+pub reached-gap : (state : TextState) (ks : List Piece) (cs : List Placed) → ((p : Placed) → kind_of p.code ≡ kind.Blank → text_step state p ≡ Some state) → Reads Arithmetic (Gap ∷ ks) cs → Reached state state ks cs
+reached-gap state ks cs steps r = record { rest = r.1; runs = ap (text_run state) r.2 ∙ gap-stays state steps r.0 r.1 r.3; reads = r.4 }
 
 -- Arithmetic expressions.
 
@@ -127,21 +137,48 @@ star-none : (p : Placed) → is_star (kind_of p.code) ≡ true → reading.step 
 unfolding reading.step
 star-none p e = ap (λ k. begun Arithmetic k p []) (star-kind (kind_of p.code) e)
 
-step-count : (opened : Opened) (items : Items) (start : Tree) (next : State) (p : Placed) → reading.step Arithmetic (Want []) p ≡ Some next → text_step (WantCount opened items start) p ≡ Some (Within (Count opened items start) next)
-unfolding text_step
-step-count opened items start next p e =
-    let go : (b : Bool) → is_star (kind_of p.code) ≡ b → begin_count opened items start (reading.step Arithmetic (Want []) p) (kind_of p.code) ≡ Some (Within (Count opened items start) next) =
+step-count_of : (opened : Opened) (items : Items) (start : Tree) (next : State) (p : Placed) (k : Kind) → kind_of p.code ≡ k → (k ≡ kind.Blank → ⊥) → reading.step Arithmetic (Want []) p ≡ Some next →
+    begin_count opened items start (reading.step Arithmetic (Want []) p) k ≡ Some (Within (Count opened items start) next)
+step-count_of opened items start next p kind.Blank f b e = absurd (b refl)
+step-count_of opened items start next p k f b e =
+    let go : (b : Bool) → is_star k ≡ b → (if b then Some (Star opened items start) else option_map (Within (Count opened items start)) (reading.step Arithmetic (Want []) p)) ≡ Some (Within (Count opened items start) next) =
     elim [
-      | true ↦ λ t. let none = star-none p t in cc
-      | false ↦ λ t. ap (λ b. if b then Some (Star opened items start) else option_map (Within (Count opened items start)) (reading.step Arithmetic (Want []) p)) t ∙ ap (option_map (Within (Count opened items start))) e
+      | true ↦ λ t. let none = star-none p (ap is_star f ∙ t) in cc
+      | false ↦ λ t. ap (option_map (Within (Count opened items start))) e
     ] in
-    go (is_star (kind_of p.code)) refl
+    go (is_star k) refl
 
-count-same_of : (opened : Opened) (items : Items) (start : Tree) (p : Placed) (ps qs : List Placed) (last : State) (found : Option State) → reading.step Arithmetic (Want []) p ≡ found →
+-- an arithmetic expression begins where the count is wanted
+step-count : (opened : Opened) (items : Items) (start : Tree) (next : State) (p : Placed) → (kind_of p.code ≡ kind.Blank → ⊥) → reading.step Arithmetic (Want []) p ≡ Some next →
+    text_step (WantCount opened items start) p ≡ Some (Within (Count opened items start) next)
+unfolding text_step
+step-count opened items start next p b e = step-count_of opened items start next p (kind_of p.code) refl b e
+
+pub count-blank : (opened : Opened) (items : Items) (start : Tree) (p : Placed) → kind_of p.code ≡ kind.Blank → text_step (WantCount opened items start) p ≡ Some (WantCount opened items start)
+unfolding text_step
+count-blank opened items start p e = ap (begin_count opened items start (reading.step Arithmetic (Want []) p)) e
+
+-- whether a character is a blank
+data Blankness (p : Placed) : Type 0 where
+  blank : kind_of p.code ≡ kind.Blank → Blankness p
+  other : (kind_of p.code ≡ kind.Blank → ⊥) → Blankness p
+
+blankness : (p : Placed) (k : Kind) → kind_of p.code ≡ k → Blankness p
+blankness p kind.Blank e = blank e
+blankness p _ e = other (λ f. cc)
+
+count-same_of : (opened : Opened) (items : Items) (start : Tree) (p : Placed) (ps qs : List Placed) (last : State) (found : Option State) → reading.step Arithmetic (Want []) p ≡ found → Blankness p →
+    (reading.run Arithmetic (Want []) ps ≡ Some last → text_run (WantCount opened items start) (ps ++ qs) ≡ text_run (Within (Count opened items start) (Want [])) (ps ++ qs)) →
     option_and_then (λ next. reading.run Arithmetic next ps) found ≡ Some last → text_run (WantCount opened items start) (p ∷ ps ++ qs) ≡ text_run (Within (Count opened items start) (Want [])) (p ∷ ps ++ qs)
-count-same_of opened items start p ps qs last None s e = cc
-count-same_of opened items start p ps qs last (Some next) s e =
-    text_run-step (WantCount opened items start) (Within (Count opened items start) next) p (ps ++ qs) (step-count opened items start next p s)
+count-same_of opened items start p ps qs last None s b go e = cc
+count-same_of opened items start p ps qs last (Some next) s (blank f) go e =
+    let stays = blank-want Arithmetic [] p refl f in
+    let same : next ≡ Want [] = cc in
+    text_run-step (WantCount opened items start) (WantCount opened items start) p (ps ++ qs) (count-blank opened items start p f)
+    ∙ go (ap (λ x. reading.run Arithmetic x ps) (sym same) ∙ e)
+    ∙ sym (text_run-step (Within (Count opened items start) (Want [])) (Within (Count opened items start) (Want [])) p (ps ++ qs) (step-within (Count opened items start) (Want []) (Want []) p stays))
+count-same_of opened items start p ps qs last (Some next) s (other n) go e =
+    text_run-step (WantCount opened items start) (Within (Count opened items start) next) p (ps ++ qs) (step-count opened items start next p n s)
     ∙ sym (text_run-step (Within (Count opened items start) (Want [])) (Within (Count opened items start) next) p (ps ++ qs) (step-within (Count opened items start) (Want []) next p s))
 
 count-same : (opened : Opened) (items : Items) (start : Tree) (ps qs : List Placed) (last : State) (tree : Tree) → reading.run Arithmetic (Want []) ps ≡ Some last → accept Arithmetic last ≡ Some tree →
@@ -150,7 +187,8 @@ unfolding accept
 count-same opened items start [] qs last tree e a =
     let same : Want [] ≡ last = cc in
     let none : accept Arithmetic (Want []) ≡ Some tree = ap (accept Arithmetic) same ∙ a in cc
-count-same opened items start (p ∷ ps) qs last tree e a = count-same_of opened items start p ps qs last (reading.step Arithmetic (Want []) p) refl e
+count-same opened items start (p ∷ ps) qs last tree e a =
+    count-same_of opened items start p ps qs last (reading.step Arithmetic (Want []) p) refl (blankness p (kind_of p.code) refl) (λ f. count-same opened items start ps qs last tree f a) e
 
 pub reached-count : (opened : Opened) (items : Items) (start count : Tree) (ks : List Piece) (cs : List Placed) → IsOf Arithmetic count →
     Reads Arithmetic (Gap ∷ spell count (Gap ∷ One kind.Close ∷ ks)) cs → Reached (WantCount opened items start) (Done (built opened (Substring (Quoted items) start count))) ks cs

@@ -17,16 +17,17 @@ use Rattle.expression_grammar.specs.Parts.{symbol_at}
 use Rattle.expression_grammar.specs.Reading as reading
 use Rattle.expression_grammar.specs.Reading.{State, Want, Holds}
 use Rattle.character_grammar.specs.Texts.{spell_text, needs_period, is_lone, belongs, AreItems, IsCut, IsText}
-use Rattle.character_grammar.specs.TextReading.{Opened, Holder, InText, AsType, Frame, Factor, Subscripts, Start, Count, TextState, WantPart, WantQuote, Inside, Lone, Naming, Behind, Closed, Within, WantCount, Star, Letter, Asked, Sigil, Word, Done, joined, duplicated, built, with_plain, typed, typed_name, after_part, begin_part, begin_quoted, go_inside, after_lone, after_symbol, after_name, lengthen, go_naming, after_closed, subscripted, leave, left_by, go_within, is_star, after_star, after_letter, after_asked, after_sigil, lengthen_word, go_word, text_step, text_run}
+use Rattle.character_grammar.specs.TextReading.{Opened, Holder, InText, AsType, Frame, Factor, Subscripts, Start, Count, TextState, WantPart, WantQuote, Inside, Lone, Naming, Behind, Closed, Within, WantCount, Star, Letter, Asked, Sigil, Word, Done, joined, duplicated, built, with_plain, typed, typed_name, after_part, begin_part, begin_quoted, go_inside, after_lone, after_symbol, after_name, lengthen, go_naming, after_closed, subscripted, leave, left_by, go_within, is_star, begin_count, after_star, after_letter, after_asked, after_sigil, lengthen_word, go_word, text_step, text_run}
 use Rattle.character_grammar.specs.TextStanding.{ahead, times, open_text, inside, asked_type, held, unjoined, framed, parted, text_pieces, IsLeft, IsFactor, IsOpened, IsHolder, IsFrame, IsSubscripted, IsInside, TextStands, Rests, TextHolds}
 use Rattle.expression_grammar.proofs.CharacterLaws.{kind-letter, kind-quote, kind-ampersand, kind-letter_symbol, kind-digit_symbol}
 use Rattle.expression_grammar.proofs.Names.{letter-name}
-use Rattle.expression_grammar.proofs.Pieces.{append-nil, reads-join, reads-cut, reads-one, piece_of-one, last-turned, one_of}
+use Rattle.expression_grammar.proofs.Pieces.{append-nil, reads-join, reads-cut, reads-one, reads-kind_gap, piece_of-one, last-turned, gap-longer, one_of}
 use Rattle.expression_grammar.proofs.Appends.{spell-over}
 use Rattle.expression_grammar.proofs.Terms.{name-grows, word-one, word-longer}
 use Rattle.expression_grammar.proofs.Steps.{AllHold, runs, starts}
 use Rattle.expression_grammar.proofs.Finds.{run-append, accept-spells}
 use Rattle.expression_grammar.proofs.Completions.{run-step}
+use Rattle.expression_grammar.proofs.Leads.{gap-want}
 use Rattle.character_grammar.proofs.TextAppends.{spell_text-over, ahead-over, times-over, open_text-over, inside-over, asked_type-over, held-over, unjoined-over, framed-over}
 use Rattle.character_grammar.proofs.TextPlain.{test, is_plain, is_letter_kind, is_name, plain-code, quoted-plain, no-letter, belongs-none, plain-longer, no-symbol, and-none, and-last, lone-false, lone-true, lone-past, period-none, period-first, parted-ampersand, parted-quote, with_plain-are, with_plain-lone, ampersand-once, no-codes}
 
@@ -342,7 +343,7 @@ leave-holds (Subscripts holder symbol others) tree kind.Comma p cs s i e r =
     (added (λ ks. framed (Subscripts holder symbol others) (Gap ∷ spell tree (Gap ∷ ks))) (frame-over (Subscripts holder symbol others) tree) [] (One kind.Comma ∷ []) cs (p ∷ []) r (one kind.Comma p e)) refl
 leave-holds (Start opened items) tree kind.Comma p cs s i e r =
     here (WantCount opened items tree) (cs ++ p ∷ []) (s.0, s.1, i)
-    (added (λ ks. framed (Start opened items) (Gap ∷ spell tree (Gap ∷ ks))) (frame-over (Start opened items) tree) [] (One kind.Comma ∷ []) cs (p ∷ []) r (one kind.Comma p e)) refl
+    (added (λ ks. framed (Start opened items) (Gap ∷ spell tree (Gap ∷ ks))) (frame-over (Start opened items) tree) [] (One kind.Comma ∷ Gap ∷ []) cs (p ∷ []) r (reads-kind_gap Arithmetic kind.Comma p e)) refl
 leave-holds (Count opened items start) tree kind.Close p cs s i e r =
     let whole : Tree = Substring (Quoted items) start tree in
     here (Done (built opened whole)) (cs ++ p ∷ []) (built-text opened whole s.0 (s.1, s.2, i))
@@ -384,23 +385,53 @@ star-kind (kind.Mark operator.Multiply) e = refl
 star-kind (kind.Mark _) e = cc
 star-kind _ e = cc
 
-count-holds : (opened : Opened) (items : Items) (start : Tree) (k : Kind) (p : Placed) (cs : List Placed) → IsFrame (Count opened items start) → kind_of p.code ≡ k →
-    Reads Arithmetic (framed (Count opened items start) []) cs → (b : Bool) → is_star k ≡ b → (found : Option State) → reading.step Arithmetic (Want []) p ≡ found →
+-- blanks, longer by one
+longer-gap : (F : List Piece → List Piece) → ((ks js : List Piece) → F (ks ++ js) ≡ F ks ++ js) → (ks : List Piece) (p : Placed) (cs : List Placed) → kind_of p.code ≡ kind.Blank →
+    Reads Arithmetic (F (ks ++ Gap ∷ [])) cs → Reads Arithmetic (F (ks ++ Gap ∷ [])) (cs ++ p ∷ [])
+longer-gap F over ks p cs e r = turned F over (ks ++ Gap ∷ []) (ks ++ Gap ∷ []) cs (p ∷ []) (λ b q. last-turned Arithmetic ks Gap Gap b (p ∷ []) (gap-longer Arithmetic p refl e) q) r
+
+-- an arithmetic expression begins behind the blanks
+begins-count : (opened : Opened) (items : Items) (start : Tree) (p : Placed) (cs : List Placed) → IsFrame (Count opened items start) → Reads Arithmetic (framed (Count opened items start) (Gap ∷ [])) cs →
+    (found : Option State) → reading.step Arithmetic (Want []) p ≡ found → AllTextHold (option_map (Within (Count opened items start)) found) (cs ++ p ∷ [])
+begins-count opened items start p cs s r None f = tt
+begins-count opened items start p cs s r (Some next) f =
+    let F : List Piece → List Piece = framed (Count opened items start) in
+    let c = reads-cut Arithmetic (F []) (Gap ∷ []) cs (subst (λ ks. Reads Arithmetic ks cs) (framed-over (Count opened items start) [] (Gap ∷ [])) r) in
+    record {
+      front = c.front;
+      back = c.back ++ p ∷ [];
+      both = ap (λ xs. xs ++ p ∷ []) c.both ∙ append_assoc c.front c.back (p ∷ []);
+      stands = s;
+      reads = c.first;
+      rests = gap-want Arithmetic [] c.back (p ∷ []) (piece_of-one Arithmetic Gap c.back c.second) ∙ run-step Arithmetic (Want []) next p [] f;
+    }
+
+count-holds_of : (opened : Opened) (items : Items) (start : Tree) (k : Kind) (p : Placed) (cs : List Placed) → IsFrame (Count opened items start) → kind_of p.code ≡ k →
+    Reads Arithmetic (framed (Count opened items start) (Gap ∷ [])) cs → (b : Bool) → is_star k ≡ b → (found : Option State) → reading.step Arithmetic (Want []) p ≡ found →
     AllTextHold (if b then Some (Star opened items start) else option_map (Within (Count opened items start)) found) (cs ++ p ∷ [])
-count-holds opened items start k p cs s e r true i found f =
+count-holds_of opened items start k p cs s e r true i found f =
     here (Star opened items start) (cs ++ p ∷ []) s
-    (added (framed (Count opened items start)) (framed-over (Count opened items start)) [] (One (kind.Mark operator.Multiply) ∷ []) cs (p ∷ []) r (one (kind.Mark operator.Multiply) p (e ∙ star-kind k i))) refl
-count-holds opened items start k p cs s e r false i None f = tt
-count-holds opened items start k p cs s e r false i (Some next) f =
-    record { front = cs; back = p ∷ []; both = refl; stands = s; reads = r; rests = run-step Arithmetic (Want []) next p [] f }
+    (added (framed (Count opened items start)) (framed-over (Count opened items start)) (Gap ∷ []) (One (kind.Mark operator.Multiply) ∷ Gap ∷ []) cs (p ∷ []) r
+    (reads-kind_gap Arithmetic (kind.Mark operator.Multiply) p (e ∙ star-kind k i))) refl
+count-holds_of opened items start k p cs s e r false i found f = begins-count opened items start p cs s r found f
+
+count-holds : (opened : Opened) (items : Items) (start : Tree) (k : Kind) (p : Placed) (cs : List Placed) → IsFrame (Count opened items start) → kind_of p.code ≡ k →
+    Reads Arithmetic (framed (Count opened items start) (Gap ∷ [])) cs → (found : Option State) → reading.step Arithmetic (Want []) p ≡ found →
+    AllTextHold (begin_count opened items start found k) (cs ++ p ∷ [])
+count-holds opened items start kind.Blank p cs s e r found f =
+    here (WantCount opened items start) (cs ++ p ∷ []) s (longer-gap (framed (Count opened items start)) (framed-over (Count opened items start)) [] p cs e r) refl
+count-holds opened items start k p cs s e r found f = count-holds_of opened items start k p cs s e r (is_star k) refl found f
 
 star-holds : (opened : Opened) (items : Items) (start : Tree) (k : Kind) (p : Placed) (cs : List Placed) → IsFrame (Count opened items start) → kind_of p.code ≡ k →
-    Reads Arithmetic (framed (Count opened items start) (One (kind.Mark operator.Multiply) ∷ [])) cs → AllTextHold (after_star opened items start k) (cs ++ p ∷ [])
+    Reads Arithmetic (framed (Count opened items start) (Gap ∷ One (kind.Mark operator.Multiply) ∷ Gap ∷ [])) cs → AllTextHold (after_star opened items start k) (cs ++ p ∷ [])
+star-holds opened items start kind.Blank p cs s e r =
+    here (Star opened items start) (cs ++ p ∷ []) s
+    (longer-gap (framed (Count opened items start)) (framed-over (Count opened items start)) (Gap ∷ One (kind.Mark operator.Multiply) ∷ []) p cs e r) refl
 star-holds opened items start kind.Close p cs s e r =
     let whole : Tree = SubstringToEnd (Quoted items) start in
     here (Done (built opened whole)) (cs ++ p ∷ []) (built-text opened whole s.0 (s.1, s.2))
     (subst (λ ks. Reads Arithmetic ks (cs ++ p ∷ [])) (sym (built-pieces opened whole []))
-    (added (framed (Count opened items start)) (framed-over (Count opened items start)) (One (kind.Mark operator.Multiply) ∷ []) (One kind.Close ∷ []) cs (p ∷ []) r (one kind.Close p e))) refl
+    (added (framed (Count opened items start)) (framed-over (Count opened items start)) (Gap ∷ One (kind.Mark operator.Multiply) ∷ Gap ∷ []) (One kind.Close ∷ []) cs (p ∷ []) r (one kind.Close p e))) refl
 star-holds opened items start _ p cs s e r = tt
 
 -- Where a part is wanted.
@@ -492,7 +523,7 @@ text_steps (Closed opened items plain) p cs h =
     closed-holds opened items plain (kind_of p.code) p cs h.stands refl (whole-of (text_pieces (Closed opened items plain)) cs h.front h.back h.both h.rests h.reads)
 text_steps (Within frame inner) p cs h = within-holds frame inner (kind_of p.code) p cs h refl (reading.step Arithmetic inner p) refl
 text_steps (WantCount opened items start) p cs h =
-    count-holds opened items start (kind_of p.code) p cs h.stands refl (whole-of (framed (Count opened items start) []) cs h.front h.back h.both h.rests h.reads) (is_star (kind_of p.code)) refl (reading.step Arithmetic (Want []) p) refl
+    count-holds opened items start (kind_of p.code) p cs h.stands refl (whole-of (text_pieces (WantCount opened items start)) cs h.front h.back h.both h.rests h.reads) (reading.step Arithmetic (Want []) p) refl
 text_steps (Star opened items start) p cs h =
     star-holds opened items start (kind_of p.code) p cs h.stands refl (whole-of (text_pieces (Star opened items start)) cs h.front h.back h.both h.rests h.reads)
 text_steps (Letter left) p cs h = letter-holds left (kind_of p.code) p cs h.stands refl (whole-of (ahead left (Capital 84 ∷ [])) cs h.front h.back h.both h.rests h.reads)

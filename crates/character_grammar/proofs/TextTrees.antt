@@ -14,14 +14,14 @@ use Rattle.expression_grammar.specs.Spelling as spelling
 use Rattle.expression_grammar.specs.Spelling.{Placed, Piece, Gap, One, Capital, Letters, Period, Reads, IsOf, AreOf, codes, spell, spell_subscripts}
 use Rattle.expression_grammar.specs.Trees.{Tree, Items, Ordinary, Variable, Quoted, Duplicated, Substring, SubstringToEnd, Joined, NoTrees, More, NoItems}
 use Rattle.expression_grammar.specs.Parts.{symbol_at}
+use Rattle.expression_grammar.specs.Reading as reading
 use Rattle.expression_grammar.specs.Reading.{Want}
 use Rattle.character_grammar.specs.Texts.{spell_text, spell_items, AreItems, IsCut, IsUnit, IsText}
-use Rattle.character_grammar.specs.TextReading.{Opened, AsType, Factor, Start, TextState, WantPart, WantQuote, Inside, Naming, Closed, Within, WantCount, Star, Letter, Asked, Sigil, Word, Done, joined, built, with_plain, typed, typed_name, after_part, begin_part, begin_quoted, go_naming, after_closed, after_star, after_letter, after_asked, after_sigil, go_word, is_star, text_step, text_run, text_accept}
+use Rattle.character_grammar.specs.TextReading.{Opened, AsType, Factor, Start, TextState, WantPart, WantQuote, Inside, Naming, Closed, Within, WantCount, Star, Letter, Asked, Sigil, Word, Done, joined, built, with_plain, typed, typed_name, after_part, begin_part, begin_quoted, go_naming, after_closed, begin_count, after_star, after_letter, after_asked, after_sigil, go_word, text_step, text_run, text_accept}
 use Rattle.expression_grammar.proofs.CharacterLaws.{letter-kind, upper-letter}
-use Rattle.expression_grammar.proofs.Completions.{if-true}
 use Rattle.expression_grammar.proofs.Leads.{first-capital}
 use Rattle.character_grammar.proofs.TextPlain.{no-codes}
-use Rattle.character_grammar.proofs.TextLeads.{text_run-step, Reached, reached-one, reached-then, Whole, reached-arithmetic, reached-count, whole-name, reached-letters, naming-grows, word-grows, reached-subscripts}
+use Rattle.character_grammar.proofs.TextLeads.{text_run-step, Reached, reached-one, reached-then, Whole, reached-arithmetic, reached-count, reached-gap, count-blank, whole-name, reached-letters, naming-grows, word-grows, reached-subscripts}
 use Rattle.character_grammar.proofs.TextItems.{lead-closed}
 
 -- a part is whole, and then come these pieces
@@ -86,11 +86,28 @@ step-start opened before items plain p w e = ap (λ k. after_closed opened befor
 
 step-star : (opened : Opened) (items : Items) (start : Tree) (p : Placed) → kind_of p.code ≡ kind.Mark operator.Multiply → text_step (WantCount opened items start) p ≡ Some (Star opened items start)
 unfolding text_step
-step-star opened items start p e = if-true (is_star (kind_of p.code)) (Some (Star opened items start)) _ (ap is_star e)
+step-star opened items start p e = ap (begin_count opened items start (reading.step Arithmetic (Want []) p)) e
+
+star-blank : (opened : Opened) (items : Items) (start : Tree) (p : Placed) → kind_of p.code ≡ kind.Blank → text_step (Star opened items start) p ≡ Some (Star opened items start)
+unfolding text_step
+star-blank opened items start p e = ap (after_star opened items start) e
 
 step-close : (opened : Opened) (items : Items) (start : Tree) (p : Placed) → kind_of p.code ≡ kind.Close → text_step (Star opened items start) p ≡ Some (Done (built opened (SubstringToEnd (Quoted items) start)))
 unfolding text_step
 step-close opened items start p e = ap (after_star opened items start) e
+
+-- the `*` of a substring, with the blanks around it
+reached-star : (opened : Opened) (items : Items) (start : Tree) (ks : List Piece) (cs : List Placed) → Reads Arithmetic (Gap ∷ One (kind.Mark operator.Multiply) ∷ Gap ∷ One kind.Close ∷ ks) cs →
+    Reached (WantCount opened items start) (Done (built opened (SubstringToEnd (Quoted items) start))) ks cs
+reached-star opened items start ks cs r =
+    let wanted : TextState = WantCount opened items start in
+    let star : TextState = Star opened items start in
+    let done : TextState = Done (built opened (SubstringToEnd (Quoted items) start)) in
+    reached-then wanted wanted done (One (kind.Mark operator.Multiply) ∷ Gap ∷ One kind.Close ∷ ks) ks cs
+    (reached-gap wanted (One (kind.Mark operator.Multiply) ∷ Gap ∷ One kind.Close ∷ ks) cs (count-blank opened items start) r)
+    (λ ds s. reached-then wanted star done (Gap ∷ One kind.Close ∷ ks) ks ds (reached-one wanted star (kind.Mark operator.Multiply) (Gap ∷ One kind.Close ∷ ks) ds (step-star opened items start) s)
+    (λ es t. reached-then star star done (One kind.Close ∷ ks) ks es (reached-gap star (One kind.Close ∷ ks) es (star-blank opened items start) t)
+    (λ fs u. reached-one star done kind.Close ks fs (step-close opened items start) u)))
 
 -- the operands of a substring, from where the first is wanted
 start-lead : (tree : Tree) (opened : Opened) (items : Items) (from : TextState) (start : Tree) (js ks : List Piece) (cs : List Placed) → AreItems items → IsOf Arithmetic start →
@@ -116,11 +133,8 @@ cut-lead opened (Substring (Quoted items) start count) from ks cs i begins r =
     (reached-count opened items start count ks ds i.2 s) (done-whole (built opened (Substring (Quoted items) start count)))) r
 cut-lead opened (SubstringToEnd (Quoted items) start) from ks cs i begins r =
     let whole : Tree = built opened (SubstringToEnd (Quoted items) start) in
-    start-lead whole opened items from start (One (kind.Mark operator.Multiply) ∷ One kind.Close ∷ ks) ks cs i.0 i.1 begins
-    (λ ds s. reached-part whole (WantCount opened items start) (Done whole) ks ds
-    (reached-then (WantCount opened items start) (Star opened items start) (Done whole) (One kind.Close ∷ ks) ks ds
-    (reached-one (WantCount opened items start) (Star opened items start) (kind.Mark operator.Multiply) (One kind.Close ∷ ks) ds (step-star opened items start) s)
-    (λ es t. reached-one (Star opened items start) (Done whole) kind.Close ks es (step-close opened items start) t)) (done-whole whole)) r
+    start-lead whole opened items from start (Gap ∷ One (kind.Mark operator.Multiply) ∷ Gap ∷ One kind.Close ∷ ks) ks cs i.0 i.1 begins
+    (λ ds s. reached-part whole (WantCount opened items start) (Done whole) ks ds (reached-star opened items start ks ds s) (done-whole whole)) r
 cut-lead opened (Substring _ start count) from ks cs i begins r = absurd i.0
 cut-lead opened (SubstringToEnd _ start) from ks cs i begins r = absurd i.0
 cut-lead opened _ from ks cs i begins r = absurd i

@@ -141,12 +141,15 @@ whole-is state None e = tt
 whole-is state (Some tree) e = accept-size Arithmetic state tree e
 
 count-least : (opened : Opened) (items : Items) (start : Tree) (found : Option State) (k : Kind) → TextLeast (text_weight (WantCount opened items start)) (begin_count opened items start found k)
+count-least opened items start None kind.Blank = omega arith
+count-least opened items start (Some next) kind.Blank = omega arith
 count-least opened items start None (kind.Mark operator.Multiply) = omega arith
 count-least opened items start (Some next) (kind.Mark operator.Multiply) = omega arith
 count-least opened items start None _ = tt
 count-least opened items start (Some next) _ = omega arith
 
 star-least : (opened : Opened) (items : Items) (start : Tree) (k : Kind) → TextLeast (text_weight (Star opened items start)) (after_star opened items start k)
+star-least opened items start kind.Blank = omega arith
 star-least opened items start kind.Close = omega (arith, star-weight opened items start)
 star-least opened items start _ = tt
 

@@ -35,7 +35,7 @@ pub data Frame : Type 0 where
 
 -- Where a text stands: a part is wanted, or a quoted text behind its factor; within a quoted text, behind an ampersand
 -- in it, at a variable symbol, behind its subscripts, behind an apostrophe; within an arithmetic expression; where the
--- count of a substring or a `*` is wanted, and behind the `*`; behind a `T`, its apostrophe, its `&`, in its symbol; and
+-- count of a substring or a `*` is wanted, and behind the `*`, blanks there included; behind a `T`, its apostrophe, its `&`, in its symbol; and
 -- behind a part that is whole.
 pub data TextState : Type 0 where
   WantPart : (left : Option Tree) → TextState
@@ -165,9 +165,11 @@ is_star (kind.Mark Multiply) = true
 is_star _ = false
 
 abbrev pub begin_count : Opened → Items → Tree → Option State → Kind → Option TextState
+begin_count opened items start found kind.Blank = Some (WantCount opened items start)
 begin_count opened items start found k = if is_star k then Some (Star opened items start) else option_map (Within (Count opened items start)) found
 
 abbrev pub after_star : Opened → Items → Tree → Kind → Option TextState
+after_star opened items start kind.Blank = Some (Star opened items start)
 after_star opened items start kind.Close = Some (Done (built opened (SubstringToEnd (Quoted items) start)))
 after_star opened items start _ = None
 

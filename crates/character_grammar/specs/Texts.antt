@@ -75,7 +75,8 @@ spell_text (Quoted items) after = One Quote ∷ spell_items items false (One Quo
 spell_text (Duplicated factor text) after = One Open ∷ Gap ∷ spell factor (Gap ∷ One Close ∷ spell_text text after)
 spell_text (Substring text start count) after =
     spell_text text (One Open ∷ Gap ∷ spell start (Gap ∷ One Comma ∷ Gap ∷ spell count (Gap ∷ One Close ∷ after)))
-spell_text (SubstringToEnd text start) after = spell_text text (One Open ∷ Gap ∷ spell start (Gap ∷ One Comma ∷ One (Mark Multiply) ∷ One Close ∷ after))
+spell_text (SubstringToEnd text start) after =
+    spell_text text (One Open ∷ Gap ∷ spell start (Gap ∷ One Comma ∷ Gap ∷ One (Mark Multiply) ∷ Gap ∷ One Close ∷ after))
 spell_text (Joined left right) after = spell_text left (Period ∷ spell_text right after)
 spell_text other after = after
 

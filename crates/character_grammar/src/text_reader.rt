@@ -531,10 +531,15 @@ fn begin_count(
     if is_star(kind) {
         return Ok(moved(TextPoint::Star(opened, items, start), 0));
     }
-    let frame = Frame::Count(opened, items, start);
-    match step_within(alloc, frame, Point::Want, Vec::new(alloc), c, at)? {
-        Some(next) => Ok(moved(next.point, next.more + 1)),
-        None => Ok(None),
+    match kind {
+        Kind::Blank => Ok(moved(TextPoint::WantCount(opened, items, start), 0)),
+        _ => {
+            let frame = Frame::Count(opened, items, start);
+            match step_within(alloc, frame, Point::Want, Vec::new(alloc), c, at)? {
+                Some(next) => Ok(moved(next.point, next.more + 1)),
+                None => Ok(None),
+            }
+        }
     }
 }
 
@@ -550,6 +555,7 @@ fn after_star(
         (texts.opened_size (opened_of opened) + size_items (items_in NoItems items.items) + 1 + size (tree_of start)) found) }
 {
     match kind {
+        Kind::Blank => Ok(moved(TextPoint::Star(opened, items, start), 0)),
         Kind::Close => {
             let part = substring_to_end(alloc, quoted(items), start)?;
             let whole = built(alloc, opened, part)?;

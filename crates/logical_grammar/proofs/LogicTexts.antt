@@ -110,11 +110,13 @@ mapped-shows frame None touch = tt
 mapped-shows frame (Some inner) touch = tt
 
 count-shows : (opened : Opened) (items : Items) (start : Tree) (found : Option State) (k : Kind) (touch : Bool) → AllTextShow (begin_count opened items start found k) touch
+count-shows opened items start found kind.Blank touch = tt
 count-shows opened items start found k touch =
     elim (is_star k) as (λ b. AllTextShow (if b then Some (Star opened items start) else option_map (Within (Count opened items start)) found) touch)
     [ true ↦ tt | false ↦ mapped-shows (Count opened items start) found touch ]
 
 star-shows : (opened : Opened) (items : Items) (start : Tree) (k : Kind) (touch : Bool) → AllTextShow (after_star opened items start k) touch
+star-shows opened items start kind.Blank touch = tt
 star-shows opened items start kind.Close touch = tt
 star-shows opened items start _ touch = tt
 
