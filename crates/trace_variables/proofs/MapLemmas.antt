@@ -1,5 +1,5 @@
 -- The map as the list of its values.
-use Rattle.std.proofs.Common.{◌≡◌, List, [], ◌∷◌, map, cond, Some, refl, sym, ap, ◌∙◌}
+use Rattle.std.proofs.Common.{◌≡◌, List, [], ◌∷◌, map, cond, Some, refl, ap, ◌∙◌}
 use Rattle.std.specs.declared.cmp.Ordering.{Ordering}
 use Rattle.std.specs.declared.cmp.Ordering.TheVariants.{Less, Equal, Greater}
 use Rattle.std.specs.Ordering.{match_ordering, is_eq}
@@ -7,7 +7,7 @@ use Rattle.std.specs.Map.{lookup}
 use Rattle.std.specs.BTreeMap.{is_at, insert_entry}
 use Rattle.hl_base.specs.declared.set.SetValue.{SetValue}
 use Rattle.trace_variables.specs.declared.key.Key.{Key}
-use Rattle.trace_variables.specs.Values.{VariableKey, key_order}
+use Rattle.trace_variables.specs.Values.{key_order}
 use Rattle.trace_variables.specs.Seen.{seen_key, seen_entry}
 
 map_match : {X Y : Type 0} (f : X → Y) (o : Ordering) (a b c : List X) →

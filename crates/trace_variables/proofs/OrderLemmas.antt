@@ -1,5 +1,5 @@
 -- The order of keys is that of what contracts see of them.
-use Rattle.std.proofs.Common.{◌≡◌, refl, ap, string_bytes}
+use Rattle.std.proofs.Common.{◌≡◌, refl, ap}
 use Rattle.std.specs.Ordering.{nat_cmp, ordering_then}
 use Rattle.std.specs.Cmp.Lexicographic.{slice_cmp}
 use Rattle.trace_variables.specs.contracts.key.KindOrd.TheImpl as kind_ord
@@ -23,5 +23,5 @@ kind_same C C = refl
 
 pub key_same : (x y : Key) → (key_ord.ghosts).cmp x y ≡ key_order (seen_key x) (seen_key y)
 key_same x y =
-    ap (λ o. ordering_then (slice_cmp nat_cmp (string_bytes x.name) (string_bytes y.name)) (ordering_then o (nat_cmp x.element y.element)))
+    ap (λ o. ordering_then (slice_cmp nat_cmp x.name y.name) (ordering_then o (nat_cmp x.element y.element)))
     (kind_same x.kind y.kind)

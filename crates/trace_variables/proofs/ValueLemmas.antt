@@ -1,9 +1,10 @@
 -- One declaration more, and one item more.
-use Rattle.std.proofs.Common.{◌≡◌, ◌||◌, ℕ, zero, suc, Bool, true, false, not, if◌then◌else◌, List, [], ◌∷◌, Some, take, map, refl, sym, ap, subst, ◌∙◌}
+use Rattle.std.proofs.Common.{◌≡◌, ◌||◌, ◌+◌, ◌<◌, ◌≤◌, ℕ, zero, suc, Bool, true, false, not, Option, None, if◌then◌else◌, List, [], ◌∷◌, Some, take, map, length, refl, sym, ap, subst, ◌∙◌, arith}
 use Rattle.std.specs.Prelude.{slice_get, unwrap_or}
 use Rattle.std.specs.Bool.{beq, OnTrue, OnFalse}
 use Rattle.std.specs.List.{fold}
-use Rattle.std.specs.Option.{option_map}
+use Rattle.std.specs.Option.{option_map, MatchOption}
+use Rattle.std.proofs.lemmas.Bool.{OnTrue_at, OnFalse_at}
 use Rattle.std.proofs.lemmas.Option.{none-some}
 use Rattle.hl_base.specs.declared.set.Declaration.{Declaration}
 use Rattle.trace_values.specs.declared.item.TraceItem.{TraceItem}
@@ -44,6 +45,19 @@ beq_self false = refl
 pub same_beq : (a b : Bool) → a ≡ b → beq a b ≡ true
 same_beq a b e = subst (λ x. beq a x ≡ true) e (beq_self a)
 
-pub steps_on : (b : Bool) (P : Type 0) (n m : ℕ) → OnTrue b P → OnFalse b (n ≡ m) → (n ≡ m → ⊥) → P
-steps_on true P n m steps stays differ = steps
-steps_on false P n m steps stays differ = absurd (differ stays)
+-- where a step from one place to the next comes
+pub step_index : (b : Bool) (new old i n m : ℕ) → OnTrue b (new ≡ old + 1) → OnFalse b (m ≡ old + 1) → m ≡ n → old ≡ i → i + 1 < n → new ≡ i + 1
+step_index true new old i n m next last same is lt = let on = OnTrue_at refl next in omega arith
+step_index false new old i n m next last same is lt = let on = OnFalse_at refl last in absurd (omega arith)
+
+-- where there is no point, the first few are none
+pub take_none : {X : Type 0} (xs : List X) (k : ℕ) → length xs ≤ 0 → take k xs ≡ []
+take_none [] zero none = refl
+take_none [] (suc k) none = refl
+take_none (x ∷ xs) k none = absurd (omega (arith, none))
+
+-- where there is no cursor at the first point, there is no point
+pub none_first : {X C : Type 0} (xs : List X) (k : ℕ) (o : Option C) (P : C → Type 0) → o ≡ None → MatchOption o (length xs ≤ 0) P →
+    take k xs ≡ []
+none_first xs k None P is none = take_none xs k none
+none_first xs k (Some c) P is found = absurd (none-some c (sym is))

@@ -3,7 +3,6 @@ use Rattle.std.specs.Prelude.{◌≡◌, ℕ, Bool, true, false, zero, suc, ◌+
 use Rattle.std.specs.Option.{option_map_or}
 use Rattle.trace_values.specs.CallFrames.{frames_of}
 use Rattle.trace_values.specs.declared.item.TraceItem.{TraceItem}
-use Rattle.trace_arena.specs.declared.node.NodeId.{NodeId}
 use Rattle.trace_arena.specs.Nodes.{Node, node_at, IsLive}
 use Rattle.trace_cursor.specs.declared.descent.ItemPlace.{ItemPlace}
 use Rattle.trace_variables.specs.declared.call.Call.{Call}

@@ -1,4 +1,5 @@
 pub mod Values
+pub mod Globals
 pub mod Seen
 pub mod Calls
 pub mod Shown

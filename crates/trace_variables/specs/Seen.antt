@@ -1,5 +1,5 @@
 -- The values as the map that holds them. No public clause cites this file. This project.
-use Rattle.std.specs.Prelude.{List, map, string_bytes}
+use Rattle.std.specs.Prelude.{map}
 use Rattle.std.specs.BTreeMap.{BTreeMap}
 use Rattle.hl_base.specs.declared.set.SetKind.{SetKind}
 use Rattle.hl_base.specs.declared.set.SetKind.TheVariants as kind
@@ -15,7 +15,7 @@ set_kind own.B = kind.B
 set_kind own.C = kind.C
 
 abbrev pub seen_key : Key → VariableKey
-seen_key key = record { name = string_bytes key.name; kind = set_kind key.kind; element = key.element }
+seen_key key = record { name = key.name; kind = set_kind key.kind; element = key.element }
 
 abbrev pub seen_entry : Key × SetValue → VariableKey × SetValue
 seen_entry entry = (seen_key entry.0, entry.1)

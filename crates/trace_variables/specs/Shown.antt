@@ -12,7 +12,7 @@ use Rattle.trace_cursor.specs.declared.descent.ItemPlace.{ItemPlace}
 use Rattle.trace_cursor.specs.Pasts.{IsPath}
 use Rattle.trace_variables.specs.declared.call.Call.{Call}
 use Rattle.trace_variables.specs.Calls.{call_of}
-use Rattle.trace_variables.specs.Values.{VariableKey, Values, local_values, global_values}
+use Rattle.trace_variables.specs.Values.{VariableKey, local_values, global_values}
 
 -- &SYSLIST is shown with its subscript always, every other symbol only with one above 0
 abbrev pub is_plain : VariableKey → Bool

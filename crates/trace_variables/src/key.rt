@@ -1,10 +1,10 @@
 //! What one value of a variable symbol is found by.
-ghost use Rattle.std.specs.Prelude.{◌≡◌, IfOk};
+ghost use Rattle.std.specs.Prelude.{◌≡◌};
 ghost use Rattle.trace_variables.specs.Values.{kind_of};
 ghost use Rattle.trace_variables.specs.Seen.{seen_key, set_kind};
 
-use hl_base::{Name, OutOfMemory, SetKind, SetValue};
-use std::alloc::Global;
+use crate::spelling::Spelling;
+use hl_base::{Name, SetKind, SetValue};
 
 /// The types of SET symbols in their order.
 #[derive(Clone, Copy, PartialEq, Eq, PartialOrd, Ord)]
@@ -17,7 +17,7 @@ pub(crate) enum Kind {
 /// The name of a variable, its type and its element, in the order in which variables are shown.
 #[derive(PartialEq, Eq, PartialOrd, Ord, Drop)]
 pub(crate) struct Key {
-    pub(crate) name: String,
+    pub(crate) name: Spelling,
     pub(crate) kind: Kind,
     pub(crate) element: u32,
 }
@@ -46,18 +46,14 @@ impl Kind {
 }
 
 impl Key {
-    pub(crate) fn of(
-        alloc: Global,
-        name: &Name,
-        kind: Kind,
-        element: u32,
-    ) -> Result<Key, OutOfMemory>
-        ensures { IfOk result (λ key. seen_key key ≡ record { name = name.now; kind = set_kind kind; element = element }) }
+    /// It takes no memory.
+    pub(crate) fn of(name: &Name, kind: Kind, element: u32) -> Key
+        ensures { seen_key result ≡ record { name = name.now; kind = set_kind kind; element = element } }
     {
-        Ok(Key {
-            name: String::from_str(alloc, name.text())?,
+        Key {
+            name: Spelling { name: name.copy() },
             kind,
             element,
-        })
+        }
     }
 }

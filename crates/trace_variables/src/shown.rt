@@ -14,14 +14,14 @@ use trace_values::{Variable, Variables};
 fn is_plain(key: &Key) -> bool
     ensures { result ≡ is_plain (seen_key key.now) }
 {
-    key.element == 0 && key.name.as_str() != "SYSLIST"
+    key.element == 0 && key.name.name.text() != "SYSLIST"
 }
 
 /// The name as it is shown.
 fn shown_name(alloc: Global, key: &Key) -> Result<String, OutOfMemory>
     ensures { IfOk result (λ name. string_bytes name ≡ shown_name (seen_key key.now)) }
 {
-    let name = key.name.as_str();
+    let name = key.name.name.text();
     if is_plain(key) {
         return Ok(format!(in alloc; "&{name}")?);
     }

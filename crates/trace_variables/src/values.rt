@@ -29,7 +29,7 @@ fn set(alloc: Global, values: &mut Values, setting: &Setting) -> Result<(), OutO
     ensures { OnOk result (seen values.new ≡ after_setting (seen values.old) setting.now) }
 {
     let kind = Kind::of_value(&setting.value);
-    let key = Key::of(alloc, &setting.name, kind, setting.element)?;
+    let key = Key::of(&setting.name, kind, setting.element);
     let value = setting.value.copy(alloc)?;
     values.insert(key, value)?;
     Ok(())
@@ -57,7 +57,7 @@ fn declare(
     if declaration.array || declaration.global != global {
         return Ok(());
     }
-    let key = Key::of(alloc, &declaration.name, Kind::of(declaration.kind), 0)?;
+    let key = Key::of(&declaration.name, Kind::of(declaration.kind), 0);
     if values.contains_key(&key) {
         return Ok(());
     }

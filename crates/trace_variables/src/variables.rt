@@ -18,15 +18,15 @@ use trace_arena::{NodeId, TraceArena, arena_is_whole};
 use trace_cursor::{Cursor, ItemPlace, path};
 use trace_values::{TraceItem, Variables};
 
-/// The global values before a point.
-fn globals_before(
+/// The global values before a point, or behind the last one.
+pub(crate) fn globals_before(
     alloc: Global,
     arena: &TraceArena<TraceItem>,
     root: NodeId,
     index: u32,
 ) -> Result<Values, OutOfMemory>
     requires live { IsLive arena.now.nodes root.0 }
-    requires inside { index < length (points arena.now.nodes root.0) }
+    requires inside { index ≤ length (points arena.now.nodes root.0) }
     ensures { IfOk result (λ values. seen values ≡ global_values (map (λ p. p.item) (take index (points arena.now.nodes root.0)))) }
 {
     let mut values = BTreeMap::new(alloc);

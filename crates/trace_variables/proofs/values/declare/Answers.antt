@@ -1,9 +1,7 @@
-use Rattle.std.proofs.Common.{rules, ◌≡◌, Bool, true, false, is_some, map, sym, ap, ◌∙◌}
+use Rattle.std.proofs.Common.{rules, ◌≡◌, true, is_some, map, sym, ap, ◌∙◌}
 use Rattle.std.specs.Bool.{beq}
-use Rattle.std.specs.Map.{lookup}
-use Rattle.std.specs.BTreeMap.{is_at}
 use Rattle.trace_variables.specs.contracts.key.KeyOrd.TheImpl as key_ord
-use Rattle.trace_variables.specs.Values.{has, put, unset, declared_key, key_order}
+use Rattle.trace_variables.specs.Values.{has, put, declared_key}
 use Rattle.trace_variables.specs.Seen.{seen, seen_key, seen_entry}
 use Rattle.trace_variables.proofs.OrderLemmas.{key_same}
 use Rattle.trace_variables.proofs.MapLemmas.{insert_seen, lookup_seen}
@@ -14,25 +12,25 @@ pub returns-then-contains_key : goal.returns-then-contains_key
 returns-then-contains_key c =
     let old = seen c.args.values.now in
     let d = c.args.declaration.now in
-    let key : seen_key c.in_ok-key.key ≡ declared_key d =
-    c.in_ok-key.ensures ∙ ap (λ (k : _). record { name = d.name; kind = k; element = 0 }) c.of.ensures in
+    let key : seen_key c.of-key.result ≡ declared_key d =
+    c.of-key.ensures ∙ ap (λ (k : _). record { name = d.name; kind = k; element = 0 }) c.of.ensures in
     let there : has old (declared_key d) ≡ c.contains_key.result =
     ap (λ k. has old k) (sym key)
-    ∙ ap is_some (sym (lookup_seen (key_ord.ghosts).cmp key_same c.args.values.now.entries c.in_ok-key.key)) ∙ sym c.contains_key.ensures in
+    ∙ ap is_some (sym (lookup_seen (key_ord.ghosts).cmp key_same c.args.values.now.entries c.of-key.result)) ∙ sym c.contains_key.ensures in
     stays_declared c.args.global old d (there ∙ c.if-contains_key.true)
 
 pub returns : goal.returns
 returns c =
     let old = seen c.args.values.now in
     let d = c.args.declaration.now in
-    let key : seen_key c.in_ok-key.key ≡ declared_key d =
-    c.in_ok-key.ensures ∙ ap (λ (k : _). record { name = d.name; kind = k; element = 0 }) c.of.ensures in
+    let key : seen_key c.of-key.result ≡ declared_key d =
+    c.of-key.ensures ∙ ap (λ (k : _). record { name = d.name; kind = k; element = 0 }) c.of.ensures in
     let there : has old (declared_key d) ≡ c.contains_key.result =
     ap (λ k. has old k) (sym key)
-    ∙ ap is_some (sym (lookup_seen (key_ord.ghosts).cmp key_same c.args.values.now.entries c.in_ok-key.key)) ∙ sym c.contains_key.ensures in
+    ∙ ap is_some (sym (lookup_seen (key_ord.ghosts).cmp key_same c.args.values.now.entries c.of-key.result)) ∙ sym c.contains_key.ensures in
     let same : beq d.global c.args.global ≡ true = same_beq d.global c.args.global (search (rules, c.if-declaration-global.false)) in
     ap (map seen_entry) c.in_ok-insert.ensures.entries
-    ∙ insert_seen (key_ord.ghosts).cmp key_same c.args.values.now.entries c.in_ok-key.key c.unset-value.result
+    ∙ insert_seen (key_ord.ghosts).cmp key_same c.args.values.now.entries c.of-key.result c.unset-value.result
     ∙ ap (λ k. put old k c.unset-value.result) key
     ∙ ap (put old (declared_key d)) c.unset-value.ensures
     ∙ puts_declared c.args.global old d c.if-declaration.false same (there ∙ c.if-contains_key.false)
