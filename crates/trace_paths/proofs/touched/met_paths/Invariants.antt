@@ -1,0 +1,14 @@
+use Rattle.std.proofs.Common.{◌≡◌, ◌<◌, [], take, length}
+use Rattle.std.specs.List.{flat_map}
+use Rattle.trace_arena.specs.Points.{points}
+use Rattle.trace_cursor.specs.Places.{StandsAt}
+use Rattle.trace_paths.specs.Touching.{own_paths, with_paths}
+use Rattle.trace_paths.proofs.touched.met_paths.Given as goal
+
+-- the cursor stands at the first point that was not passed, and the paths of those before it are met
+abbrev pub invariant-loop : goal.invariant-loop
+invariant-loop l =
+    StandsAt l.arena.nodes l.cursor
+    × (l.cursor.root ≡ l.fn.root)
+    × (l.counter < length (points l.arena.nodes l.fn.root.0) → l.cursor.index ≡ l.counter)
+    × (l.met.keys ≡ with_paths [] (flat_map own_paths (take l.counter (points l.arena.nodes l.fn.root.0))))
