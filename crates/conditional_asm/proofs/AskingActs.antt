@@ -1,6 +1,6 @@
 -- Effects of statements go along trees of questions, over each frame.
 use Rattle.std.proofs.Common.{◌≡◌, refl, ℕ, Bool, List, [], ◌∷◌, ◌++◌, Option, Some, None}
-use Rattle.std.specs.Prelude.{pos, chars, if◌then◌else◌}
+use Rattle.std.specs.Prelude.{pos, chars, Result, Ok, Err, if◌then◌else◌}
 use Rattle.hl_base.specs.declared.note.Severity.{Severity}
 use Rattle.hl_base.specs.declared.note.Severity.TheVariants.{Information}
 use Rattle.hl_base.specs.declared.set.Answer.{Answer}
@@ -33,6 +33,7 @@ use Rattle.statement_reading.specs.Templates as templates
 use Rattle.conditional_asm.specs.declared.act.Act.TheVariants as act
 use Rattle.conditional_asm.specs.Branching as branching
 use Rattle.conditional_asm.specs.Conditions as conditions
+use Rattle.conditional_asm.specs.Copying as copying
 use Rattle.conditional_asm.specs.Effects as effects
 use Rattle.conditional_asm.specs.Generating as generating
 use Rattle.conditional_asm.specs.Messages as messages
@@ -132,6 +133,17 @@ substituted-asks frame (one ∷ parts) =
     then-asks (λ answers. substitution.part_text one (told_by frame answers)) (λ answers text. and_then (substitution.substituted parts (told_by frame answers)) (λ rest. gives (text ++ rest))) (part-asks frame one)
     (λ text. then-asks (λ answers. substitution.substituted parts (told_by frame answers)) (λ answers rest. gives (text ++ rest)) (substituted-asks frame parts) (λ rest. gives-asks (text ++ rest) []))
 
+-- ---- members
+
+copied-asks : (found : Result (List ℕ) ℕ) → IsAsking (λ answers. copying.copied found)
+copied-asks (Ok name) = gives-asks (act.Copy name) []
+copied-asks (Err at) = gives-asks act.Next (troubles.unreadable at ∷ [])
+
+copying-asks : (frame : Frame) (parts : List templates.Part) → IsAsking (λ answers. copying.copying parts (told_by frame answers))
+copying-asks frame parts =
+    then-asks (λ answers. substitution.substituted parts (told_by frame answers)) (λ answers text. copying.copied (bodies.member (field_of text))) (substituted-asks frame parts)
+    (λ text. copied-asks (bodies.member (field_of text)))
+
 -- ---- generated statements
 
 judged-asks : (open_end : Bool) → IsAsking (λ answers. generating.judged open_end)
@@ -176,17 +188,18 @@ doing-asks frame (bodies.goes_if pairs) name op = choosing-asks frame pairs
 doing-asks frame (bodies.declares list) name op = gives-asks (act.Declare list) []
 doing-asks frame (bodies.assigns kind setting) name op = assigning-asks frame kind setting
 doing-asks frame (bodies.copies member) name op = gives-asks (act.Copy member) []
+doing-asks frame (bodies.copies_varying parts) name op = copying-asks frame parts
 doing-asks frame (bodies.says message) name op = saying-asks frame message
 doing-asks frame (bodies.generates f) name op =
     then-asks (λ answers. generating.lined op f (told_by frame answers)) (λ answers line. gives (act.Generate line)) (lined-asks frame op f) (λ line. gives-asks (act.Generate line) [])
 doing-asks frame (bodies.generates_unread at open_end) name op =
     then-asks (λ answers. generating.judged open_end) (λ answers _. Gives act.Next (troubles.unreadable at ∷ [])) (judged-asks open_end) (λ _. gives-asks act.Next (troubles.unreadable at ∷ []))
 doing-asks frame (bodies.ends f) name op =
-    then-asks (λ answers. generating.lined op f (told_by frame answers)) (λ answers line. gives act.End) (lined-asks frame op f) (λ line. gives-asks act.End [])
+    then-asks (λ answers. generating.lined op f (told_by frame answers)) (λ answers line. gives (act.End (Some line))) (lined-asks frame op f) (λ line. gives-asks (act.End (Some line)) [])
 doing-asks frame (bodies.ends_unread at open_end) name op =
-    then-asks (λ answers. generating.judged open_end) (λ answers _. Gives act.End (troubles.unreadable at ∷ [])) (judged-asks open_end) (λ _. gives-asks act.End (troubles.unreadable at ∷ []))
+    then-asks (λ answers. generating.judged open_end) (λ answers _. Gives (act.End None) (troubles.unreadable at ∷ [])) (judged-asks open_end) (λ _. gives-asks (act.End None) (troubles.unreadable at ∷ []))
 doing-asks frame bodies.defines name op = gives-asks act.Define []
-doing-asks frame bodies.leaves name op = gives-asks act.Leave []
+doing-asks frame bodies.leaves name op = gives-asks (act.Leave name) []
 doing-asks frame bodies.nothing name op = gives-asks act.Next []
 doing-asks frame bodies.leaves_out name op = gives-asks act.Next (troubles.left_out (chars name) ∷ [])
 doing-asks frame bodies.calls name op = gives-asks (act.Call name) []

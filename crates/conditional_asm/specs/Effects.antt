@@ -16,6 +16,7 @@ use Rattle.conditional_asm.specs.declared.act.Act.TheVariants as act
 use Rattle.conditional_asm.specs.declared.act.Effect.{Effect}
 use Rattle.conditional_asm.specs.Branching.{going, counting}
 use Rattle.conditional_asm.specs.Conditions.{choosing}
+use Rattle.conditional_asm.specs.Copying.{copying}
 use Rattle.conditional_asm.specs.Generating.{defined, judged, lined}
 use Rattle.conditional_asm.specs.Messages.{saying}
 use Rattle.conditional_asm.specs.Repeating.{once}
@@ -32,13 +33,14 @@ doing (bodies.goes_if pairs) name op told = choosing pairs told
 doing (bodies.declares list) name op told = gives (act.Declare list)
 doing (bodies.assigns kind setting) name op told = assigning kind setting told
 doing (bodies.copies member) name op told = gives (act.Copy member)
+doing (bodies.copies_varying parts) name op told = copying parts told
 doing (bodies.says message) name op told = saying message told
 doing (bodies.generates fields) name op told = and_then (lined op fields told) (λ line. gives (act.Generate line))
 doing (bodies.generates_unread at open_end) name op told = and_then (judged open_end) (λ _. Gives act.Next (unreadable at ∷ []))
-doing (bodies.ends fields) name op told = and_then (lined op fields told) (λ line. gives act.End)
-doing (bodies.ends_unread at open_end) name op told = and_then (judged open_end) (λ _. Gives act.End (unreadable at ∷ []))
+doing (bodies.ends fields) name op told = and_then (lined op fields told) (λ line. gives (act.End (Some line)))
+doing (bodies.ends_unread at open_end) name op told = and_then (judged open_end) (λ _. Gives (act.End None) (unreadable at ∷ []))
 doing bodies.defines name op told = gives act.Define
-doing bodies.leaves name op told = gives act.Leave
+doing bodies.leaves name op told = gives (act.Leave name)
 doing bodies.nothing name op told = gives act.Next
 doing bodies.leaves_out name op told = Gives act.Next (left_out (chars name) ∷ [])
 doing bodies.calls name op told = gives (act.Call name)

@@ -5,5 +5,6 @@ pub mod Generating
 pub mod Setting
 pub mod Messages
 pub mod Conditions
+pub mod Copying
 pub mod Repeating
 pub mod Effects

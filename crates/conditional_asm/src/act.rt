@@ -20,9 +20,10 @@ pub enum Act {
     Call(Name),
     Copy(Name),
     Generate(Line),
-    /// The macro ends.
-    Leave,
-    End,
+    /// The macro ends, by the operation of this name.
+    Leave(Name),
+    /// All ends. END is generated as this line; as none, if its fields cannot be read.
+    End(Option<Line>),
 }
 
 /// What a statement does, and its notes, with an empty stack.

@@ -15,6 +15,7 @@
 mod act;
 mod branching;
 mod condition;
+mod copying;
 mod generating;
 mod laws;
 mod message;

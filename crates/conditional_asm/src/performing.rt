@@ -1,7 +1,7 @@
 //! The effect of one statement.
 //!
 //! Each call but `perform` and `effect` tells an outcome, as those of `cond_expr::evaluate`.
-ghost use Rattle.std.specs.Prelude.{◌≡◌, ◌∷◌, [], IfOk};
+ghost use Rattle.std.specs.Prelude.{◌≡◌, ◌∷◌, [], IfOk, None};
 ghost use Rattle.std.specs.Str.{chars};
 ghost use Rattle.cond_expr.specs.Outcome.{Tells, Gives, and_then};
 ghost use Rattle.statement_reading.specs.Readings.{read_statement, name_of};
@@ -15,6 +15,7 @@ ghost use Rattle.conditional_asm.specs.declared.act.Act.TheVariants as acts;
 use crate::act::{Act, Effect};
 use crate::branching::{counting, going};
 use crate::condition::choosing;
+use crate::copying::copying;
 use crate::generating::{defined, judge, lined};
 use crate::message::saying;
 use crate::repeating::once;
@@ -52,15 +53,15 @@ fn generating_unread(alloc: Global, at: u32, open_end: bool, notes: &mut Notes) 
 
 /// An END whose fields cannot be read ends.
 fn ended_unread(alloc: Global, at: u32, notes: &mut Notes) -> Result<Act, Stop>
-    ensures { Tells (Gives acts.End (troubles.unreadable at ∷ [])) notes.old notes.new result }
+    ensures { Tells (Gives (acts.End None) (troubles.unreadable at ∷ [])) notes.old notes.new result }
 {
     notes.push(trouble::unreadable(alloc, at)?)?;
-    Ok(Act::End)
+    Ok(Act::End(None))
 }
 
 /// The same behind the note of operands that end within quotes.
 fn ending_unread(alloc: Global, at: u32, open_end: bool, notes: &mut Notes) -> Result<Act, Stop>
-    ensures { Tells (and_then (judged open_end) (λ _. Gives acts.End (troubles.unreadable at ∷ []))) notes.old notes.new result }
+    ensures { Tells (and_then (judged open_end) (λ _. Gives (acts.End None) (troubles.unreadable at ∷ []))) notes.old notes.new result }
 {
     match judge(alloc, open_end, notes) {
         Ok(_open_end) => ended_unread(alloc, at, notes),
@@ -105,7 +106,7 @@ fn ending<Q: Lookups>(
     ensures tells { Tells (effects.doing (bodies.ends (fields_of fields.now)) [] op.now (Q.told q.old)) notes.old notes.new result }
 {
     match lined(alloc, op, fields, q, notes) {
-        Ok(_line) => Ok(Act::End),
+        Ok(line) => Ok(Act::End(Some(line))),
         Err(stop) => Err(stop),
     }
 }
@@ -130,13 +131,14 @@ pub fn doing<Q: Lookups>(
         Body::Declares(list) => Ok(Act::Declare(list.copy(alloc)?)),
         Body::Assigns(kind, setting) => assigning(alloc, *kind, setting, q, notes),
         Body::Copies(member) => Ok(Act::Copy(member.copy())),
+        Body::CopiesVarying(operand) => copying(alloc, operand, q, notes),
         Body::Says(message) => saying(alloc, message, q, notes),
         Body::Generates(fields) => generating(alloc, op, fields, q, notes),
         Body::GeneratesUnread(at, open_end) => generating_unread(alloc, *at, *open_end, notes),
         Body::Ends(fields) => ending(alloc, op, fields, q, notes),
         Body::EndsUnread(at, open_end) => ending_unread(alloc, *at, *open_end, notes),
         Body::Defines => Ok(Act::Define),
-        Body::Leaves => Ok(Act::Leave),
+        Body::Leaves => Ok(Act::Leave(name.copy())),
         Body::Nothing => Ok(Act::Next),
         Body::LeavesOut => leave_out(alloc, name, notes),
         Body::Calls => Ok(Act::Call(name.copy())),

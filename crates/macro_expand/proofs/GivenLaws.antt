@@ -1,5 +1,5 @@
 -- What the effect of a statement gives is never a question.
-use Rattle.std.proofs.Common.{◌≡◌, ℕ, ℤ, Bool, true, false, cond, List, [], ◌∷◌, Option, Some, None, refl}
+use Rattle.std.proofs.Common.{◌≡◌, ℕ, ℤ, Bool, true, false, cond, List, [], ◌∷◌, Option, Some, None, Result, Ok, Err, refl}
 use Rattle.std.specs.Option.{option_map_or}
 use Rattle.plain_expansion.specs.Questions.{Comes}
 use Rattle.question_trees.specs.Bridge.{led_as}
@@ -23,6 +23,7 @@ use Rattle.conditional_asm.specs.declared.act.Act.{Act}
 use Rattle.conditional_asm.specs.declared.act.Act.TheVariants as act
 use Rattle.conditional_asm.specs.Branching.{label_of, going}
 use Rattle.conditional_asm.specs.Conditions.{holding, choosing}
+use Rattle.conditional_asm.specs.Copying.{copied}
 use Rattle.conditional_asm.specs.Effects as effects
 use Rattle.conditional_asm.specs.Generating.{defined, judged, lined}
 use Rattle.conditional_asm.specs.Messages.{saying, weighing}
@@ -79,6 +80,10 @@ saying-gives : (message : Message) (told : Told) → GivesAct (saying message to
 saying-gives message told =
     then-gives _ (weighing message.severity told) _ (λ weight. then-gives (List ℕ) (text message.text told) _ (λ words. tt))
 
+copied-gives : (found : Result (List ℕ) ℕ) → GivesAct (copied found)
+copied-gives (Ok name) = tt
+copied-gives (Err at) = tt
+
 doing-gives : (body : bodies.Body) (name op : List ℕ) (told : Told) → GivesAct (effects.doing body name op told)
 doing-gives (bodies.unread at) name op told = tt
 doing-gives (bodies.limits count) name op told = then-gives ℤ (number count told) _ (λ n. tt)
@@ -87,6 +92,7 @@ doing-gives (bodies.goes_if pairs) name op told = choosing-gives pairs told
 doing-gives (bodies.declares list) name op told = tt
 doing-gives (bodies.assigns kind setting) name op told = assigning-gives kind setting told
 doing-gives (bodies.copies member) name op told = tt
+doing-gives (bodies.copies_varying parts) name op told = then-gives (List ℕ) (substituted parts told) _ (λ text. copied-gives (bodies.member (field_of text)))
 doing-gives (bodies.says message) name op told = saying-gives message told
 doing-gives (bodies.generates fields) name op told = then-gives _ (lined op fields told) _ (λ line. tt)
 doing-gives (bodies.generates_unread at open_end) name op told = then-gives Bool (judged open_end) _ (λ _. tt)
@@ -149,8 +155,8 @@ act-led known act.Define notes is = refl
 act-led known (act.Call name) notes is = refl
 act-led known (act.Copy member) notes is = refl
 act-led known (act.Generate line) notes is = refl
-act-led known act.Leave notes is = refl
-act-led known act.End notes is = refl
+act-led known (act.Leave name) notes is = refl
+act-led known (act.End line) notes is = refl
 
 pub shown-led : (known : Knowledge) (o : Outcome Act) → GivesAct o →
     led_to known (effects.shown o).act (effects.shown o).notes ≡ led_as (made known) o

@@ -85,5 +85,5 @@ acted known act.Define notes = going_on known (quiet notes)
 acted known (act.Call name) notes = refused known (UndefinedOperation (chars name)) notes
 acted known (act.Copy member) notes = going_on known (quiet notes)
 acted known (act.Generate line) notes = going_on known (record (quiet notes) { line = Some line })
-acted known act.Leave notes = going_on known (quiet notes)
-acted known act.End notes = record { said = quiet notes; act = Finishes }
+acted known (act.Leave name) notes = going_on known (quiet notes)
+acted known (act.End line) notes = record { said = record (quiet notes) { line = line }; act = Finishes }

@@ -7,7 +7,7 @@ ghost use Rattle.plain_expansion.specs.Questions.{Comes};
 ghost use Rattle.question_trees.specs.Bridge.{answers_in, led_as};
 ghost use Rattle.conditional_asm.specs.Effects as effects;
 ghost use Rattle.statement_reading.specs.Views.{reading_of};
-ghost use Rattle.conditional_asm.specs.declared.act.Act.TheVariants.{Generate};
+ghost use Rattle.conditional_asm.specs.declared.act.Act.TheVariants.{End, Generate};
 ghost use Rattle.note_rows.specs.declared.row.Row.TheVariants.{UndefinedOperation};
 ghost use Rattle.call_knowledge.specs.Knowledge.{Knowledge};
 ghost use Rattle.expansion_step.specs.Meaning.{performed_by};
@@ -135,6 +135,15 @@ fn generating(alloc: Global, line: Line, notes: Notes) -> Done
     going_on(alloc, said)
 }
 
+/// All ends, and END is generated where its fields can be read.
+fn ending(alloc: Global, line: Option<Line>, notes: Notes) -> Done
+    ensures { (k : Knowledge) → performed_by means k result ≡ Some (Comes (acted k (End line) notes)) }
+{
+    let mut said = quiet(alloc, notes);
+    said.line = line;
+    Performed::Does(said, Acts::Finishes)
+}
+
 /// What comes of an act in a call that knows so much, behind these notes; or what is wanted.
 fn acting(alloc: Global, known: &Knowledge, act: Act, notes: Notes) -> Result<Done, OutOfMemory>
     ensures { IfOk result (λ p. performed_by means known.now p ≡ Some (led_to known.now act notes)) }
@@ -153,8 +162,8 @@ fn acting(alloc: Global, known: &Knowledge, act: Act, notes: Notes) -> Result<Do
         }
         Act::Call(name) => undefined(alloc, name.text(), notes),
         Act::Generate(line) => Ok(generating(alloc, line, notes)),
-        Act::End => Ok(Performed::Does(quiet(alloc, notes), Acts::Finishes)),
-        Act::Next | Act::Define | Act::Copy(_) | Act::Leave => {
+        Act::End(line) => Ok(ending(alloc, line, notes)),
+        Act::Next | Act::Define | Act::Copy(_) | Act::Leave(_) => {
             Ok(going_on(alloc, quiet(alloc, notes)))
         }
     }

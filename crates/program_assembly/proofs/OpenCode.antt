@@ -48,8 +48,8 @@ acts_stay known act.Define notes = tt
 acts_stay known (act.Call name) notes = tt
 acts_stay known (act.Copy member) notes = tt
 acts_stay known (act.Generate line) notes = tt
-acts_stay known act.Leave notes = tt
-acts_stay known act.End notes = tt
+acts_stay known (act.Leave name) notes = tt
+acts_stay known (act.End line) notes = tt
 
 trees_stay : (known : Knowledge) (tree : typed.Asking (typed.Noted Act)) (answer : Tree → Tree) → IsNoEntry (result_by answer (over_trees (made known) tree)).act
 trees_stay known (typed.done noted) answer = acts_stay known noted.value (once noted.notes)

@@ -2,7 +2,7 @@
 use case_words::{Surroundings, key, noted, value};
 use cond_expr::Stop;
 use conditional_asm::{Act, Task, doing, effect, read_body};
-use hl_base::{Declaration, Name, Notes, OutOfMemory, SetKind, SetValue, Text};
+use hl_base::{Declaration, Line, Name, Notes, OutOfMemory, SetKind, SetValue, Text};
 use hlasm_statements::read_statements;
 use std::alloc::{AllocError, Global};
 
@@ -45,6 +45,12 @@ fn setting(
     }
 }
 
+/// A generated line.
+fn generated(alloc: Global, line: &Line) -> Result<String, AllocError> {
+    let (label, op, operands) = (&line.label, &line.op, &line.operands);
+    format!(in alloc; "{}|{}|{}", label.as_str(), op.as_str(), operands.as_str())
+}
+
 /// What an act is.
 fn act(alloc: Global, act: &Act) -> Result<String, AllocError> {
     match act {
@@ -57,12 +63,13 @@ fn act(alloc: Global, act: &Act) -> Result<String, AllocError> {
         Act::Define => String::from_str(alloc, "define"),
         Act::Call(name) => format!(in alloc; "call {}", name.text()),
         Act::Copy(name) => format!(in alloc; "copy {}", name.text()),
-        Act::Generate(line) => {
-            let (label, op, operands) = (&line.label, &line.op, &line.operands);
-            format!(in alloc; "{}|{}|{}", label.as_str(), op.as_str(), operands.as_str())
+        Act::Generate(line) => generated(alloc, line),
+        Act::Leave(name) => format!(in alloc; "leave {}", name.text()),
+        Act::End(None) => String::from_str(alloc, "end"),
+        Act::End(Some(line)) => {
+            let line = generated(alloc, line)?;
+            format!(in alloc; "end {}", line.as_str())
         }
-        Act::Leave => String::from_str(alloc, "leave"),
-        Act::End => String::from_str(alloc, "end"),
     }
 }
 
@@ -92,6 +99,9 @@ fn task(operation: &str) -> Task {
         "AIF" => Task::GoIf,
         "ACTR" => Task::LimitBranches,
         "END" => Task::End,
+        "MACRO" => Task::Define,
+        "MEND" | "MEXIT" => Task::Leave,
+        "COPY" => Task::Copy,
         _ => Task::Generate,
     }
 }

@@ -1,5 +1,5 @@
 -- What the fields of a statement say for a task (this project): a function of their texts.
-use Rattle.std.specs.Prelude.{ℕ, Bool, false, List, Result, Ok, Err, encode_utf8_all}
+use Rattle.std.specs.Prelude.{ℕ, Bool, false, List, Result, Ok, Err, encode_utf8_all, if◌then◌else◌}
 use Rattle.hl_base.specs.Symbols.{symbol_of}
 use Rattle.hl_base.specs.declared.set.Declaration.{Declaration}
 use Rattle.hl_base.specs.declared.set.SetKind.{SetKind}
@@ -14,6 +14,7 @@ use Rattle.statement_reading.specs.Branches.{Branch, Choice, goto, choices}
 use Rattle.statement_reading.specs.Fields.{Fields, fields, alone, open_as_written}
 use Rattle.statement_reading.specs.Messages.{Message, message}
 use Rattle.statement_reading.specs.Settings.{Setting, setting}
+use Rattle.statement_reading.specs.Templates.{Part, template, has_ampersand}
 
 -- what the fields of a statement say for a task; or that they cannot be read, and up to where they can, and of a generated
 -- statement whether its operands end within quotes
@@ -25,6 +26,7 @@ pub data Body : Type 0 where
   declares : (list : List Declaration) → Body
   assigns : (kind : SetKind) (setting : Setting) → Body
   copies : (member : List ℕ) → Body
+  copies_varying : (parts : List Part) → Body
   says : (message : Message) → Body
   generates : (fields : Fields) → Body
   generates_unread : (at : ℕ) (open_end : Bool) → Body
@@ -55,6 +57,10 @@ ending open_end (Err at) = ends_unread at open_end
 abbrev pub member : List ℕ → Result (List ℕ) ℕ
 member field = named_or (symbol_reach field) (symbol_of (encode_utf8_all field))
 
+-- COPY: a member; or an operand with variable symbols, which is a member once they have values
+abbrev pub copying : (operands : List ℕ) → Body
+copying operands = if has_ampersand operands then or_unread copies_varying (template operands) else or_unread copies (member operands)
+
 -- what name entry and operands say for a task
 abbrev pub body : Task → (label operands : List ℕ) → Body
 body task.LimitBranches label operands = or_unread limits (read Arithmetic operands)
@@ -64,7 +70,7 @@ body (task.Declare kind global) label operands = or_unread declares (declaration
 body (task.Assign kind) label operands = or_unread (λ one. assigns kind one) (setting kind label operands)
 body task.Define label operands = defines
 body task.Leave label operands = leaves
-body task.Copy label operands = or_unread copies (member operands)
+body task.Copy label operands = copying operands
 body task.Say label operands = or_unread says (message operands)
 body task.Nothing label operands = nothing
 body task.Generate label operands = generating (open_as_written operands) (fields label operands)

@@ -9,8 +9,8 @@ use Rattle.instruction_table.specs.declared.meaning.Operation.TheVariants.{Condi
 use Rattle.statement_reading.specs.declared.task.Task.{Task}
 use Rattle.statement_reading.specs.declared.task.Task.TheVariants.{LimitBranches, Go, GoIf, Declare, Assign, Say, Nothing, Generate, GenerateAlone, End, LeaveOut, Call}
 
--- the operations of conditional assembly; ANOP is the one that does nothing, and MACRO, MEND and MEXIT are left out until
--- macro definitions are known
+-- The operations of conditional assembly; ANOP is the one that does nothing. MACRO, MEND and MEXIT are left out until macros are
+-- called; the tasks `Define` and `Leave` are theirs then.
 abbrev pub conditional : List ℕ → Task
 conditional name =
     if bytes_eq name (codes "ACTR") then LimitBranches else
@@ -34,7 +34,7 @@ conditional name =
 abbrev pub ordinary : List ℕ → Task
 ordinary name = if bytes_eq name (codes "END") then End else Generate
 
--- COPY, which is left out until members are known, and MNOTE
+-- COPY, which is left out until macros are called and has the task `Copy` then, and MNOTE
 abbrev pub both : List ℕ → Task
 both name = if bytes_eq name (codes "COPY") then LeaveOut else Say
 

@@ -86,6 +86,7 @@ body_of (body.GoesIf choices) = bodies.goes_if (choices_of choices)
 body_of (body.Declares list) = bodies.declares list
 body_of (body.Assigns kind setting) = bodies.assigns kind (setting_of setting)
 body_of (body.Copies member) = bodies.copies member
+body_of (body.CopiesVarying template) = bodies.copies_varying (parts_of template)
 body_of (body.Says message) = bodies.says (message_of message)
 body_of (body.Generates f) = bodies.generates (fields_of f)
 body_of (body.GeneratesUnread at open_end) = bodies.generates_unread at open_end

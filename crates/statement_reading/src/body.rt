@@ -9,17 +9,19 @@ ghost use Rattle.statement_reading.specs.Branches as branches;
 ghost use Rattle.statement_reading.specs.Fields as entries;
 ghost use Rattle.statement_reading.specs.Messages as messages;
 ghost use Rattle.statement_reading.specs.Settings as settings;
+ghost use Rattle.statement_reading.specs.Templates as templates;
 ghost use Rattle.statement_reading.specs.Views.{body_of};
 
 use crate::branch::read_branch;
 use crate::condition::{Choices, read_choices};
 use crate::declaration::{read_declarations, read_member};
+use crate::entry::{has_ampersand, read_template};
 use crate::expression::read_number;
 use crate::fields::{Fields, open_as_written, read_alone, read_fields};
 use crate::message::{Message, read_message};
 use crate::setting::{Setting, read_setting};
 use crate::task::Task;
-use conditional_fields::Goto;
+use conditional_fields::{Goto, Template};
 use hl_base::{Declarations, Name, OutOfMemory, SetKind};
 use operand_grammar::{Expr, SyntaxFault};
 use std::alloc::Global;
@@ -41,6 +43,8 @@ pub enum Body {
     Assigns(SetKind, Setting),
     /// COPY.
     Copies(Name),
+    /// COPY of an operand with variable symbols.
+    CopiesVarying(Template),
     /// MNOTE.
     Says(Message),
     Generates(Fields),
@@ -114,8 +118,8 @@ fn assigns(alloc: Global, kind: SetKind, label: &str, operands: &str) -> Result<
     }
 }
 
-/// COPY.
-fn copies(operands: &str) -> Result<Body, OutOfMemory>
+/// COPY of an operand without an ampersand.
+fn copies_member(operands: &str) -> Result<Body, OutOfMemory>
     ensures { IfOk result (λ b. body_of b ≡ bodies.or_unread bodies.copies (bodies.member (chars operands.now))) }
 {
     match read_member(operands) {
@@ -123,6 +127,27 @@ fn copies(operands: &str) -> Result<Body, OutOfMemory>
         Err(SyntaxFault::At(at)) => Ok(Body::Unread(at)),
         Err(SyntaxFault::OutOfMemory) => Err(OutOfMemory),
     }
+}
+
+/// COPY of an operand with an ampersand.
+fn copies_varying(alloc: Global, operands: &str) -> Result<Body, OutOfMemory>
+    ensures { IfOk result (λ b. body_of b ≡ bodies.or_unread bodies.copies_varying (templates.template (chars operands.now))) }
+{
+    match read_template(alloc, operands) {
+        Ok(template) => Ok(Body::CopiesVarying(template)),
+        Err(SyntaxFault::At(at)) => Ok(Body::Unread(at)),
+        Err(SyntaxFault::OutOfMemory) => Err(OutOfMemory),
+    }
+}
+
+/// COPY.
+fn copies(alloc: Global, operands: &str) -> Result<Body, OutOfMemory>
+    ensures { IfOk result (λ b. body_of b ≡ bodies.copying (chars operands.now)) }
+{
+    if has_ampersand(operands) {
+        return copies_varying(alloc, operands);
+    }
+    copies_member(operands)
 }
 
 /// MNOTE.
@@ -190,7 +215,7 @@ pub fn read_body(
         Task::Assign(kind) => assigns(alloc, kind, label, operands),
         Task::Define => Ok(Body::Defines),
         Task::Leave => Ok(Body::Leaves),
-        Task::Copy => copies(operands),
+        Task::Copy => copies(alloc, operands),
         Task::Say => says(alloc, operands),
         Task::Nothing => Ok(Body::Nothing),
         Task::Generate => generates(alloc, label, operands),

@@ -24,7 +24,7 @@ pub(crate) fn read_declarations(
 }
 
 /// The member of a COPY (SC26-4940, "COPY instruction").
-pub(crate) fn read_member(field: &str) -> Result<Name, SyntaxFault>
+pub fn read_member(field: &str) -> Result<Name, SyntaxFault>
     ensures { Says (λ name. name) (bodies.member (chars field.now)) result }
 {
     match name_of(field) {

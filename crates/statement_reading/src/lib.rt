@@ -25,6 +25,7 @@ mod task;
 pub use body::{Body, read_body};
 pub use condition::Choices;
 pub use conditional_fields::{Goto, Piece, Selector, Template};
+pub use declaration::read_member;
 pub use fields::{Entry, Fields};
 pub use message::Message;
 pub use setting::Setting;

@@ -6,7 +6,8 @@ ghost use Rattle.statement_reading.specs.Tasks as tasks;
 use hl_base::{Name, SetKind};
 use instruction_table::{Format, Operation, operands};
 
-/// What a statement does where no macro definition has the name of its operation.
+/// What a statement does where no macro definition has the name of its operation. `Define`, `Leave` and `Copy` are what MACRO, MEND,
+/// MEXIT and COPY do once macros are called; until then they are left out, and no statement has these tasks.
 #[derive(Clone, Copy, Debug, PartialEq, Eq)]
 pub enum Task {
     LimitBranches,
@@ -28,7 +29,8 @@ pub enum Task {
     Call,
 }
 
-/// What an operation of conditional assembly does. Those of macro definitions are left out until these are known.
+/// What an operation of conditional assembly does. Those of macro definitions are left out until macros are called: then MACRO is
+/// `Define`, and MEND and MEXIT are `Leave`.
 fn conditional(name: &str) -> Task
     ensures { result ≡ tasks.conditional name.now }
 {
@@ -88,7 +90,7 @@ fn ordinary(name: &str) -> Task
     }
 }
 
-/// What COPY or MNOTE does. COPY is left out until members are known.
+/// What COPY or MNOTE does. COPY is left out until macros are called: then it is `Copy`.
 fn both(name: &str) -> Task
     ensures { result ≡ tasks.both name.now }
 {
