@@ -6,7 +6,8 @@ use Rattle.asking_core.specs.declared.footprint.Noted.{Noted}
 use Rattle.plain_expansion.specs.Questions.{Led, Comes, Wants}
 use Rattle.plain_expansion.specs.Language.{Language, Effect, Point}
 use Rattle.plain_expansion.specs.Language.{Level as LevelOf, Stack as StackOf, Act as ActOf, Entry as EntryOf, Fault as FaultOf}
-use Rattle.plain_expansion.specs.Language.{Nowhere, Calling, Copying, Continues, Skips, Branches, Enters, Returns, Finishes, NoFault, NoLabel, NoBranchLeft, NoRoom}
+use Rattle.plain_expansion.specs.Language.{Nowhere, Calling, Copying, Continues, Skips, Branches, Enters, Returns, Finishes}
+use Rattle.plain_expansion.specs.Language.{NoFault, NoLabel, NoBranchLeft, NoRoom}
 use Rattle.expansion_step.specs.declared.stack.Level.{Level}
 use Rattle.expansion_step.specs.declared.stack.Stack.{Stack}
 use Rattle.expansion_step.specs.declared.act.Entry.{Entry}

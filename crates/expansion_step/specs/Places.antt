@@ -4,7 +4,9 @@ use Rattle.kept_values.specs.Trees.{Tree, Pair}
 use Rattle.plain_expansion.specs.Language.{Language, Stack as StackOf}
 use Rattle.plain_expansion.specs.Expansion.{statement_at}
 use Rattle.plain_expansion.specs.Engine as engine
-use Rattle.plain_expansion.specs.Engine.{Tail, Putting, Adding, Entering, GoingOn, Leaving, Finishing, Step, Performing, Telling, Ready, Doing, Placing, Deciding, Place, Standing, Hearing, Waiting, puts_then, opened, heard, next_place, levels_of}
+use Rattle.plain_expansion.specs.Engine.{Tail, Putting, Adding, Entering, GoingOn, Leaving, Finishing}
+use Rattle.plain_expansion.specs.Engine.{Step, Performing, Telling, Ready, Doing, Placing, Deciding, Place}
+use Rattle.plain_expansion.specs.Engine.{Standing, Hearing, Waiting, puts_then, opened, heard, next_place, levels_of}
 use Rattle.expansion_step.specs.declared.phase.Onward.{Onward}
 use Rattle.expansion_step.specs.declared.phase.Onward.TheVariants as onward
 use Rattle.expansion_step.specs.declared.phase.Pending.{Pending}
@@ -68,9 +70,9 @@ module _ {L : Language} {T B N D S I C K V : Type 0} (m : Means L T B N D S I C 
   phase_by x phase.Placed = Standing (placing (statement_at L x.here) x)
   phase_by x (phase.Decides answers) = Standing (deciding (statement_at L x.here) x (pairs_by m answers.items))
   phase_by x (phase.Waits answers key) = waiting (statement_at L x.here) x (pairs_by m answers.items) (m.key key)
-  phase_by x (phase.Tells item t) = Standing (Doing (Telling (m.reads.item item) (pending_by t x)))
+  phase_by x (phase.Tells item t) = Standing (Doing (Telling (m.reads.item item.value) (pending_by t x)))
   phase_by x (phase.Does t) = Standing (Doing (Performing (pending_by t x)))
-  phase_by x (phase.Tried limited item entry) = engine.Tried (m.reads.item limited) (m.reads.item item) (entry_by m entry) x
+  phase_by x (phase.Tried limited item entry) = engine.Tried (m.reads.item limited.value) (m.reads.item item.value) (entry_by m entry) x
   phase_by x phase.Inside = engine.Inside x
 
   abbrev pub progress_by : Progress T N C K V I → Place L.words L.Item

@@ -20,8 +20,8 @@ pub record Takes {L : Language} {T B N D S I C K V : Type 0} (m : Means L T B N 
   pub place : phase_by m (stack_by m x) t.phase ≡ next_place L r
 
 -- a key is asked at the entry of a call
-pub record AsksNext {L : Language} {T B N D S I C K V : Type 0} (m : Means L T B N D S I C K V) (r : Ready L.words L.Item) (e : Entrance C K V)
-    (key : K) : Type 0 where
+pub record AsksNext {L : Language} {T B N D S I C K V : Type 0} (m : Means L T B N D S I C K V) (r : Ready L.words L.Item)
+    (e : Entrance C K V) (key : K) : Type 0 where
   pub action : Ask (m.key key) ≡ engine.move_of L r
   pub place : entrance_by m e ≡ next_place L r
 

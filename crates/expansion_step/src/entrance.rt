@@ -31,7 +31,8 @@ impl<X: CodedLanguage> Expander<X> {
         alloc: Global,
         entrance: &mut Entrance<X::Call, X::Key, X::Value>,
     ) -> Result<Opened<X::Listing, X::Known, X::Call, X::Key, X::Value, X::Item>, OutOfMemory>
-        ensures { IfOk result (λ o. let m = meaning X.reads X.call_of X.Call.code X.Key.code X.Value.code in Opens m (opened_by m entrance.old) entrance.new o) }
+        ensures { IfOk result (λ o. let m = meaning X.reads X.call_of X.Call.code X.Key.code X.Value.code in
+            Opens m (opened_by m entrance.old) entrance.new o) }
     {
         let place = entrance.answers.as_slice().len();
         let Some(key) = Self::key_at(entrance.keys.as_slice(), place) else {
@@ -52,7 +53,9 @@ impl<X: CodedLanguage> Expander<X> {
         mut answers: Vec<Noted<X::Key, X::Value>>,
         given: Given<X::Value>,
     ) -> Result<Vec<Noted<X::Key, X::Value>>, OutOfMemory>
-        ensures { IfOk result (λ now. (c : X.Call) → let m = meaning X.reads X.call_of X.Call.code X.Key.code X.Value.code in opened X.language (call_by m c) (keys_left m keys.now now.items) (pairs_by m now.items) ≡ heard X.language (hearing m c (keys_left m keys.now answers.items) (pairs_by m answers.items)) (told_of X.Value.code given)) }
+        ensures { IfOk result (λ now. (c : X.Call) → let m = meaning X.reads X.call_of X.Call.code X.Key.code X.Value.code in
+            opened X.language (call_by m c) (keys_left m keys.now now.items) (pairs_by m now.items)
+            ≡ heard X.language (hearing m c (keys_left m keys.now answers.items) (pairs_by m answers.items)) (told_of X.Value.code given)) }
     {
         let Given::Answer(value) = given else {
             return Ok(answers);
@@ -73,7 +76,8 @@ impl<X: CodedLanguage> Expander<X> {
         entrance: &mut Entrance<X::Call, X::Key, X::Value>,
         given: Given<X::Value>,
     ) -> Result<Opened<X::Listing, X::Known, X::Call, X::Key, X::Value, X::Item>, OutOfMemory>
-        ensures { IfOk result (λ o. let m = meaning X.reads X.call_of X.Call.code X.Key.code X.Value.code in Opens m (heard X.language (entrance_by m entrance.old) (told_of X.Value.code given)) entrance.new o) }
+        ensures { IfOk result (λ o. let m = meaning X.reads X.call_of X.Call.code X.Key.code X.Value.code in
+            Opens m (heard X.language (entrance_by m entrance.old) (told_of X.Value.code given)) entrance.new o) }
     {
         if !entrance.waits {
             return self.open(alloc, entrance);

@@ -31,7 +31,8 @@ impl<X: CodedLanguage> Expander<X> {
         alloc: Global,
         call: &X::Call,
     ) -> Result<Local<X::Listing, X::Known, X::Call, X::Key, X::Value, X::Item>, OutOfMemory>
-        ensures { IfOk result (λ l. let m = meaning X.reads X.call_of X.Call.code X.Key.code X.Value.code in place_by m l ≡ (expander X.language).start (X.call_of (X.Call.code call.now))) }
+        ensures { IfOk result (λ l. let m = meaning X.reads X.call_of X.Call.code X.Key.code X.Value.code in
+            place_by m l ≡ (expander X.language).start (X.call_of (X.Call.code call.now))) }
     {
         let entrance = Entrance {
             call: call.copy(alloc)?,
@@ -51,8 +52,11 @@ impl<X: CodedLanguage> Expander<X> {
         local: &mut Local<X::Listing, X::Known, X::Call, X::Key, X::Value, X::Item>,
         given: Given<X::Value>,
     ) -> Result<Action<X::Key, X::Value, X::Call, X::Item>, OutOfMemory>
-        ensures action { IfOk result (λ a. let m = meaning X.reads X.call_of X.Call.code X.Key.code X.Value.code in move_of X.Key.code X.Value.code X.Call.code X.call_of X.reads.item a ≡ (expander X.language).move_at (place_by m local.old) (told_of X.Value.code given)) }
-        ensures place { IfOk result (λ _. let m = meaning X.reads X.call_of X.Call.code X.Key.code X.Value.code in place_by m local.new ≡ (expander X.language).after (place_by m local.old) (told_of X.Value.code given)) }
+        ensures action { IfOk result (λ a. let m = meaning X.reads X.call_of X.Call.code X.Key.code X.Value.code in
+            move_of X.Key.code X.Value.code X.Call.code X.call_of X.reads.item a
+            ≡ (expander X.language).move_at (place_by m local.old) (told_of X.Value.code given)) }
+        ensures place { IfOk result (λ _. let m = meaning X.reads X.call_of X.Call.code X.Key.code X.Value.code in
+            place_by m local.new ≡ (expander X.language).after (place_by m local.old) (told_of X.Value.code given)) }
     {
         match &mut local.progress {
             Progress::Entering(entrance) => match self.enter_on(alloc, entrance, given)? {

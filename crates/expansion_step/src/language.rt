@@ -71,7 +71,8 @@ pub trait CodedLanguage {
         call: &Self::Call,
         answers: &[Noted<Self::Key, Self::Value>],
     ) -> Result<Self::Known, OutOfMemory>
-        ensures { IfOk result (λ k. (reads).known k ≡ (language).bound (call_of (Self.Call.code call.now)) (pairs_of Self.Key.code Self.Value.code answers.now)) };
+        ensures { IfOk result (λ k. (reads).known k
+            ≡ (language).bound (call_of (Self.Call.code call.now)) (pairs_of Self.Key.code Self.Value.code answers.now)) };
 
     /// Whether a list has a statement at this place.
     fn has_statement(&self, here: &Level<Self::Listing>) -> bool
@@ -79,7 +80,8 @@ pub trait CodedLanguage {
 
     /// The place of the first statement of a list that has this label.
     fn place_of(&self, listing: &Self::Listing, label: &Self::Label) -> Option<u32>
-        ensures { result ≡ first_where (λ s. (language).has_label s ((reads).label label.now)) ((language).statements_of ((reads).listing listing.now)) };
+        ensures { result ≡ first_where (λ s. (language).has_label s ((reads).label label.now))
+            ((language).statements_of ((reads).listing listing.now)) };
 
     /// How far the answers lead the statement at this place, for a call that knows so much.
     fn perform(
@@ -100,7 +102,11 @@ pub trait CodedLanguage {
         >,
         OutOfMemory,
     >
-        ensures { IfOk result (λ p. performed_by (meaning reads call_of Self.Call.code Self.Key.code Self.Value.code) ((reads).known known.now) p ≡ option_map (λ s. led_by (look_up (pairs_of Self.Key.code Self.Value.code answers.now)) ((language).effect_of s ((reads).known known.now))) (slice_get ((language).statements_of ((reads).listing here.now.listing)) here.now.position)) };
+        ensures { IfOk result (λ p. performed_by (meaning reads call_of Self.Call.code Self.Key.code Self.Value.code)
+            ((reads).known known.now) p ≡ option_map
+            (λ s. led_by (look_up (pairs_of Self.Key.code Self.Value.code answers.now))
+            ((language).effect_of s ((reads).known known.now)))
+            (slice_get ((language).statements_of ((reads).listing here.now.listing)) here.now.position)) };
 
     /// Makes this change of what is known.
     fn change(
@@ -119,7 +125,9 @@ pub trait CodedLanguage {
         said: Self::Said,
         fault: Fault,
     ) -> Result<Self::Item, OutOfMemory>
-        ensures { IfOk result (λ i. (reads).item i ≡ (language).item_of (point_by (meaning reads call_of Self.Call.code Self.Key.code Self.Value.code) stack.now said (fault_by fault))) };
+        ensures { IfOk result (λ i. (reads).item i
+            ≡ (language).item_of (point_by (meaning reads call_of Self.Call.code Self.Key.code Self.Value.code) stack.now said
+            (fault_by fault))) };
 
     /// The frames of a call at this place of its innermost list, with the lists that copied it, outermost first.
     fn frames(
@@ -128,7 +136,9 @@ pub trait CodedLanguage {
         here: &Level<Self::Listing>,
         below: &[Level<Self::Listing>],
     ) -> Result<Self::Frames, OutOfMemory>
-        ensures { IfOk result (λ f. frames_of f ≡ (language).frames_of (level_by (meaning reads call_of Self.Call.code Self.Key.code Self.Value.code) here.now ∷ reverse (map (level_by (meaning reads call_of Self.Call.code Self.Key.code Self.Value.code)) below.now))) };
+        ensures { IfOk result (λ f. frames_of f
+            ≡ (language).frames_of (level_by (meaning reads call_of Self.Call.code Self.Key.code Self.Value.code) here.now ∷ reverse
+            (map (level_by (meaning reads call_of Self.Call.code Self.Key.code Self.Value.code)) below.now))) };
 
     /// Whether counting and entering calls may change the answer to a key.
     fn is_moving(&self, key: &Self::Key) -> bool

@@ -52,7 +52,8 @@ impl<X: CodedLanguage> Expander<X> {
         is_quiet: bool,
         action: &Action<X::Key, X::Value, X::Call, X::Item>,
     ) -> bool
-        ensures { result ≡ is_allowed X.moving X.writable is_quiet (move_of X.Key.code X.Value.code X.Call.code X.call_of X.reads.item action.now) }
+        ensures { result ≡ is_allowed X.moving X.writable is_quiet
+            (move_of X.Key.code X.Value.code X.Call.code X.call_of X.reads.item action.now) }
     {
         match action {
             Action::Ask(key) => is_quiet || !self.language.is_moving(key),
@@ -67,7 +68,8 @@ impl<X: CodedLanguage> Expander<X> {
         action: &Action<X::Key, X::Value, X::Call, X::Item>,
         steps: &mut Steps<L>,
     ) -> u32
-        ensures left { result ≡ (if is_count (move_of X.Key.code X.Value.code X.Call.code X.call_of X.reads.item action.now) then most_actions else left - 1) }
+        ensures left { result ≡ (if is_count (move_of X.Key.code X.Value.code X.Call.code X.call_of X.reads.item action.now) then
+            most_actions else left - 1) }
         ensures ticks { steps.new ≡ steps.old + ticks_of action.now }
     {
         match action {
@@ -129,8 +131,13 @@ impl<X: CodedLanguage> AskMachine for Expander<X> {
         given: Given<Self::Value>,
         steps: &mut Steps<L>,
     ) -> Result<Action<Self::Key, Self::Value, Self::Call, Self::Item>, OutOfMemory>
-        ensures action { IfOk result (λ a. let m = meaning X.reads X.call_of X.Call.code X.Key.code X.Value.code in move_of X.Key.code X.Value.code X.Call.code X.call_of X.reads.item a ≡ (careful_expander X.language most_actions X.moving X.writable).move_at (watched_by m local.old) (told_of X.Value.code given)) }
-        ensures place { IfOk result (λ _. let m = meaning X.reads X.call_of X.Call.code X.Key.code X.Value.code in watched_by m local.new ≡ (careful_expander X.language most_actions X.moving X.writable).after (watched_by m local.old) (told_of X.Value.code given)) }
+        ensures action { IfOk result (λ a. let m = meaning X.reads X.call_of X.Call.code X.Key.code X.Value.code in
+            move_of X.Key.code X.Value.code X.Call.code X.call_of X.reads.item a
+            ≡ (careful_expander X.language most_actions X.moving X.writable).move_at (watched_by m local.old)
+            (told_of X.Value.code given)) }
+        ensures place { IfOk result (λ _. let m = meaning X.reads X.call_of X.Call.code X.Key.code X.Value.code in
+            watched_by m local.new ≡ (careful_expander X.language most_actions X.moving X.writable).after (watched_by m local.old)
+            (told_of X.Value.code given)) }
         ensures ticks { IfOk result (λ a. steps.new ≡ steps.old + ticks_of a) }
         ensures no_tick { OnErr result (steps.new ≡ steps.old) }
     {
@@ -171,7 +178,8 @@ impl<X: CodedLanguage> AskMachine for Expander<X> {
 
     ghost falls = { guarded_falls (expander X.language) most_actions X.moving X.writable is_quiet };
 
-    ghost emits_once_a_count = { guarded_emits_once (expander X.language) most_actions X.moving X.writable is_quiet is_marked (expander_emits_once X.language) };
+    ghost emits_once_a_count = { guarded_emits_once (expander X.language) most_actions X.moving X.writable is_quiet is_marked
+        (expander_emits_once X.language) };
 
     ghost modest = { guarded_is_modest (expander X.language) most_actions X.moving X.writable is_quiet (expander_quietens X.language) };
 }

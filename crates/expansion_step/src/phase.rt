@@ -29,16 +29,17 @@ pub(crate) struct Entrance<C, K, V> {
     pub(crate) waits: bool,
 }
 
-/// How far a call is with its statement.
+/// How far a call is with its statement. Points that wait for a frame are boxed: phases are moved at each action, and few
+/// statements want a frame.
 #[derive(Drop)]
 pub(crate) enum Phase<T, C, K, V, I> {
     Ready,
     Placed,
     Decides(Vec<Noted<K, V>>),
     Waits(Vec<Noted<K, V>>, K),
-    Tells(I, Pending<C, K, V>),
+    Tells(Box<I>, Pending<C, K, V>),
     Does(Pending<C, K, V>),
-    Tried(I, I, Entry<T, C, K, V>),
+    Tried(Box<I>, Box<I>, Entry<T, C, K, V>),
     Inside,
 }
 

@@ -1,9 +1,12 @@
 //! One action of a call.
-ghost use Rattle.std.specs.Prelude.{◌≡◌, ◌+◌, ℕ, Option, Some, None, List, [], ◌∷◌, ◌++◌, map, reverse, IfOk, OnOk, option_map, option_copied, slice_get};
+ghost use Rattle.std.specs.Prelude.{◌≡◌, ◌+◌, ℕ, Option, Some, None, List, [], ◌∷◌};
+ghost use Rattle.std.specs.Prelude.{◌++◌, map, reverse, IfOk, OnOk, option_map, option_copied, slice_get};
 ghost use Rattle.asking_core.specs.Actions.{told_of};
 ghost use Rattle.plain_expansion.specs.Language.{Stack as StackOf};
-ghost use Rattle.plain_expansion.specs.Expansion.{stepped, copying, statement_at, branched, first_stack as first_stack_of, outermost as outermost_of};
-ghost use Rattle.plain_expansion.specs.Engine.{GoingOn, Performing, Telling, Doing, opened, heard, with_answer, step_by, step_of, tried, roomy_step, puts_then};
+ghost use Rattle.plain_expansion.specs.Expansion.{stepped, copying, statement_at, branched};
+ghost use Rattle.plain_expansion.specs.Expansion.{first_stack as first_stack_of, outermost as outermost_of};
+ghost use Rattle.plain_expansion.specs.Engine.{GoingOn, Performing, Telling, Doing, opened, heard, with_answer};
+ghost use Rattle.plain_expansion.specs.Engine.{step_by, step_of, tried, roomy_step, puts_then};
 ghost use Rattle.expansion_step.specs.Meaning.{meaning, call_by, pairs_by, stack_by, entry_by, effect_by, point_by};
 ghost use Rattle.expansion_step.specs.Places.{onward_by, pending_by, counted_first, keys_left, hearing, placing, deciding, phase_by};
 ghost use Rattle.expansion_step.specs.Takes.{Takes};
@@ -19,7 +22,8 @@ use std::mem;
 impl<X: CodedLanguage> Expander<X> {
     /// Goes to the next statement of the innermost list. Places that do not fit their type count as want of memory.
     fn step_on(&self, stack: &mut Stack<X::Listing, X::Known>) -> Result<(), OutOfMemory>
-        ensures { OnOk result (let m = meaning X.reads X.call_of X.Call.code X.Key.code X.Value.code in stack_by m stack.new ≡ stepped (stack_by m stack.old)) }
+        ensures { OnOk result (let m = meaning X.reads X.call_of X.Call.code X.Key.code X.Value.code in
+            stack_by m stack.new ≡ stepped (stack_by m stack.old)) }
     {
         let Some(position) = stack.here.position.checked_add(1) else {
             return Err(OutOfMemory);
@@ -34,7 +38,8 @@ impl<X: CodedLanguage> Expander<X> {
         stack: &mut Stack<X::Listing, X::Known>,
         listing: X::Listing,
     ) -> Result<(), OutOfMemory>
-        ensures { OnOk result (let m = meaning X.reads X.call_of X.Call.code X.Key.code X.Value.code in stack_by m stack.new ≡ copying (X.reads.listing listing) (stack_by m stack.old)) }
+        ensures { OnOk result (let m = meaning X.reads X.call_of X.Call.code X.Key.code X.Value.code in
+            stack_by m stack.new ≡ copying (X.reads.listing listing) (stack_by m stack.old)) }
     {
         let Some(position) = stack.here.position.checked_add(1) else {
             return Err(OutOfMemory);
@@ -56,7 +61,8 @@ impl<X: CodedLanguage> Expander<X> {
         call: &X::Call,
         answers: &[Noted<X::Key, X::Value>],
     ) -> Result<Stack<X::Listing, X::Known>, OutOfMemory>
-        ensures { IfOk result (λ x. let m = meaning X.reads X.call_of X.Call.code X.Key.code X.Value.code in stack_by m x ≡ first_stack_of X.language (X.call_of (X.Call.code call.now)) (pairs_by m answers.now)) }
+        ensures { IfOk result (λ x. let m = meaning X.reads X.call_of X.Call.code X.Key.code X.Value.code in
+            stack_by m x ≡ first_stack_of X.language (X.call_of (X.Call.code call.now)) (pairs_by m answers.now)) }
     {
         Ok(Stack {
             is_open_code: self.language.is_open_code(call),
@@ -75,7 +81,8 @@ impl<X: CodedLanguage> Expander<X> {
         alloc: Global,
         stack: &mut Stack<X::Listing, X::Known>,
     ) -> Taken<X::Listing, X::Call, X::Key, X::Value, X::Item>
-        ensures { let m = meaning X.reads X.call_of X.Call.code X.Key.code X.Value.code in Takes m (Doing (Performing (GoingOn (stack_by m stack.old)))) stack.new result }
+        ensures { let m = meaning X.reads X.call_of X.Call.code X.Key.code X.Value.code in
+            Takes m (Doing (Performing (GoingOn (stack_by m stack.old)))) stack.new result }
     {
         if self.language.has_statement(&stack.here) {
             let phase = if stack.is_open_code {
@@ -109,7 +116,8 @@ impl<X: CodedLanguage> Expander<X> {
         key: X::Key,
         given: Given<X::Value>,
     ) -> Result<Vec<Noted<X::Key, X::Value>>, OutOfMemory>
-        ensures { IfOk result (λ now. let m = meaning X.reads X.call_of X.Call.code X.Key.code X.Value.code in pairs_by m now.items ≡ with_answer X.language (told_of X.Value.code given) (X.Key.code key) (pairs_by m answers.items)) }
+        ensures { IfOk result (λ now. let m = meaning X.reads X.call_of X.Call.code X.Key.code X.Value.code in
+            pairs_by m now.items ≡ with_answer X.language (told_of X.Value.code given) (X.Key.code key) (pairs_by m answers.items)) }
     {
         let Given::Answer(value) = given else {
             return Ok(answers);
@@ -120,7 +128,8 @@ impl<X: CodedLanguage> Expander<X> {
 
     /// Nothing is left to do but this.
     fn nothing_but(alloc: Global, onward: Onward<X::Call>) -> Pending<X::Call, X::Key, X::Value>
-        ensures { let m = meaning X.reads X.call_of X.Call.code X.Key.code X.Value.code in (x : StackOf X.language.words) → pending_by m result x ≡ onward_by m onward x }
+        ensures { let m = meaning X.reads X.call_of X.Call.code X.Key.code X.Value.code in
+            (x : StackOf X.language.words) → pending_by m result x ≡ onward_by m onward x }
     {
         Pending {
             counts: false,
@@ -136,7 +145,10 @@ impl<X: CodedLanguage> Expander<X> {
         mut puts: Vec<Noted<X::Key, X::Value>>,
         onward: Onward<X::Call>,
     ) -> Taken<X::Listing, X::Call, X::Key, X::Value, X::Item>
-        ensures { let m = meaning X.reads X.call_of X.Call.code X.Key.code X.Value.code in (x : Stack X.Listing X.Known) → Takes m (Doing (Telling (X.reads.item item) (counted_first m counts (puts_then (pairs_by m puts.items) (onward_by m onward (stack_by m x)))))) x result }
+        ensures { let m = meaning X.reads X.call_of X.Call.code X.Key.code X.Value.code in
+            (x : Stack X.Listing X.Known) → Takes m
+            (Doing (Telling (X.reads.item item)
+            (counted_first m counts (puts_then (pairs_by m puts.items) (onward_by m onward (stack_by m x)))))) x result }
     {
         puts.reverse();
         Taken {
@@ -158,7 +170,10 @@ impl<X: CodedLanguage> Expander<X> {
         place: Option<u32>,
         change: Option<X::Change>,
     ) -> Result<Taken<X::Listing, X::Call, X::Key, X::Value, X::Item>, OutOfMemory>
-        ensures { IfOk result (let m = meaning X.reads X.call_of X.Call.code X.Key.code X.Value.code in Takes m (Doing (step_of X.language (branched place (option_map (λ d. X.reads.changed d (X.reads.known stack.old.known)) change) (λ fault. point_by m stack.old said fault) (stack_by m stack.old)) (stack_by m stack.old))) stack.new) }
+        ensures { IfOk result (let m = meaning X.reads X.call_of X.Call.code X.Key.code X.Value.code in
+            Takes m (Doing (step_of X.language
+            (branched place (option_map (λ d. X.reads.changed d (X.reads.known stack.old.known)) change)
+            (λ fault. point_by m stack.old said fault) (stack_by m stack.old)) (stack_by m stack.old))) stack.new) }
     {
         let Some(position) = place else {
             let item = self.language.item(alloc, stack, said, Fault::NoLabel)?;
@@ -183,7 +198,8 @@ impl<X: CodedLanguage> Expander<X> {
         said: X::Said,
         act: Act<X::Listing, X::Label, X::Change, X::Said, X::Call, X::Key, X::Value>,
     ) -> Result<Taken<X::Listing, X::Call, X::Key, X::Value, X::Item>, OutOfMemory>
-        ensures { IfOk result (let m = meaning X.reads X.call_of X.Call.code X.Key.code X.Value.code in Takes m (Doing (step_by X.language (effect_by m (X.reads.known stack.old.known) said act) (stack_by m stack.old))) stack.new) }
+        ensures { IfOk result (let m = meaning X.reads X.call_of X.Call.code X.Key.code X.Value.code in
+            Takes m (Doing (step_by X.language (effect_by m (X.reads.known stack.old.known) said act) (stack_by m stack.old))) stack.new) }
     {
         match act {
             Act::Continues(change, puts) => {
@@ -205,6 +221,8 @@ impl<X: CodedLanguage> Expander<X> {
             Act::Enters(limited, entry) => {
                 let item = self.language.item(alloc, stack, said, Fault::NoFault)?;
                 let limited = self.language.item(alloc, stack, limited, Fault::NoRoom)?;
+                let item = Box::new(alloc, item)?;
+                let limited = Box::new(alloc, limited)?;
                 Ok(Taken {
                     action: Action::Deepen,
                     phase: Phase::Tried(limited, item, entry),
@@ -228,7 +246,9 @@ impl<X: CodedLanguage> Expander<X> {
         stack: &mut Stack<X::Listing, X::Known>,
         answers: Vec<Noted<X::Key, X::Value>>,
     ) -> Result<Taken<X::Listing, X::Call, X::Key, X::Value, X::Item>, OutOfMemory>
-        ensures { IfOk result (let m = meaning X.reads X.call_of X.Call.code X.Key.code X.Value.code in Takes m (deciding m (statement_at X.language (stack_by m stack.old).here) (stack_by m stack.old) (pairs_by m answers.items)) stack.new) }
+        ensures { IfOk result (let m = meaning X.reads X.call_of X.Call.code X.Key.code X.Value.code in
+            Takes m (deciding m (statement_at X.language (stack_by m stack.old).here) (stack_by m stack.old) (pairs_by m answers.items))
+            stack.new) }
     {
         let language = &self.language;
         match language.perform(alloc, &stack.here, &stack.known, answers.as_slice())? {
@@ -251,7 +271,8 @@ impl<X: CodedLanguage> Expander<X> {
         stack: &mut Stack<X::Listing, X::Known>,
         mut pending: Pending<X::Call, X::Key, X::Value>,
     ) -> Taken<X::Listing, X::Call, X::Key, X::Value, X::Item>
-        ensures { let m = meaning X.reads X.call_of X.Call.code X.Key.code X.Value.code in Takes m (Doing (Performing (pending_by m pending (stack_by m stack.old)))) stack.new result }
+        ensures { let m = meaning X.reads X.call_of X.Call.code X.Key.code X.Value.code in
+            Takes m (Doing (Performing (pending_by m pending (stack_by m stack.old)))) stack.new result }
     {
         if pending.counts {
             pending.counts = false;
@@ -276,7 +297,8 @@ impl<X: CodedLanguage> Expander<X> {
         stack: &mut Stack<X::Listing, X::Known>,
         onward: Onward<X::Call>,
     ) -> Taken<X::Listing, X::Call, X::Key, X::Value, X::Item>
-        ensures { let m = meaning X.reads X.call_of X.Call.code X.Key.code X.Value.code in Takes m (Doing (Performing (onward_by m onward (stack_by m stack.old)))) stack.new result }
+        ensures { let m = meaning X.reads X.call_of X.Call.code X.Key.code X.Value.code in
+            Takes m (Doing (Performing (onward_by m onward (stack_by m stack.old)))) stack.new result }
     {
         match onward {
             Onward::On => self.go_on(alloc, stack),
@@ -300,10 +322,11 @@ impl<X: CodedLanguage> Expander<X> {
         &self,
         alloc: Global,
         stack: &mut Stack<X::Listing, X::Known>,
-        item: X::Item,
+        item: Box<X::Item>,
         entry: Entry<X::Listing, X::Call, X::Key, X::Value>,
     ) -> Result<Taken<X::Listing, X::Call, X::Key, X::Value, X::Item>, OutOfMemory>
-        ensures { IfOk result (let m = meaning X.reads X.call_of X.Call.code X.Key.code X.Value.code in Takes m (Doing (roomy_step (X.reads.item item) (entry_by m entry) (stack_by m stack.old))) stack.new) }
+        ensures { IfOk result (let m = meaning X.reads X.call_of X.Call.code X.Key.code X.Value.code in
+            Takes m (Doing (roomy_step (X.reads.item item.value) (entry_by m entry) (stack_by m stack.old))) stack.new) }
     {
         match entry {
             Entry::Nowhere => {
@@ -329,6 +352,7 @@ impl<X: CodedLanguage> Expander<X> {
             }
             Entry::Copying(listing) => {
                 self.copy_into(stack, listing)?;
+                let item = Box::into_inner(item);
                 Ok(Self::tell(item, false, Vec::new(alloc), Onward::On))
             }
         }
@@ -339,15 +363,18 @@ impl<X: CodedLanguage> Expander<X> {
         &self,
         alloc: Global,
         stack: &mut Stack<X::Listing, X::Known>,
-        limited: X::Item,
-        item: X::Item,
+        limited: Box<X::Item>,
+        item: Box<X::Item>,
         entry: Entry<X::Listing, X::Call, X::Key, X::Value>,
         given: Given<X::Value>,
     ) -> Result<Taken<X::Listing, X::Call, X::Key, X::Value, X::Item>, OutOfMemory>
-        ensures { IfOk result (let m = meaning X.reads X.call_of X.Call.code X.Key.code X.Value.code in Takes m (Doing (tried X.language (told_of X.Value.code given) (X.reads.item limited) (X.reads.item item) (entry_by m entry) (stack_by m stack.old))) stack.new) }
+        ensures { IfOk result (let m = meaning X.reads X.call_of X.Call.code X.Key.code X.Value.code in
+            Takes m (Doing (tried X.language (told_of X.Value.code given) (X.reads.item limited.value) (X.reads.item item.value)
+            (entry_by m entry) (stack_by m stack.old))) stack.new) }
     {
         if let Given::TooDeep = given {
             self.step_on(stack)?;
+            let limited = Box::into_inner(limited);
             return Ok(Self::tell(limited, false, Vec::new(alloc), Onward::On));
         }
         self.enter(alloc, stack, item, entry)
@@ -355,7 +382,8 @@ impl<X: CodedLanguage> Expander<X> {
 
     /// The number of the outermost statement.
     fn outermost(stack: &Stack<X::Listing, X::Known>) -> u32
-        ensures { let m = meaning X.reads X.call_of X.Call.code X.Key.code X.Value.code in result ≡ outermost_of (stack_by m stack.now).here (stack_by m stack.now).below }
+        ensures { let m = meaning X.reads X.call_of X.Call.code X.Key.code X.Value.code in
+            result ≡ outermost_of (stack_by m stack.now).here (stack_by m stack.now).below }
     {
         match stack.below.as_slice().first() {
             Some(level) => level.position,
@@ -369,7 +397,8 @@ impl<X: CodedLanguage> Expander<X> {
         alloc: Global,
         stack: &mut Stack<X::Listing, X::Known>,
     ) -> Taken<X::Listing, X::Call, X::Key, X::Value, X::Item>
-        ensures { let m = meaning X.reads X.call_of X.Call.code X.Key.code X.Value.code in Takes m (placing m (statement_at X.language (stack_by m stack.old).here) (stack_by m stack.old)) stack.new result }
+        ensures { let m = meaning X.reads X.call_of X.Call.code X.Key.code X.Value.code in
+            Takes m (placing m (statement_at X.language (stack_by m stack.old).here) (stack_by m stack.old)) stack.new result }
     {
         if !self.language.has_statement(&stack.here) {
             return self.go_on(alloc, stack);
@@ -389,7 +418,8 @@ impl<X: CodedLanguage> Expander<X> {
         phase: Phase<X::Listing, X::Call, X::Key, X::Value, X::Item>,
         given: Given<X::Value>,
     ) -> Result<Taken<X::Listing, X::Call, X::Key, X::Value, X::Item>, OutOfMemory>
-        ensures { IfOk result (let m = meaning X.reads X.call_of X.Call.code X.Key.code X.Value.code in Takes m (heard X.language (phase_by m (stack_by m stack.old) phase) (told_of X.Value.code given)) stack.new) }
+        ensures { IfOk result (let m = meaning X.reads X.call_of X.Call.code X.Key.code X.Value.code in
+            Takes m (heard X.language (phase_by m (stack_by m stack.old) phase) (told_of X.Value.code given)) stack.new) }
     {
         match phase {
             Phase::Ready => Ok(self.go_on(alloc, stack)),
@@ -400,7 +430,7 @@ impl<X: CodedLanguage> Expander<X> {
                 self.decide(alloc, stack, answers)
             }
             Phase::Tells(item, pending) => Ok(Taken {
-                action: Action::Emit(item),
+                action: Action::Emit(Box::into_inner(item)),
                 phase: Phase::Does(pending),
             }),
             Phase::Does(pending) => Ok(self.do_next(alloc, stack, pending)),

@@ -11,7 +11,7 @@ returns-in-Calling g c =
     let L = g.X.CodedLanguage.language in
     let m = meaning g.X.CodedLanguage.reads g.X.CodedLanguage.call_of g.X.Call.Kept.code g.X.Key.Kept.code g.X.Value.Kept.code in
     let x = stack_by m c.args.stack.now in
-    let item = g.X.CodedLanguage.reads.item c.args.item in
+    let item = g.X.CodedLanguage.reads.item c.args.item.value in
     record {
       action = sym (ap (λ y. engine.move_of L (Doing (roomy_step item (entry_by m y) x))) c.in-Calling.is);
       place =
