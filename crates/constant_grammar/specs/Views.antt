@@ -1,10 +1,10 @@
 -- What the program's values are as they are written (this project).
-use Rattle.std.specs.Prelude.{◌≡◌, ℕ, List, map, Option, Result, Ok, Err, option_map}
+use Rattle.std.specs.Prelude.{◌≡◌, ℕ, map, Option, Result, Ok, Err, option_map}
 use Rattle.expression_grammar.specs.declared.fault.SyntaxFault.{SyntaxFault}
 use Rattle.expression_grammar.specs.declared.fault.SyntaxFault.TheVariants.{At, OutOfMemory}
-use Rattle.expression_grammar.specs.declared.tree.Expr.{Expr}
 use Rattle.expression_grammar.specs.Trees.{Tree}
 use Rattle.expression_grammar.specs.Views.{tree_of}
+use Rattle.constant_grammar.specs.declared.tree.Formula.{Formula}
 use Rattle.constant_grammar.specs.declared.amount.Amount as declared
 use Rattle.constant_grammar.specs.declared.amount.Amount.TheVariants as amount
 use Rattle.constant_grammar.specs.declared.amount.AmountFront as front
@@ -20,17 +20,23 @@ use Rattle.constant_grammar.specs.Elements.{Element, expression, symbol, address
 use Rattle.constant_grammar.specs.Nominals.{Nominal, quoted, enclosed}
 
 -- a reader answers the tree that is read, or how far the text goes; only want of memory is no word on the text
-abbrev pub Says : Result Tree ℕ → Result Expr SyntaxFault → Type 0
-Says found (Ok tree) = found ≡ Ok (tree_of tree)
-Says found (Err (At at)) = found ≡ Err at
-Says found (Err OutOfMemory) = Unit {0}
+abbrev pub SaysFault : Result Tree ℕ → SyntaxFault → Type 0
+SaysFault found (At at) = found ≡ Err at
+SaysFault found OutOfMemory = Unit {0}
 
-abbrev pub tree_if : Option Expr → Option Tree
-tree_if found = option_map tree_of found
+abbrev pub Says : Result Tree ℕ → Result Formula SyntaxFault → Type 0
+Says found (Ok formula) = found ≡ Ok (tree_of formula.tree)
+Says found (Err fault) = SaysFault found fault
+
+abbrev pub tree_in : Formula → Tree
+tree_in formula = tree_of formula.tree
+
+abbrev pub tree_if : Option Formula → Option Tree
+tree_if found = option_map tree_in found
 
 abbrev pub amount_of : declared.Amount → Amount
 amount_of (amount.Decimal number) = decimal number
-amount_of (amount.Computed tree) = computed (tree_of tree)
+amount_of (amount.Computed tree) = computed (tree_in tree)
 
 abbrev pub optional_amount_of : Option declared.Amount → Option Amount
 optional_amount_of found = option_map amount_of found
@@ -42,9 +48,9 @@ abbrev pub optional_of : optional.OptionalAmount → OptionalAmount
 optional_of found = record { amount = optional_amount_of found.amount; count = found.count }
 
 abbrev pub element_of : part.Element → Element
-element_of (element.Expression tree) = expression (tree_of tree)
+element_of (element.Expression tree) = expression (tree_in tree)
 element_of (element.Symbol name) = symbol name
-element_of (element.Address displacement base) = address_of (tree_of displacement) (tree_if base)
+element_of (element.Address displacement base) = address_of (tree_in displacement) (tree_if base)
 
 abbrev pub nominal_of : named.Nominal → Nominal
 nominal_of (nominal.Quoted text) = quoted text

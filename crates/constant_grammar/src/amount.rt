@@ -8,7 +8,8 @@ ghost use Rattle.constant_grammar.specs.Amounts as amounts;
 ghost use Rattle.constant_grammar.specs.Views.{amount_front_of, optional_of};
 
 use crate::character::{behind, head};
-use expression_grammar::{Expr, Grammar, SyntaxFault, parse_front};
+use crate::tree::Formula;
+use expression_grammar::{Grammar, SyntaxFault, parse_front};
 use hl_base::OutOfMemory;
 use std::alloc::Global;
 
@@ -17,7 +18,7 @@ use std::alloc::Global;
 #[derive(Drop)]
 pub enum Amount {
     Decimal(u32),
-    Computed(Expr),
+    Computed(Formula),
 }
 
 /// A number, and how many characters it takes.
@@ -72,7 +73,7 @@ fn enclosed(alloc: Global, text: &str) -> Result<Option<AmountFront>, OutOfMemor
 {
     match parse_front(alloc, Grammar::Ordinary, text) {
         Ok(front) => Ok(Some(AmountFront {
-            amount: Amount::Computed(front.tree),
+            amount: Amount::Computed(Formula { tree: front.tree }),
             count: front.before.checked_add(2).ok_or(OutOfMemory)?,
         })),
         Err(SyntaxFault::At(_)) => Ok(None),

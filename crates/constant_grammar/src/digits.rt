@@ -67,8 +67,8 @@ fn decimal_count(text: &str) -> usize
         .saturating_sub(period)
 }
 
-/// How many characters or digits the first value of this kind has in a text.
-fn count_in(kind: ValueKind, text: &str) -> usize
+/// How many characters or digits the first value of this kind has in the text of the values, rightly written or not.
+pub fn digits_in(kind: ValueKind, text: &str) -> usize
     ensures { result ≡ digits.count_in kind (chars text.now) }
 {
     match kind {
@@ -85,7 +85,7 @@ impl Constant {
         ensures { result ≡ digits.first_digits (constant_of self.now) }
     {
         match &self.nominal {
-            Some(Nominal::Quoted(text)) => Some(count_in(self.kind.kind(), text.as_str())),
+            Some(Nominal::Quoted(text)) => Some(digits_in(self.kind.kind(), text.as_str())),
             Some(Nominal::Enclosed(_)) => Some(0),
             None => None,
         }

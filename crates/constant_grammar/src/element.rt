@@ -9,31 +9,35 @@ ghost use Rattle.constant_grammar.specs.Views.{amount_front_of, element_of, Says
 
 use crate::amount::{Amount, AmountFront, amount_front};
 use crate::character::{before, behind, character_count};
+use crate::tree::Formula;
 use constant_table::ValueKind;
-use expression_grammar::{Expr, SyntaxFault, parse_ordinary};
+use expression_grammar::{SyntaxFault, parse_ordinary};
 use hl_base::{Name, OutOfMemory, Text};
 use std::alloc::Global;
 
 /// A value of an address constant: an expression, a symbol, or an address as a displacement with a base register or without.
 #[derive(Drop)]
 pub enum Element {
-    Expression(Expr),
+    Expression(Formula),
     Symbol(Name),
-    Address(Expr, Option<Expr>),
+    Address(Formula, Option<Formula>),
 }
 
-/// The ordinary expression that a text is.
-fn read_expression(alloc: Global, text: &str) -> Result<Expr, SyntaxFault>
+/// Reads an ordinary expression.
+pub fn read_formula(alloc: Global, text: &str) -> Result<Formula, SyntaxFault>
     ensures { Says (read Ordinary (chars text.now)) result }
 {
-    parse_ordinary(alloc, text)
+    match parse_ordinary(alloc, text) {
+        Ok(tree) => Ok(Formula { tree }),
+        Err(fault) => Err(fault),
+    }
 }
 
 /// The same where nothing else is of interest.
-fn expression(alloc: Global, text: &str) -> Result<Option<Expr>, OutOfMemory>
+fn expression(alloc: Global, text: &str) -> Result<Option<Formula>, OutOfMemory>
     ensures { IfOk result (λ tree. tree_if tree ≡ elements.tree_in (read Ordinary (chars text.now))) }
 {
-    match read_expression(alloc, text) {
+    match read_formula(alloc, text) {
         Ok(tree) => Ok(Some(tree)),
         Err(SyntaxFault::At(_)) => Ok(None),
         Err(SyntaxFault::OutOfMemory) => Err(OutOfMemory),
@@ -41,7 +45,11 @@ fn expression(alloc: Global, text: &str) -> Result<Option<Expr>, OutOfMemory>
 }
 
 /// A displacement with what stands behind it, of which so many characters are left.
-fn with_base(displacement: Option<Expr>, base: Option<AmountFront>, left: usize) -> Option<Element>
+fn with_base(
+    displacement: Option<Formula>,
+    base: Option<AmountFront>,
+    left: usize,
+) -> Option<Element>
     ensures { option_map element_of result ≡ elements.with_base (tree_if displacement) (option_map amount_front_of base) left }
 {
     let Some(displacement) = displacement else {
@@ -72,7 +80,7 @@ fn based(alloc: Global, text: &str, at: usize) -> Result<Option<Element>, OutOfM
 fn address(alloc: Global, text: &str) -> Result<Option<Element>, OutOfMemory>
     ensures { IfOk result (λ element. option_map element_of element ≡ elements.address (chars text.now)) }
 {
-    match read_expression(alloc, text) {
+    match read_formula(alloc, text) {
         Ok(tree) => Ok(Some(Element::Address(tree, None))),
         Err(SyntaxFault::At(at)) => based(alloc, text, at as usize),
         Err(SyntaxFault::OutOfMemory) => Err(OutOfMemory),

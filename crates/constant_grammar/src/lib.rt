@@ -14,8 +14,11 @@ mod digits;
 mod element;
 mod letters;
 mod nominal;
+mod tree;
 
 pub use amount::Amount;
 pub use constant::Constant;
-pub use element::Element;
+pub use digits::digits_in;
+pub use element::{Element, read_formula};
 pub use nominal::Nominal;
+pub use tree::Formula;

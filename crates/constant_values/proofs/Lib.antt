@@ -1,0 +1,4 @@
+pub mod TextLaws
+pub mod Splits
+pub mod Lists
+pub mod Boundaries

@@ -1,0 +1,13 @@
+use Rattle.std.proofs.Common.{◌≡◌, ◌+◌, ◌≤◌, length}
+use denote.Text.{Utf8}
+use denote.Shadow.{shadow}
+use Rattle.std.specs.Str.{chars}
+use Rattle.constant_values.specs.Classes.{count_of}
+use Rattle.constant_values.proofs.class.count_of.Given as goal
+
+-- those so far, and those that are left behind them
+abbrev pub invariant-loop-c : goal.invariant-loop-c
+invariant-loop-c l = shadow (Utf8 l.left) × ((l.count + count_of l.class (chars l.left) ≡ count_of l.class (chars l.text)) × (l.count + length (chars l.left) ≤ length l.text))
+
+abbrev pub decreases-loop-c : goal.decreases-loop-c
+decreases-loop-c l = length (chars l.left)

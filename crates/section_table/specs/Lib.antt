@@ -1,0 +1,4 @@
+pub mod Spans
+pub mod Views
+pub mod Tables
+pub mod Shown
