@@ -3,13 +3,8 @@
 # of 50,000 statements without conditional assembly, beside the reading of its statements alone, and a loop of 90,000 points, and says
 # how much more memory the loop takes than one of a few points.
 set -eu
-top=$(cd "$(dirname "$0")/.." && pwd)
-work=$(mktemp -d)
-trap 'rm -rf "$work"' EXIT
-cp -r "$top/crates" "$top/crates.txt" "$top/HANDLES" "$work/"
-mkdir -p "$work/crates/open_code_bench/src"
-echo 'open_code_bench: hl_base hlasm_statements program_assembly' >> "$work/crates.txt"
-cat > "$work/crates/open_code_bench/src/main.rt" <<'PROGRAM'
+. "$(dirname "$0")/program.sh"
+program open_code_bench 'hl_base hlasm_statements program_assembly' <<'PROGRAM'
 //! Times the assembly of the text that its first argument names, and the reading of its statements, as often as the second says.
 #![tactic(auto)]
 
@@ -17,6 +12,7 @@ use hl_base::{Ledger, PathId, Steps};
 use hlasm_statements::read_statements;
 use program_assembly::assembly_notes;
 use std::marker::Brand;
+use std::rc::RcStr;
 use std::sync::ledger::Blank;
 use std::time::Instant;
 use std::{env, fs, io};
@@ -37,7 +33,7 @@ fn statements(rt: &HostRuntime, text: &str) -> io::Result<(u128, usize)> {
 /// The nanoseconds of one assembly, and how many notes there are.
 fn assembly<L: Ledger>(
     rt: &HostRuntime,
-    text: &str,
+    text: &RcStr,
     steps: &mut Steps<L>,
 ) -> io::Result<(u128, usize)> {
     let start = Instant::now(rt)?;
@@ -49,14 +45,14 @@ fn assembly<L: Ledger>(
 }
 
 /// Times both, so many times.
-fn time<L: Ledger>(rt: &HostRuntime, text: &str, times: usize, blank: Blank) -> io::Result<()>
+fn time<L: Ledger>(rt: &HostRuntime, text: &RcStr, times: usize, blank: Blank) -> io::Result<()>
     requires name { blank.name ≡ L.name }
     requires parts { blank.parts ≡ L.parts }
     requires one { blank.parts ≡ 1 }
 {
     let mut steps = Steps::<L>::open(blank);
     for _ in 0..times {
-        let (nanoseconds, count) = statements(rt, text)?;
+        let (nanoseconds, count) = statements(rt, text.as_str())?;
         println!(rt; "statements {count} {nanoseconds}")?;
         let (nanoseconds, count) = assembly(rt, text, &mut steps)?;
         println!(rt; "assembly {count} {nanoseconds}")?;
@@ -69,7 +65,8 @@ fn main(rt: HostRuntime) -> io::Result<()> {
     if let (Some(path), Some(times)) = (words.next(), words.next()) {
         let text = fs::read_to_string(&rt, path.as_str())?;
         let times = times.as_str().parse::<usize>().unwrap_or(1);
-        time::<Brand>(&rt, text.as_str(), times, Blank::new(1))?;
+        let text = RcStr::from_str(rt.alloc(), text.as_str())?;
+        time::<Brand>(&rt, &text, times, Blank::new(1))?;
     }
     Ok(())
 }
@@ -88,7 +85,6 @@ for name, text in (("plain", "".join(map(line, range(50000))) + "         END\n"
     with open(f"{sys.argv[1]}/{name}.hlasm", "w") as out:
         out.write(text)
 TEXTS
-cd "$work/crates/open_code_bench"
 rt run -- "$work/few.hlasm" 1 > "$work/built" || { cat "$work/built" >&2; exit 1; }
 python3 - "$work" "$work/crates/open_code_bench/out/open_code_bench" <<'RESULT'
 import os, subprocess, sys

@@ -1,13 +1,8 @@
 #!/bin/sh
 # How fast the statements of a text are read: a program over hlasm_statements, built by rt in a copy of this repository.
 set -eu
-top=$(cd "$(dirname "$0")/.." && pwd)
-work=$(mktemp -d)
-trap 'rm -rf "$work"' EXIT
-cp -r "$top/crates" "$top/crates.txt" "$top/HANDLES" "$work/"
-mkdir -p "$work/crates/statements_bench/src"
-echo 'statements_bench: hl_base hlasm_statements' >> "$work/crates.txt"
-cat > "$work/crates/statements_bench/src/main.rt" <<'PROGRAM'
+. "$(dirname "$0")/program.sh"
+program statements_bench 'hl_base hlasm_statements' <<'PROGRAM'
 //! Times the reading of the texts that its arguments name, and a pass over their lines.
 #![tactic(auto)]
 
@@ -70,7 +65,6 @@ for name, count in (("once", 50000), ("twice", 100000)):
     with open(f"{sys.argv[1]}/{name}.hlasm", "w") as out:
         out.write(text(count))
 TEXTS
-cd "$work/crates/statements_bench"
 rt run -- "$work/once.hlasm" "$work/twice.hlasm" > "$work/times" || { cat "$work/times" >&2; exit 1; }
 python3 - "$work/times" <<'RESULT'
 import sys

@@ -2,7 +2,5 @@ pub mod LineLaws
 pub mod StackLaws
 pub mod ListLaws
 pub mod PointLaws
-pub mod FlatRuns
-pub mod NoNesting
 pub mod PlainRuns
 pub mod OpenCode

@@ -1,7 +1,7 @@
--- What a run comes to that gives an expansion without nested calls.
+-- What a run comes to that gives an expansion.
 use Rattle.std.proofs.Common.{◌≡◌, ℕ, ◌-◌, List, [], ◌∷◌, map, refl, sym, ap, ◌∙◌, subst, arith}
 use Rattle.kept_values.specs.Trees.{Tree}
-use Rattle.trace_arena.specs.Points.{Point, own}
+use Rattle.trace_arena.specs.Points.{Point}
 use Rattle.asking_core.specs.Worlds.{WorldModel}
 use Rattle.asking_core.specs.Machines.{MachineModel, Nothing}
 use Rattle.asking_core.specs.Runs.{Run, Plain}
@@ -9,7 +9,6 @@ use Rattle.plain_expansion.specs.Expansion.{Expansion}
 use Rattle.plain_expansion.specs.Laws.{Gives}
 use Rattle.kept_outcomes.specs.Moments.{Finish, PlainRunTo, begun}
 use Rattle.expansion_memo.specs.Kept.{point_by}
-use Rattle.program_assembly.proofs.FlatRuns.{no_calls}
 
 -- a list whose elements are read as they are
 pub map_same : {A : Type 0} (f : A → A) → ((x : A) → f x ≡ x) → (xs : List A) → map f xs ≡ xs
@@ -26,9 +25,9 @@ module _ (M : MachineModel) (W : WorldModel) (rebased : Tree → Tree → ℕ �
       let same : fuel - 0 ≡ fuel = omega arith in
       subst (λ f. Plain M W s (M.start call) Nothing f depth 0 comes.run) same comes.plain
 
-  module _ (comes : PlainRunTo M W rebased fuel depth (begun M W call s) z) (e : Expansion M.Item M.Frames W.State) (gives : Gives M W (M.start call) Nothing s 0 comes.run e) where
-    pub points_are : e.nested ≡ 0 → z.points ≡ map own e.points
-    points_are flat = comes.points_are ∙ no_calls 0 comes.run [] (gives.nested ∙ flat) ∙ ap (map own) gives.points
+  module _ (comes : PlainRunTo M W rebased fuel depth (begun M W call s) z) (e : Expansion M.Item M.Frames W.State) (gives : Gives M W [] (M.start call) Nothing s 0 comes.run e) where
+    pub points_are : z.points ≡ e.points
+    points_are = comes.points_are ∙ gives.points
 
     pub ended_is : z.ended ≡ e.ended
     ended_is = comes.ended_is ∙ gives.ended

@@ -1,5 +1,5 @@
 -- The run of a program's open code over an arena, and what an assembly says of it (this project).
-use Rattle.std.specs.Prelude.{◌≡◌, ℕ, List, length}
+use Rattle.std.specs.Prelude.{◌≡◌, ℕ, List, length, map}
 use Rattle.hl_base.specs.declared.place.Frame.{Frame}
 use Rattle.kept_values.specs.Trees.{Tree, Leaf, Fork}
 use Rattle.kept_values.specs.Lists.{list_tree}
@@ -11,7 +11,9 @@ use Rattle.expansion_memo.specs.declared.outcome.Outcome.{Outcome}
 use Rattle.expansion_memo.specs.Entries.{ending_of}
 use Rattle.expansion_memo.specs.Reuse.{ComesTo}
 use Rattle.program_world.specs.World.{ProgramState, program_world, first_world}
+use Rattle.trace_variables.specs.Globals.{globals_after}
 use Rattle.program_assembly.specs.Notes.{Ran, notes_of}
+use Rattle.trace_paths.specs.Touched.{AreTouched}
 use Rattle.program_assembly.specs.declared.assembly.Assembly.{Assembly}
 
 -- the call of the open code of a path and a text, as a tree
@@ -24,10 +26,15 @@ ran_of nodes outcome = record { points = points nodes outcome.node.0; ended = en
 
 -- An assembly of a program, for a machine: its root has the points of the machine's plain run of the open code, with the whole
 -- budget, over the world in which nothing is put and counted yet, and the rest is what is said of that run.
-pub record IsAssembly (M : MachineModel) (rebased : Tree → Tree → ℕ → Tree) (call_of : Tree → M.Call) (item_of : TraceItem → M.Item) (frames_of : List Frame → M.Frames) (path : ℕ) (text parm : List ℕ) (budget : ℕ) (nodes : List (Node TraceItem)) (a : Assembly) : Type 0 where
+pub record IsAssembly (M : MachineModel) (rebased : Tree → Tree → ℕ → Tree) (call_of : Tree → M.Call) (item_of : TraceItem → M.Item)
+    (frames_of : List Frame → M.Frames) (path : ℕ) (text parm : List ℕ) (budget : ℕ) (nodes : List (Node TraceItem)) (a : Assembly) :
+    Type 0 where
   pub world : ProgramState
   pub outcome : Outcome (List Frame)
-  pub comes : ComesTo M program_world rebased item_of frames_of budget 0 (call_of (open_code_tree path text)) (first_world parm) world nodes outcome
+  pub comes : ComesTo M program_world rebased item_of frames_of budget 0 (call_of (open_code_tree path text)) (first_world parm) world
+      nodes outcome
   pub root_is : a.root ≡ outcome.node
   pub points_are : a.points ≡ length (points nodes outcome.node.0)
   pub notes_are : a.notes ≡ notes_of path text (ran_of nodes outcome)
+  pub globals_are : a.globals ≡ globals_after (map (λ p. p.item) (points nodes outcome.node.0))
+  pub touched_are : AreTouched (points nodes outcome.node.0) a.touched

@@ -57,7 +57,8 @@ impl<
         requires writable { M.writable ≡ is_writable }
         requires rebased { M.rebased ≡ rebased }
         requires stand { AllStand M.model M.rebased M.call_of M.item_of self.old.arena.nodes self.old.memo }
-        ensures assembly { IfOk result (λ a. IsAssembly M.model M.rebased M.call_of M.item_of M.frames_of path.0 (text_of (P.texts present.now) text.0) (chars parm.now) budget self.new.arena.nodes a) }
+        ensures assembly { IfOk result (λ a. IsAssembly M.model M.rebased M.call_of M.item_of M.frames_of
+            path.0 (text_of (P.texts present.now) text.0) (chars parm.now) budget self.new.arena.nodes a) }
         ensures handed { IfOk result (λ a. IsHandedOut self.old.arena.nodes self.new.arena.nodes a.root.0) }
         ensures stand { AllStand M.model M.rebased M.call_of M.item_of self.new.arena.nodes self.new.memo }
     {

@@ -18,14 +18,26 @@ use std::alloc::Global;
 use std::rc::RcStr;
 use text_pool::Present;
 use trace_arena::{NodeId, TraceArena};
-use trace_values::TraceItem;
+use trace_paths::{PathIds, touched_paths};
+use trace_values::{Settings, TraceItem};
+use trace_variables::globals_at_end;
 
-/// What an assembly says of a program: the node of its points and how many there are, and what is reported.
+/// What an assembly says of a program.
 #[derive(Drop)]
 pub struct Assembly {
+    /// The node of its points, and how many there are.
     pub root: NodeId,
     pub points: u32,
+
+    /// What is reported.
     pub notes: Notes,
+
+    /// The global SET symbols with their values behind the last point, by type, then in the byte order of their names, then by
+    /// element: element 0 of each that was declared without a subscript, and each other element that was set.
+    pub globals: Settings,
+
+    /// The path of each frame of a point, once, in the order of their numbers.
+    pub touched: PathIds,
 }
 
 /// Assembles the program of a path and a text, as `assemble` does.
@@ -47,7 +59,8 @@ pub(crate) fn assemble_text<
     requires writable { M.writable ≡ is_writable }
     requires rebased { M.rebased ≡ rebased }
     requires stand { AllStand M.model M.rebased M.call_of M.item_of arena.old.nodes memo.old }
-    ensures assembly { IfOk result (λ a. IsAssembly M.model M.rebased M.call_of M.item_of M.frames_of path.0 (chars (rc_str_bytes text.now)) (chars parm.now) budget arena.new.nodes a) }
+    ensures assembly { IfOk result (λ a. IsAssembly M.model M.rebased M.call_of M.item_of M.frames_of
+        path.0 (chars (rc_str_bytes text.now)) (chars parm.now) budget arena.new.nodes a) }
     ensures handed { IfOk result (λ a. IsHandedOut arena.old.nodes arena.new.nodes a.root.0) }
     ensures stand { OnOk result (AllStand M.model M.rebased M.call_of M.item_of arena.new.nodes memo.new) }
     ensures still_kept { OnOk result ((i : ℕ) (o : KeptOutcome) → kept_at memo.old i ≡ Some o → kept_at memo.new i ≡ Some o) }
@@ -56,11 +69,13 @@ pub(crate) fn assemble_text<
     let call = CallSite::OpenCode(path, text.clone()?);
     let mut world = ProgramWorld::new(alloc, parm)?;
     let outcome = memo.expand(machine, alloc, &call, &mut world, budget, 0, arena, steps)?;
-    let notes = notes_of(alloc, path, text.as_str(), arena, &outcome)?;
+    let root = outcome.node;
     Ok(Assembly {
-        root: outcome.node,
-        points: arena.points(outcome.node),
-        notes,
+        root,
+        points: arena.points(root),
+        notes: notes_of(alloc, path, text.as_str(), arena, &outcome)?,
+        globals: globals_at_end(alloc, arena, root)?,
+        touched: touched_paths(alloc, arena, root)?,
     })
 }
 
@@ -89,7 +104,8 @@ pub fn assemble<
     requires writable { M.writable ≡ is_writable }
     requires rebased { M.rebased ≡ rebased }
     requires stand { AllStand M.model M.rebased M.call_of M.item_of arena.old.nodes memo.old }
-    ensures assembly { IfOk result (λ a. IsAssembly M.model M.rebased M.call_of M.item_of M.frames_of path.0 (text_of (P.texts present.now) text.0) (chars parm.now) budget arena.new.nodes a) }
+    ensures assembly { IfOk result (λ a. IsAssembly M.model M.rebased M.call_of M.item_of M.frames_of
+        path.0 (text_of (P.texts present.now) text.0) (chars parm.now) budget arena.new.nodes a) }
     ensures handed { IfOk result (λ a. IsHandedOut arena.old.nodes arena.new.nodes a.root.0) }
     ensures stand { OnOk result (AllStand M.model M.rebased M.call_of M.item_of arena.new.nodes memo.new) }
     ensures still_kept { OnOk result ((i : ℕ) (o : KeptOutcome) → kept_at memo.old i ≡ Some o → kept_at memo.new i ≡ Some o) }

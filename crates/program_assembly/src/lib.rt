@@ -19,4 +19,4 @@ mod point_notes;
 
 pub use assembler::Assembler;
 pub use assembly::{Assembly, assemble};
-pub use plain::assembly_notes;
+pub use plain::{assemblies_are_plain, assembly_notes};

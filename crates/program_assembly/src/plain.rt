@@ -2,7 +2,7 @@
 ghost use Rattle.std.specs.Prelude.{◌≡◌, IfOk};
 ghost use Rattle.std.specs.Rc.{rc_str_bytes};
 ghost use Rattle.std.specs.Str.{chars};
-ghost use Rattle.program_assembly.specs.Assembly.{assembly_notes};
+ghost use Rattle.program_assembly.specs.Assembly.{assembly_notes, AssembliesArePlain};
 
 use crate::Assembly;
 use crate::assembly::assemble_text;
@@ -38,6 +38,16 @@ pub fn assembly_notes<L: Ledger>(
         root: _,
         points: _,
         notes,
+        globals: _,
+        touched: _,
     } = assembly;
     Ok(notes)
+}
+
+/// What an assembly by the machine that expands HLASM says of a program is what the program's plain expansion says. The function
+/// does nothing: its contract is a law.
+pub fn assemblies_are_plain()
+    ensures { AssembliesArePlain }
+{
+    runs_are_expansions::<HlasmLanguage, ProgramWorld>();
 }

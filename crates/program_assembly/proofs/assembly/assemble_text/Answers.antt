@@ -30,4 +30,6 @@ returns-clause-assembly g c =
       notes_are =
           c.in_ok-notes.ensures
           ∙ ap (λ bytes. notes_of path (chars bytes) (ran_of nodes outcome)) c.as_str.ensures.value;
+      globals_are = c.in_ok-globals.ensures;
+      touched_are = c.in_ok-touched.ensures;
     }

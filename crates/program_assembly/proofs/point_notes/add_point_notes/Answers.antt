@@ -4,7 +4,8 @@ use Rattle.std.specs.List.{flat_map}
 use Rattle.std.specs.Option.{option_map_or}
 use Rattle.trace_arena.specs.Points.{points}
 use Rattle.program_assembly.specs.PointNotes.{point_notes}
-use Rattle.program_assembly.proofs.ListLaws.{flat_map-more, step_index}
+use Rattle.trace_variables.proofs.ValueLemmas.{step_index}
+use Rattle.trace_paths.proofs.ListLaws.{flat_map-more}
 use Rattle.program_assembly.proofs.point_notes.add_point_notes.Goals as goal
 
 pub loop-index-preserved : goal.loop-index-preserved
