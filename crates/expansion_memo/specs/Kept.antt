@@ -1,5 +1,6 @@
 -- What a memo keeps, and when a kept outcome stands. This project.
 use Rattle.std.specs.Prelude.{◌≡◌, ℕ, ◌<◌, Option, Some, None, List, [], ◌∷◌, length, map, nat_lt, if◌then◌else◌, slice_index, slice_index_or}
+use Rattle.std.specs.Coded.{Π_prop, le_prop}
 use Rattle.kept_values.specs.Trees.{Tree, Pair, mixed}
 use Rattle.trace_arena.specs.Nodes.{Node, node_at, IsLive}
 use Rattle.trace_arena.specs.Points.{Point, points}
@@ -37,6 +38,16 @@ pub record Stands (M : MachineModel) (rebased : Tree → Tree → ℕ → Tree) 
 -- all that a memo keeps stands
 abbrev pub AllStand : (M : MachineModel) → (Tree → Tree → ℕ → Tree) → (Tree → M.Call) → {I : Type 0} → (I → M.Item) → List (Node I) → List (Option KeptOutcome) → Type 0
 AllStand M rebased call_of item_of nodes kept = (i : ℕ) (o : KeptOutcome) → kept_at kept i ≡ Some o → Stands M rebased call_of item_of nodes o
+
+-- both are facts that a value can keep
+pub Stands-prop : (M : MachineModel) (rebased : Tree → Tree → ℕ → Tree) (call_of : Tree → M.Call) {I : Type 0} (item_of : I → M.Item) (nodes : List (Node I)) (o : KeptOutcome) →
+    IsProp (Stands M rebased call_of item_of nodes o)
+Stands-prop M rebased call_of item_of nodes o one other = λ i. record { live = le_prop one.live other.live i; outcome = squash₁ one.outcome other.outcome i }
+
+pub AllStand-prop : (M : MachineModel) (rebased : Tree → Tree → ℕ → Tree) (call_of : Tree → M.Call) {I : Type 0} (item_of : I → M.Item) (nodes : List (Node I)) (kept : List (Option KeptOutcome)) →
+    IsProp (AllStand M rebased call_of item_of nodes kept)
+AllStand-prop M rebased call_of item_of nodes kept =
+    Π_prop (λ i. Π_prop (λ o. Π_prop (λ at. Stands-prop M rebased call_of item_of nodes o)))
 
 -- a kept outcome is one of this call, and holds in a state, at so much fuel and a depth
 pub record HoldsOf (W : WorldModel) (s : W.State) (fuel depth : ℕ) (call : Tree) (o : KeptOutcome) : Type 0 where

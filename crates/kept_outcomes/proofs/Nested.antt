@@ -1,6 +1,7 @@
 -- A nested call is joined.
 use Rattle.std.proofs.Common.{◌≡◌, ℕ, ◌+◌, ◌-◌, ◌<◌, ◌||◌, Bool, true, false, max, List, [], ◌∷◌, ◌++◌, map, refl, sym, ap, ◌∙◌, subst, append_assoc, append-nil, arith}
 use Rattle.std.proofs.Math.Nat.{add-zero, zero-add}
+use Rattle.std.proofs.Math.Logic.{∥∥₁_map, ∥∥₁_map₂}
 use Rattle.std.proofs.lemmas.Bool.{or_parts}
 use Rattle.kept_values.specs.Trees.{Tree, Pair}
 use Rattle.trace_arena.specs.Points.{within}
@@ -10,9 +11,9 @@ use Rattle.asking_core.specs.Runs.{Run, Ends, Spent, Calls, Ending, ByLeave, ByE
 use Rattle.asking_core.specs.Footprints.{read_by, carried, merged}
 use Rattle.asking_core.proofs.MergeLaws.{merged-append}
 use Rattle.kept_outcomes.specs.Traces.{traced}
-use Rattle.kept_outcomes.specs.Moments.{Moment, Finish, Adds, Comes, Leads, begun, joined, come_back, stepped, finished}
+use Rattle.kept_outcomes.specs.Moments.{Moment, Finish, Adds, PlainRunTo, Comes, Leads, begun, joined, come_back, stepped, finished}
 use Rattle.kept_outcomes.proofs.MergedLists.{carried-merged}
-use Rattle.kept_outcomes.proofs.Steps.{off}
+use Rattle.kept_outcomes.proofs.Steps.{off, RunsLead}
 
 or_or : (a b c : Bool) → ((a || b) || c) ≡ (a || (b || c))
 or_or true b c = refl
@@ -26,7 +27,7 @@ module _ (M : MachineModel) (W : WorldModel) (rebased : Tree → Tree → ℕ �
   -- A run from a moment that begins with a nested call: the child's run, and what follows it.
   pub entered : (a : Moment M W) (c : M.Call) (kid : Finish M W) (z : Finish M W) (t : Run M.Call M.Item) →
       M.move_at a.place a.given ≡ Enter c → depth + a.frames < deepest_depth →
-      (x : Comes M W rebased (fuel - a.summary.units) (depth + a.frames + 1) (begun M W c (W.after_enter a.state)) kid) →
+      (x : PlainRunTo M W rebased (fuel - a.summary.units) (depth + a.frames + 1) (begun M W c (W.after_enter a.state)) kid) →
       Back (ending x.run) t (Follows M (M.after a.place a.given) Returned t) →
       Agrees W (W.after_leave kid.state) t →
       Within (fuel - a.summary.units - kid.summary.units) depth a.frames t →
@@ -38,7 +39,7 @@ module _ (M : MachineModel) (W : WorldModel) (rebased : Tree → Tree → ℕ �
       z.summary.no_room ≡ ((a.summary.no_room || kid.summary.no_room) || met_deep t) →
       z.summary.at_told ≡ ((a.summary.at_told || kid.summary.at_told) || at_came t) →
       (z.summary.at_told ≡ false → Adds rebased (joined rebased a.frames a.summary kid.summary) z.summary t) →
-      Comes M W rebased fuel depth a z
+      PlainRunTo M W rebased fuel depth a z
   entered a c kid z t is room x back agrees fits ended state points wanting units levels no_room at_told adds =
       let Here : ℕ → Type 0 = λ y. Within y (depth + a.frames + 1) 0 x.run in
       let all : fuel - a.summary.units - 0 ≡ fuel - a.summary.units = omega arith in
@@ -94,10 +95,10 @@ module _ (M : MachineModel) (W : WorldModel) (rebased : Tree → Tree → ℕ �
       }
 
   -- it came back, and the caller goes on
-  pub leads_enter : (a : Moment M W) (c : M.Call) (kid : Finish M W) → M.move_at a.place a.given ≡ Enter c → depth + a.frames < deepest_depth →
-      Comes M W rebased (fuel - a.summary.units) (depth + a.frames + 1) (begun M W c (W.after_enter a.state)) kid → kid.ended ≡ ByLeave →
-      Leads M W rebased fuel depth a (come_back rebased (stepped a) kid)
-  leads_enter a c kid is room x left z y =
+  pub runs_enter : (a : Moment M W) (c : M.Call) (kid : Finish M W) → M.move_at a.place a.given ≡ Enter c → depth + a.frames < deepest_depth →
+      PlainRunTo M W rebased (fuel - a.summary.units) (depth + a.frames + 1) (begun M W c (W.after_enter a.state)) kid → kid.ended ≡ ByLeave →
+      RunsLead M W rebased fuel depth a (come_back rebased (stepped a) kid)
+  runs_enter a c kid is room x left z y =
       let ends : ByLeave ≡ ending x.run = sym left ∙ x.ended_is in
       let Behind : Ending → Type 0 = λ e. Back e y.run (Follows M (M.after a.place a.given) Returned y.run) in
       let fuel_e : fuel - (a.summary.units + kid.summary.units) ≡ fuel - a.summary.units - kid.summary.units = omega arith in
@@ -112,10 +113,10 @@ module _ (M : MachineModel) (W : WorldModel) (rebased : Tree → Tree → ℕ �
   or_false false = refl
 
   -- it ended all, and so does its caller
-  pub comes_end_within : (a : Moment M W) (c : M.Call) (kid : Finish M W) → M.move_at a.place a.given ≡ Enter c → depth + a.frames < deepest_depth →
-      Comes M W rebased (fuel - a.summary.units) (depth + a.frames + 1) (begun M W c (W.after_enter a.state)) kid → kid.ended ≡ ByEnd →
-      Comes M W rebased fuel depth a (finished (come_back rebased (stepped a) kid) ByEnd [])
-  comes_end_within a c kid is room x left =
+  pub runs_end_within : (a : Moment M W) (c : M.Call) (kid : Finish M W) → M.move_at a.place a.given ≡ Enter c → depth + a.frames < deepest_depth →
+      PlainRunTo M W rebased (fuel - a.summary.units) (depth + a.frames + 1) (begun M W c (W.after_enter a.state)) kid → kid.ended ≡ ByEnd →
+      PlainRunTo M W rebased fuel depth a (finished (come_back rebased (stepped a) kid) ByEnd [])
+  runs_end_within a c kid is room x left =
       let ends : ByEnd ≡ ending x.run = sym left ∙ x.ended_is in
       let none : Run M.Call M.Item = Ends in
       let Behind : Ending → Type 0 = λ e. Back e none (Follows M (M.after a.place a.given) Returned none) in
@@ -128,11 +129,11 @@ module _ (M : MachineModel) (W : WorldModel) (rebased : Tree → Tree → ℕ �
       (λ calm. record { read_is = refl; puts_are = refl; calls_are = sym (add-zero (joined rebased a.frames a.summary kid.summary).calls) })
 
   -- fuel was wanting within it, and so it is in its caller
-  pub comes_spent_within : (a : Moment M W) (c : M.Call) (kid : Finish M W) → M.move_at a.place a.given ≡ Enter c → depth + a.frames < deepest_depth →
-      Comes M W rebased (fuel - a.summary.units) (depth + a.frames + 1) (begun M W c (W.after_enter a.state)) kid → kid.ended ≡ ByBudget →
+  pub runs_spent_within : (a : Moment M W) (c : M.Call) (kid : Finish M W) → M.move_at a.place a.given ≡ Enter c → depth + a.frames < deepest_depth →
+      PlainRunTo M W rebased (fuel - a.summary.units) (depth + a.frames + 1) (begun M W c (W.after_enter a.state)) kid → kid.ended ≡ ByBudget →
       fuel - a.summary.units - kid.summary.units ≡ 0 →
-      Comes M W rebased fuel depth a (finished (come_back rebased (stepped a) kid) ByBudget (kid.wanting ++ M.frames_at (M.after a.place a.given) ∷ []))
-  comes_spent_within a c kid is room x left spent =
+      PlainRunTo M W rebased fuel depth a (finished (come_back rebased (stepped a) kid) ByBudget (kid.wanting ++ M.frames_at (M.after a.place a.given) ∷ []))
+  runs_spent_within a c kid is room x left spent =
       let ends : ByBudget ≡ ending x.run = sym left ∙ x.ended_is in
       let none : Run M.Call M.Item = Spent in
       let Behind : Ending → Type 0 = λ e. Back e none (Follows M (M.after a.place a.given) Returned none) in
@@ -144,3 +145,20 @@ module _ (M : MachineModel) (W : WorldModel) (rebased : Tree → Tree → ℕ �
       (ap (λ e. unpaid_back e kid.wanting frames (unpaid M (M.after a.place a.given) Returned none)) ends)
       sum deep (or_false (a.summary.no_room || kid.summary.no_room)) (or_false (a.summary.at_told || kid.summary.at_told))
       (λ calm. record { read_is = refl; puts_are = refl; calls_are = sym (add-zero (joined rebased a.frames a.summary kid.summary).calls) })
+
+  -- the same, where it is not said which runs these are
+  pub leads_enter : (a : Moment M W) (c : M.Call) (kid : Finish M W) → M.move_at a.place a.given ≡ Enter c → depth + a.frames < deepest_depth →
+      Comes M W rebased (fuel - a.summary.units) (depth + a.frames + 1) (begun M W c (W.after_enter a.state)) kid → kid.ended ≡ ByLeave →
+      Leads M W rebased fuel depth a (come_back rebased (stepped a) kid)
+  leads_enter a c kid is room x left z y = ∥∥₁_map₂ x y (λ r t. runs_enter a c kid is room r left z t)
+
+  pub comes_end_within : (a : Moment M W) (c : M.Call) (kid : Finish M W) → M.move_at a.place a.given ≡ Enter c → depth + a.frames < deepest_depth →
+      Comes M W rebased (fuel - a.summary.units) (depth + a.frames + 1) (begun M W c (W.after_enter a.state)) kid → kid.ended ≡ ByEnd →
+      Comes M W rebased fuel depth a (finished (come_back rebased (stepped a) kid) ByEnd [])
+  comes_end_within a c kid is room x left = ∥∥₁_map x (λ r. runs_end_within a c kid is room r left)
+
+  pub comes_spent_within : (a : Moment M W) (c : M.Call) (kid : Finish M W) → M.move_at a.place a.given ≡ Enter c → depth + a.frames < deepest_depth →
+      Comes M W rebased (fuel - a.summary.units) (depth + a.frames + 1) (begun M W c (W.after_enter a.state)) kid → kid.ended ≡ ByBudget →
+      fuel - a.summary.units - kid.summary.units ≡ 0 →
+      Comes M W rebased fuel depth a (finished (come_back rebased (stepped a) kid) ByBudget (kid.wanting ++ M.frames_at (M.after a.place a.given) ∷ []))
+  comes_spent_within a c kid is room x left spent = ∥∥₁_map x (λ r. runs_spent_within a c kid is room r left spent)

@@ -1,20 +1,29 @@
 -- An outcome that holds stands for the run, and a run that ended makes an outcome.
-use Rattle.std.proofs.Common.{◌≡◌, ℕ, ◌+◌, ◌-◌, ◌≤◌, max, Bool, true, false, List, [], refl, sym, ap, ◌∙◌, subst, append-nil, arith}
+use Rattle.std.proofs.Common.{◌≡◌, ℕ, ◌+◌, ◌-◌, ◌≤◌, max, Bool, true, false, List, [], ◌∷◌, refl, sym, ap, ◌∙◌, subst, append-nil, arith}
 use Rattle.std.proofs.Math.Nat.{zero-add}
+use Rattle.std.proofs.Math.Logic.{∥∥₁_map, ∥∥₁_elim}
+use Rattle.std.specs.Coded.{Coded-set, ×_prop, Unit-prop, le_prop}
 use Rattle.kept_values.specs.Trees.{Tree, Pair}
 use Rattle.asking_core.specs.Worlds.{WorldModel, Fits, Holds, moved}
 use Rattle.asking_core.specs.Machines.{MachineModel, Modest, Nothing}
-use Rattle.asking_core.specs.Runs.{Run, ByBudget, Follows, Agrees, Within, Paid, cost, bumped, put_by, at_came, met_deep, deepest, deepest_depth, after_run}
+use Rattle.trace_arena.specs.Points.{Point}
+use Rattle.asking_core.specs.Runs.{Run, Ending, ByBudget, Follows, Agrees, Within, Paid, cost, bumped, put_by, at_came, met_deep, deepest, deepest_depth, after_run}
 use Rattle.asking_core.specs.Footprints.{read_by, Proper}
 use Rattle.asking_core.proofs.Modesty.{proper_of}
 use Rattle.asking_core.proofs.Effects.{effect}
 use Rattle.asking_core.proofs.Sound.{complete, hears_itself, sound}
 use Rattle.asking_core.proofs.Shifts.{fuel_shift, depth_shift}
-use Rattle.kept_outcomes.specs.Outcomes.{HasRoom, AllSaid}
-use Rattle.kept_outcomes.specs.Moments.{Moment, Finish, Comes, begun}
+use Rattle.kept_outcomes.specs.Codes.{tree_code}
+use Rattle.kept_outcomes.specs.Outcomes.{CallSummary, OutcomeRun, HasRoom, HoldsAt, AllSaid}
+use Rattle.kept_outcomes.specs.Moments.{Moment, Finish, PlainRunTo, Comes, begun}
 use Rattle.kept_outcomes.specs.Laws.{OutcomesStand, RunsAreOutcomes}
 use Rattle.kept_outcomes.proofs.Bounds.{cost_le, deepest_le, spent_all}
 use Rattle.kept_outcomes.proofs.Ways.{said_holds, merged_holds, merged_says, paid_of, none_wanting, paid_ends}
+
+-- that a state answers so is one fact
+Holds-prop : (W : WorldModel) (s : W.State) (ps : List Pair) → IsProp (Holds W s ps)
+Holds-prop W s [] = Unit-prop
+Holds-prop W s (p ∷ ps) = ×_prop (Coded-set tree_code (W.answer s p.key) p.value) (Holds-prop W s ps)
 
 fits_at : {C I : Type 0} (t : Run C I) (b : Bool) (units kept levels fuel depth : ℕ) → met_deep t ≡ b → HasRoom b kept levels depth → levels ≡ deepest 0 t →
     Within units kept 0 t → Paid t → cost t ≤ fuel → Within fuel depth 0 t
@@ -37,8 +46,10 @@ module _ (M : MachineModel) (W : WorldModel) (moving writable : Tree → Bool) (
       ∙ ap (λ y. moved W s y (0 + bumped t)) (append-nil (put_by t))
       ∙ ap (moved W s (put_by t)) (zero-add (bumped t))
 
-  pub outcomes_stand : OutcomesStand M W rebased
-  outcomes_stand call kept points ended summary s fuel depth o h =
+  outcome_stands : (call : M.Call) (kept : ℕ) (points : List (Point M.Item)) (ended : Ending) (summary : CallSummary) (s : W.State) (fuel depth : ℕ) →
+      OutcomeRun M rebased call kept points ended summary → HoldsAt W s fuel depth kept summary →
+      PlainRunTo M W rebased fuel depth (begun M W call s) (record { ended = ended; state = moved W s summary.puts summary.calls; points = points; summary = summary; wanting = [] })
+  outcome_stands call kept points ended summary s fuel depth o h =
       let q = proper call o.run o.follows o.no_at in
       let A : W.State → Type 0 = λ y. Agrees W y o.run in
       let agrees : Agrees W s o.run = subst A (fits.bump_none s)
@@ -67,8 +78,12 @@ module _ (M : MachineModel) (W : WorldModel) (moving writable : Tree → Bool) (
         };
       }
 
-  pub runs_are_outcomes : RunsAreOutcomes M W rebased
-  runs_are_outcomes call s fuel depth z x none paid =
+  pub outcomes_stand : OutcomesStand M W rebased
+  outcomes_stand call kept points ended summary s fuel depth o h = ∥∥₁_map o (λ r. outcome_stands call kept points ended summary s fuel depth r h)
+
+  run_is_outcome : (call : M.Call) (s : W.State) (fuel depth : ℕ) (z : Finish M W) → PlainRunTo M W rebased fuel depth (begun M W call s) z →
+      z.summary.at_told ≡ false → (z.ended ≡ ByBudget → ⊥) → OutcomeRun M rebased call depth z.points z.ended z.summary × Holds W s z.summary.read
+  run_is_outcome call s fuel depth z x none paid =
       let no_at : at_came x.run ≡ false = sym x.at_is ∙ none in
       let q = proper call x.run x.plain.follows no_at in
       let A : W.State → Type 0 = λ y. Agrees W y x.run in
@@ -102,28 +117,46 @@ module _ (M : MachineModel) (W : WorldModel) (moving writable : Tree → Bool) (
         subst HoldsIn (sym now.read_is) (merged_holds W s [] (read_by rebased [] 0 x.run) tt read),
       )
 
+  pub runs_are_outcomes : RunsAreOutcomes M W rebased
+  runs_are_outcomes call s fuel depth z x none paid = (
+    ∥∥₁_map x (λ r. (run_is_outcome call s fuel depth z r none paid).0),
+    ∥∥₁_elim x (Holds-prop W s z.summary.read) (λ r. (run_is_outcome call s fuel depth z r none paid).1),
+  )
+
 -- a finish takes no more fuel than there is, and comes no deeper than the limit
-pub units_le : (M : MachineModel) (W : WorldModel) (rebased : Tree → Tree → ℕ → Tree) (fuel depth : ℕ) (a : Moment M W) (z : Finish M W) →
-    Comes M W rebased fuel depth a z → a.summary.units ≤ fuel → z.summary.units ≤ fuel
-units_le M W rebased fuel depth a z x le =
+run_units_le : (M : MachineModel) (W : WorldModel) (rebased : Tree → Tree → ℕ → Tree) (fuel depth : ℕ) (a : Moment M W) (z : Finish M W) →
+    PlainRunTo M W rebased fuel depth a z → a.summary.units ≤ fuel → z.summary.units ≤ fuel
+run_units_le M W rebased fuel depth a z x le =
     let c = cost_le x.run (fuel - a.summary.units) depth a.frames x.plain.within in
     let e = x.units_are in
     omega arith
 
-pub levels_le : (M : MachineModel) (W : WorldModel) (rebased : Tree → Tree → ℕ → Tree) (fuel depth : ℕ) (a : Moment M W) (z : Finish M W) →
-    Comes M W rebased fuel depth a z → depth ≤ deepest_depth → depth + a.summary.levels ≤ deepest_depth → depth + z.summary.levels ≤ deepest_depth
-levels_le M W rebased fuel depth a z x le so_far =
+pub units_le : (M : MachineModel) (W : WorldModel) (rebased : Tree → Tree → ℕ → Tree) (fuel depth : ℕ) (a : Moment M W) (z : Finish M W) →
+    Comes M W rebased fuel depth a z → a.summary.units ≤ fuel → z.summary.units ≤ fuel
+units_le M W rebased fuel depth a z x le = ∥∥₁_elim x le_prop (λ r. run_units_le M W rebased fuel depth a z r le)
+
+run_levels_le : (M : MachineModel) (W : WorldModel) (rebased : Tree → Tree → ℕ → Tree) (fuel depth : ℕ) (a : Moment M W) (z : Finish M W) →
+    PlainRunTo M W rebased fuel depth a z → depth ≤ deepest_depth → depth + a.summary.levels ≤ deepest_depth → depth + z.summary.levels ≤ deepest_depth
+run_levels_le M W rebased fuel depth a z x le so_far =
     let c = deepest_le x.run (fuel - a.summary.units) depth a.frames le x.plain.within in
     let e = x.levels_are in
     omega arith
 
+pub levels_le : (M : MachineModel) (W : WorldModel) (rebased : Tree → Tree → ℕ → Tree) (fuel depth : ℕ) (a : Moment M W) (z : Finish M W) →
+    Comes M W rebased fuel depth a z → depth ≤ deepest_depth → depth + a.summary.levels ≤ deepest_depth → depth + z.summary.levels ≤ deepest_depth
+levels_le M W rebased fuel depth a z x le so_far = ∥∥₁_elim x le_prop (λ r. run_levels_le M W rebased fuel depth a z r le so_far)
+
 -- one that ended for want of fuel took all there was
-pub all_spent : (M : MachineModel) (W : WorldModel) (rebased : Tree → Tree → ℕ → Tree) (fuel depth : ℕ) (a : Moment M W) (z : Finish M W) →
-    Comes M W rebased fuel depth a z → z.ended ≡ ByBudget → fuel ≤ z.summary.units
-all_spent M W rebased fuel depth a z x is =
+run_all_spent : (M : MachineModel) (W : WorldModel) (rebased : Tree → Tree → ℕ → Tree) (fuel depth : ℕ) (a : Moment M W) (z : Finish M W) →
+    PlainRunTo M W rebased fuel depth a z → z.ended ≡ ByBudget → fuel ≤ z.summary.units
+run_all_spent M W rebased fuel depth a z x is =
     let c = spent_all x.run (fuel - a.summary.units) depth a.frames x.plain.within (sym x.ended_is ∙ is) in
     let e = x.units_are in
     omega arith
+
+pub all_spent : (M : MachineModel) (W : WorldModel) (rebased : Tree → Tree → ℕ → Tree) (fuel depth : ℕ) (a : Moment M W) (z : Finish M W) →
+    Comes M W rebased fuel depth a z → z.ended ≡ ByBudget → fuel ≤ z.summary.units
+all_spent M W rebased fuel depth a z x is = ∥∥₁_elim x le_prop (λ r. run_all_spent M W rebased fuel depth a z r is)
 
 -- and so a nested call that ended for want of fuel left nothing
 pub nothing_left : (M : MachineModel) (W : WorldModel) (rebased : Tree → Tree → ℕ → Tree) (fuel depth : ℕ) (c : M.Call) (s : W.State) (z : Finish M W) →

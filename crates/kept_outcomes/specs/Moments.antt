@@ -40,9 +40,9 @@ pub record Adds (rebased : Tree → Tree → ℕ → Tree) {C I : Type 0} (befor
   pub puts_are : after.puts ≡ put_by run ++ before.puts
   pub calls_are : after.calls ≡ before.calls + bumped run
 
--- From a moment the plain run, of this fuel in all and at this depth, comes to this finish. Once the world was told of an
--- outermost statement, what was read, put and counted is kept no longer.
-pub record Comes (M : MachineModel) (W : WorldModel) (rebased : Tree → Tree → ℕ → Tree) (fuel depth : ℕ) (a : Moment M W) (z : Finish M W) : Type 0 where
+-- A run that is the plain one from a moment on, of this fuel in all and at this depth, and comes to this finish. Once the
+-- world was told of an outermost statement, what was read, put and counted is kept no longer.
+pub record PlainRunTo (M : MachineModel) (W : WorldModel) (rebased : Tree → Tree → ℕ → Tree) (fuel depth : ℕ) (a : Moment M W) (z : Finish M W) : Type 0 where
   pub run : Run M.Call M.Item
   pub plain : Plain M W a.state a.place a.given (fuel - a.summary.units) depth a.frames run
   pub ended_is : z.ended ≡ ending run
@@ -54,6 +54,11 @@ pub record Comes (M : MachineModel) (W : WorldModel) (rebased : Tree → Tree �
   pub room_is : z.summary.no_room ≡ (a.summary.no_room || met_deep run)
   pub at_is : z.summary.at_told ≡ (a.summary.at_told || at_came run)
   pub adds : z.summary.at_told ≡ false → Adds rebased a.summary z.summary run
+
+-- From a moment the plain run comes to this finish. There is no second plain run (a law of `asking_core`), so nothing is
+-- lost where it is not said which one this is.
+abbrev pub Comes : (M : MachineModel) (W : WorldModel) → (Tree → Tree → ℕ → Tree) → (fuel depth : ℕ) → Moment M W → Finish M W → Type 0
+Comes M W rebased fuel depth a z = ∥ PlainRunTo M W rebased fuel depth a z ∥₁
 
 -- what a run from the second moment comes to, one from the first comes to
 abbrev pub Leads : (M : MachineModel) (W : WorldModel) → (Tree → Tree → ℕ → Tree) → ℕ → ℕ → Moment M W → Moment M W → Type 0

@@ -29,10 +29,10 @@ abbrev pub AllSaid : List Pair → List Pair → Type 0
 AllSaid read [] = Unit {0}
 AllSaid read (q ∷ qs) = (look_up read q.key ≡ Some q.value) × AllSaid read qs
 
--- An outcome of a call at a depth: that of a run in which the machine's moves are these, for which fuel was never
--- wanting, and within which no outermost statement came. What it read is each key once, with one answer. This names no
--- world: where the world answers so, the law of outcomes says that the run is the plain one.
-pub record IsOutcome (M : MachineModel) (rebased : Tree → Tree → ℕ → Tree) (call : M.Call) (depth : ℕ) (points : List (Point M.Item)) (ended : Ending) (summary : CallSummary) : Type 0 where
+-- A run of which this is the outcome, for a call at a depth: the machine's moves are these, fuel was never wanting, and no
+-- outermost statement came within it. What it read is each key once, with one answer. This names no world: where the world
+-- answers so, the law of outcomes says that the run is the plain one.
+pub record OutcomeRun (M : MachineModel) (rebased : Tree → Tree → ℕ → Tree) (call : M.Call) (depth : ℕ) (points : List (Point M.Item)) (ended : Ending) (summary : CallSummary) : Type 0 where
   pub run : Run M.Call M.Item
   pub follows : Follows M (M.start call) Nothing run
   pub hears : HearsItself rebased [] run
@@ -49,6 +49,10 @@ pub record IsOutcome (M : MachineModel) (rebased : Tree → Tree → ℕ → Tre
   pub levels_are : summary.levels ≡ deepest 0 run
   pub room_is : summary.no_room ≡ met_deep run
   pub at_is : summary.at_told ≡ false
+
+-- An outcome of a call at a depth: there is such a run. Which one is not said, so this is a fact that a value can keep.
+abbrev pub IsOutcome : (M : MachineModel) → (Tree → Tree → ℕ → Tree) → (call : M.Call) → (depth : ℕ) → List (Point M.Item) → Ending → CallSummary → Type 0
+IsOutcome M rebased call depth points ended summary = ∥ OutcomeRun M rebased call depth points ended summary ∥₁
 
 -- The depth fits: where a frame or a call found no room, it is the same depth; else there is room for the deepest frame.
 abbrev pub HasRoom : Bool → ℕ → ℕ → ℕ → Type 0

@@ -1,5 +1,7 @@
 -- Open code enters nothing, and what is reported of an assembly of it is what its plain expansion says.
 use Rattle.std.proofs.Common.{◌≡◌, ℕ, List, [], ◌∷◌, map, refl, sym, ap, ◌∙◌}
+use Rattle.std.proofs.Math.Logic.{∥∥₁_elim}
+use Rattle.std.proofs.Props.{props}
 use Rattle.hl_base.specs.declared.note.Note.{Note}
 use Rattle.hl_base.specs.declared.place.Frame.{Frame}
 use Rattle.kept_values.specs.Trees.{Tree}
@@ -81,10 +83,9 @@ ran_as one other points_is ended_is unpaid_is = λ i. record { points = points_i
 pub notes_are_plain : GivesExpansions → (path : ℕ) (text parm : List ℕ) (budget : ℕ) (nodes : List (Node TraceItem)) (a : Assembly) →
     IsAssembly machine rebased call_of (λ item. item) (λ frames. frames) path text parm budget nodes a → a.notes ≡ assembly_notes path text parm budget
 unfolding assembly_notes
-notes_are_plain runs path text parm budget nodes a is =
+notes_are_plain runs path text parm budget nodes a is = ∥∥₁_elim is.comes.comes (hlevel props) (λ comes.
     let call = call_of (open_code_tree path text) in
     let s = first_world parm in
-    let comes = is.comes.comes in
     let e = expansion hlasm program_world call s budget 0 in
     let gives = runs call s budget 0 comes.run (plain_run machine program_world rebased budget 0 call s _ comes) in
     let flat = expansion_flat hlasm program_world hlasm_never_enters call s budget 0 in
@@ -95,4 +96,4 @@ notes_are_plain runs path text parm budget nodes a is =
     let ran_is : ran_of nodes is.outcome ≡ record { points = map own e.points; ended = e.ended; unpaid = e.unpaid } =
     ran_as _ _ points_is (ended_is machine program_world rebased budget 0 call s _ comes e gives) unpaid_is in
     let ran_at : Call → Ran = λ c. let x = expansion hlasm program_world c s budget 0 in record { points = map own x.points; ended = x.ended; unpaid = x.unpaid } in
-    is.notes_are ∙ ap (notes_of path text) (ran_is ∙ ap ran_at (call_is path text))
+    is.notes_are ∙ ap (notes_of path text) (ran_is ∙ ap ran_at (call_is path text)))

@@ -7,7 +7,7 @@ use Rattle.asking_core.specs.Machines.{MachineModel, Nothing}
 use Rattle.asking_core.specs.Runs.{Run, Plain}
 use Rattle.plain_expansion.specs.Expansion.{Expansion}
 use Rattle.plain_expansion.specs.Laws.{Gives}
-use Rattle.kept_outcomes.specs.Moments.{Finish, Comes, begun}
+use Rattle.kept_outcomes.specs.Moments.{Finish, PlainRunTo, begun}
 use Rattle.expansion_memo.specs.Kept.{point_by}
 use Rattle.program_assembly.proofs.FlatRuns.{no_calls}
 
@@ -21,12 +21,12 @@ point_same p = ap (λ calls. record { calls = calls; item = p.item }) (map_same 
 
 module _ (M : MachineModel) (W : WorldModel) (rebased : Tree → Tree → ℕ → Tree) (fuel depth : ℕ) (call : M.Call) (s : W.State) (z : Finish M W) where
   -- the run of a call that begins is a plain run of it
-  pub plain_run : (comes : Comes M W rebased fuel depth (begun M W call s) z) → Plain M W s (M.start call) Nothing fuel depth 0 comes.run
+  pub plain_run : (comes : PlainRunTo M W rebased fuel depth (begun M W call s) z) → Plain M W s (M.start call) Nothing fuel depth 0 comes.run
   plain_run comes =
       let same : fuel - 0 ≡ fuel = omega arith in
       subst (λ f. Plain M W s (M.start call) Nothing f depth 0 comes.run) same comes.plain
 
-  module _ (comes : Comes M W rebased fuel depth (begun M W call s) z) (e : Expansion M.Item M.Frames W.State) (gives : Gives M W (M.start call) Nothing s 0 comes.run e) where
+  module _ (comes : PlainRunTo M W rebased fuel depth (begun M W call s) z) (e : Expansion M.Item M.Frames W.State) (gives : Gives M W (M.start call) Nothing s 0 comes.run e) where
     pub points_are : e.nested ≡ 0 → z.points ≡ map own e.points
     points_are flat = comes.points_are ∙ no_calls 0 comes.run [] (gives.nested ∙ flat) ∙ ap (map own) gives.points
 
