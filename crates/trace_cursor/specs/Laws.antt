@@ -1,13 +1,14 @@
 -- What the calls of an arena leave of a cursor (this project).
-use Rattle.std.specs.Prelude.{◌≡◌, ℕ, ◌+◌, List, map}
+use Rattle.std.specs.Prelude.{◌≡◌, ℕ, ◌+◌, List, ◌++◌, map}
 use Rattle.trace_values.specs.declared.item.TraceItem.{TraceItem}
 use Rattle.trace_arena.specs.Nodes.{Node, node_at, IsLive}
 use Rattle.trace_arena.specs.Points.{points}
-use Rattle.trace_arena.specs.Changes.{Begins, Appends, Links, Recounts, Releases}
+use Rattle.trace_arena.specs.Changes.{Begins, Appends, Links, Recounts, Releases, last_item}
 use Rattle.trace_arena.specs.Whole.{IsWhole}
 use Rattle.trace_cursor.specs.declared.cursor.Cursor.{Cursor}
 use Rattle.trace_cursor.specs.Places.{StandsAt}
 use Rattle.trace_cursor.specs.Pasts.{traced, plain}
+use Rattle.trace_cursor.specs.Stacks.{frames_in, stack_of}
 
 -- the cursor's root is live, and it stands at its point
 abbrev pub IsGood : List (Node TraceItem) → Cursor → Type 0
@@ -40,3 +41,9 @@ StandsWhenReleased = (old new : List (Node TraceItem)) (x : ℕ) (c : Cursor) �
 -- the points of nodes whose items know those before them are the points of the nodes
 abbrev pub TracedPointsAreThePoints : Type 0
 TracedPointsAreThePoints = (nodes : List (Node TraceItem)) (x : ℕ) → map plain (points (traced nodes) x) ≡ points nodes x
+
+-- A node's points are read, where it is linked, with the frames of the item behind which it stands, and within them as in the
+-- node alone; what was read in the other node before still is.
+abbrev pub LinkedPointsStandWithin : Type 0
+LinkedPointsStandWithin = (old new : List (Node TraceItem)) (parent child : ℕ) → Links old new parent child →
+    map stack_of (points new parent) ≡ map stack_of (points old parent) ++ map (λ stack. frames_in (last_item old parent) ++ stack) (map stack_of (points old child))

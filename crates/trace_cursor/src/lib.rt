@@ -17,4 +17,4 @@ mod search;
 
 pub use cursor::Cursor;
 pub use descent::{ItemPlace, path};
-pub use laws::{cursors_stand, traced_points_are_the_points};
+pub use laws::{cursors_stand, linked_points_stand_within, traced_points_are_the_points};
