@@ -16,7 +16,7 @@ import time
 HERE = os.path.dirname(os.path.realpath(__file__))
 PAGE = os.path.join(HERE, "README.md")
 BEGIN, END = "<!-- figures, written by make bench -->\n", "<!-- end of the figures -->\n"
-SCRIPTS = ["statements.sh", "expressions.sh", "edits.sh", "session.sh", "open_code.sh"]
+SCRIPTS = ["statements.sh", "expressions.sh", "edits.sh", "session.sh", "open_code.sh", "memo.sh"]
 # More than so much of the processors' time in use: the figures would be those of a busy machine.
 MOST_BUSY = 0.05
 
@@ -76,6 +76,9 @@ ROWS = [
         r"read alone in ([\d.]+) ms", most=4),
     Row("open_code.sh", "a loop of 90,000 points", r"points: ([\d.]+) ms", "ms", most=150),
     Row("open_code.sh", "memory of a point", r"(?m)^memory: (\d+) bytes", "bytes", most=300),
+    Row("memo.sh", "100,000 different calls in one state, run and kept", r"(?m)^different calls in one state: 100,000 in ([\d.]+) s", "s", most=0.15),
+    Row("memo.sh", "100,000 equal calls, reused", r"(?m)^equal calls, reused: 100,000 in ([\d.]+) s", "s", most=0.05),
+    Row("memo.sh", "four times as many equal calls with different outcomes", r"four times as many ([\d.]+) times", "times", most=5),
 ]
 
 
