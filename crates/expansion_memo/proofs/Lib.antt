@@ -5,3 +5,5 @@ pub mod Reused
 pub mod Walking
 pub mod Absorbed
 pub mod RunParts
+pub mod Making
+pub mod Passing

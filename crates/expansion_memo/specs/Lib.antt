@@ -9,3 +9,4 @@ pub mod Reuse
 pub mod Walks
 pub mod Within
 pub mod Running
+pub mod Records

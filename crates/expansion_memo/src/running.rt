@@ -1,5 +1,5 @@
 //! Running a call over a memo, with kept outcomes in place of nested calls.
-ghost use Rattle.std.specs.Prelude.{◌≡◌, Some, ℕ, ◌+◌, ◌<◌, ◌≤◌, IfOk, OnOk, map};
+ghost use Rattle.std.specs.Prelude.{◌≡◌, Some, ℕ, ◌+◌, ◌-◌, ◌<◌, ◌≤◌, Option, List, IfOk, OnOk, map};
 ghost use Rattle.asking_core.specs.Worlds.{Fits};
 ghost use Rattle.asking_core.specs.Machines.{Nothing, Returned};
 ghost use Rattle.asking_core.specs.Actions.{told_of};
@@ -9,6 +9,8 @@ ghost use Rattle.expansion_memo.specs.Reuse.{ComesTo};
 ghost use Rattle.expansion_memo.specs.Entries.{ending_of};
 ghost use Rattle.expansion_memo.specs.Walks.{moment_at};
 ghost use Rattle.expansion_memo.specs.Within.{JoinsIn};
+ghost use Rattle.kept_outcomes.specs.Moments.{begun};
+ghost use Rattle.expansion_memo.specs.Records.{CallMakes, AreKeptIn, Makes, PassMakes, UnitMakes, owed};
 ghost use Rattle.expansion_memo.specs.Running.{IsSound, IsRun, WentOn, Passes, Progresses, TakesUnit, GoesBack, Closes, IsHandedOut, MayBeKept, HoldsSomewhere, with_outcome};
 
 use crate::entry::{DEEPEST, Entry};
@@ -141,6 +143,9 @@ fn run_within<M: AskMachine, W: World<Key = M::Key, Value = M::Value>, L: Ledger
         (moment_at M.model W.model M.place M.item_of walk.new Returned (W.state world.new) arena.new.nodes)
         (ending_of close.ended) (map M.frames_of close.unpaid.items)) }
     ensures went { OnOk result (WentOn M.model M.rebased M.call_of M.item_of fuel depth walk.old walk.new arena.old.nodes arena.new.nodes memo.old memo.new) }
+    ensures makes { OnOk result ((kept : List (Option KeptOutcome)) → AreKeptIn kept memo.old →
+        CallMakes M.call_of (λ tree. HoldsSomewhere W.model ((W.model).after_enter (W.state world.old)) (fuel - walk.old.summary.units) (depth + walk.old.frames + 1) tree kept)
+        (M.call_of (M.Call.code call)) (walk.new.summary.units - walk.old.summary.units) (arena.new.made - arena.old.made)) }
 {
     let taken = reuse_within(machine, alloc, memo, walk, &call, world, fuel, depth, arena)?;
     if let Some(ended) = taken {
@@ -184,6 +189,10 @@ fn run_step<M: AskMachine, W: World<Key = M::Key, Value = M::Value>, L: Ledger>(
     ensures progresses { IfOk result (λ p. Progresses (M.number (M.place walk.old.local)) (M.number (M.place walk.new.local))
         walk.old.summary.units walk.new.summary.units p) }
     ensures went { OnOk result (WentOn M.model M.rebased M.call_of M.item_of fuel depth walk.old walk.new arena.old.nodes arena.new.nodes memo.old memo.new) }
+    ensures makes { IfOk result (λ p. (kept : List (Option KeptOutcome)) → AreKeptIn kept memo.old → PassMakes M.model W.model M.Value.code M.call_of kept fuel depth
+        (moment_at M.model W.model M.place M.item_of walk.old (told_of M.Value.code given) (W.state world.old) arena.old.nodes)
+        (λ g. moment_at M.model W.model M.place M.item_of walk.new g (W.state world.new) arena.new.nodes)
+        arena.new.made (owed M.marked arena.old.made (M.place walk.old.local)) (owed M.marked arena.new.made (M.place walk.new.local)) p) }
 {
     let next = advance(machine, alloc, walk, given, world, depth, arena, steps)?;
     match next {
@@ -229,6 +238,10 @@ fn run_unit<M: AskMachine, W: World<Key = M::Key, Value = M::Value>, L: Ledger>(
         (moment_at M.model W.model M.place M.item_of walk.old Nothing (W.state world.old) arena.old.nodes)
         (moment_at M.model W.model M.place M.item_of walk.new Nothing (W.state world.new) arena.new.nodes) r) }
     ensures went { OnOk result (WentOn M.model M.rebased M.call_of M.item_of fuel depth walk.old walk.new arena.old.nodes arena.new.nodes memo.old memo.new) }
+    ensures makes { IfOk result (λ r. (kept : List (Option KeptOutcome)) → AreKeptIn kept memo.old → UnitMakes M.model W.model M.call_of kept fuel depth
+        (moment_at M.model W.model M.place M.item_of walk.old Nothing (W.state world.old) arena.old.nodes)
+        (moment_at M.model W.model M.place M.item_of walk.new Nothing (W.state world.new) arena.new.nodes)
+        arena.new.made (owed M.marked arena.old.made (M.place walk.old.local)) (owed M.marked arena.new.made (M.place walk.new.local)) r) }
 {
     let mut given = Given::Nothing;
     loop {
@@ -259,8 +272,10 @@ pub(crate) fn run_call<M: AskMachine, W: World<Key = M::Key, Value = M::Value>, 
     requires depth { depth ≤ deepest_depth }
     requires fits { Fits W.model M.moving M.writable M.rebased }
     requires stand { AllStand M.model M.rebased M.call_of M.item_of arena.old.nodes memo.old }
-    ensures { IfOk result (λ r. IsRun M.model W.model M.rebased M.call_of M.place M.item_of M.frames_of fuel depth (M.call_of (M.Call.code call.now))
+    ensures ran { IfOk result (λ r. IsRun M.model W.model M.rebased M.call_of M.place M.item_of M.frames_of fuel depth (M.call_of (M.Call.code call.now))
         (W.state world.old) (W.state world.new) arena.old.nodes arena.new.nodes memo.old memo.new r) }
+    ensures makes { OnOk result ((kept : List (Option KeptOutcome)) → AreKeptIn kept memo.old →
+        Makes M.model W.model M.call_of kept fuel depth (begun M.model W.model (M.call_of (M.Call.code call.now)) (W.state world.old)) (arena.new.made - arena.old.made)) }
 {
     let mut walk = begin(machine, alloc, call, arena)?;
     loop {
@@ -277,7 +292,9 @@ impl<M: AskMachine> Memo<M> {
     /// Runs a call, or takes a kept outcome of an equal one that holds in place of the run. Either way the world, the points
     /// of the node, the end, the cost and the unpaid frames are those of the plain run, and the caller owns the node. Nested
     /// calls are taken so too. What ran is kept, unless fuel was wanting in it or an outermost statement came. Where an
-    /// outcome of an equal call holds, no step is made, and no record.
+    /// outcome of an equal call holds, no step is made, and no record. Else at most one record is made for each unit of fuel
+    /// that the call takes itself, and at most as many as each of its outermost nested calls costs of which no outcome holds
+    /// that was kept before.
     ///
     /// After an `Err` nothing is known of the arena and of what is kept: both are to be given up.
     pub fn expand<W: World<Key = M::Key, Value = M::Value>, L: Ledger>(
@@ -300,6 +317,8 @@ impl<M: AskMachine> Memo<M> {
         ensures still_kept { OnOk result ((i : ℕ) (o : KeptOutcome) → kept_at self.old i ≡ Some o → kept_at self.new i ≡ Some o) }
         ensures kept { IfOk result (λ o. MayBeKept M.model W.model M.rebased fuel depth (M.call_of (M.Call.code call.now)) (W.state world.old) (ending_of o.ended)
             → HoldsSomewhere W.model (W.state world.old) fuel depth (M.Call.code call.now) self.new) }
+        ensures records { OnOk result (Makes M.model W.model M.call_of self.old fuel depth
+            (begun M.model W.model (M.call_of (M.Call.code call.now)) (W.state world.old)) (arena.new.made - arena.old.made)) }
         ensures unstepped { OnOk result ((i : ℕ) → HoldsThere W.model (W.state world.old) fuel depth (M.Call.code call.now) self.old i → (steps.new ≡ steps.old) × (arena.new.made ≡ arena.old.made)) }
     {
         arena_is_whole(arena);

@@ -7,6 +7,7 @@ ghost use Rattle.asking_core.specs.Runs.{deepest_depth};
 ghost use Rattle.kept_outcomes.specs.Moments.{reading, putting};
 ghost use Rattle.kept_outcomes.specs.Outcomes.{blank_summary};
 ghost use Rattle.expansion_memo.specs.Walks.{moment_at, GoesOn, Lowers, OnlyAppends};
+ghost use Rattle.expansion_memo.specs.Records.{StepMakes, owed};
 
 use crate::entry::DEEPEST;
 use asking_core::{Action, AskMachine, Given, World};
@@ -113,6 +114,10 @@ pub(crate) fn advance<M: AskMachine, W: World<Key = M::Key, Value = M::Value>, L
     ensures room { OnOk result (depth + walk.new.frames ≤ deepest_depth) }
     ensures appends { OnlyAppends arena.old.nodes arena.new.nodes walk.old.node.0 }
     ensures units { OnOk result (walk.new.summary.units ≡ walk.old.summary.units) }
+    ensures makes { IfOk result (λ n. StepMakes M.model W.model M.Value.code M.call_of depth
+        (moment_at M.model W.model M.place M.item_of walk.old (told_of M.Value.code given) (W.state world.old) arena.old.nodes)
+        (λ g. moment_at M.model W.model M.place M.item_of walk.new g (W.state world.new) arena.new.nodes)
+        arena.old.made arena.new.made (owed M.marked arena.old.made (M.place walk.old.local)) (owed M.marked arena.new.made (M.place walk.new.local)) n) }
 {
     let action = machine.step(alloc, &mut walk.local, given, steps)?;
     match action {

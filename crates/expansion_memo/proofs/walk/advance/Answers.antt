@@ -4,6 +4,8 @@ use Rattle.asking_core.specs.Actions.{move_of, told_of}
 use Rattle.asking_core.specs.Runs.{deepest_depth}
 use Rattle.kept_outcomes.specs.Moments.{stepped}
 use Rattle.expansion_memo.specs.Walks.{moment_at}
+use Rattle.expansion_memo.specs.Records.{owed}
+use Rattle.expansion_memo.proofs.Making.{makes_ask, makes_put, makes_bump, makes_emit, makes_at, makes_deepen, makes_no_frame, makes_rise, owed_falls, owed_emits}
 use Rattle.expansion_memo.proofs.Walking.{same_moment, goes_ask, goes_put, goes_bump, goes_emit, goes_at, goes_deepen, goes_no_frame, goes_rise, appended_last, appended_points}
 use Rattle.expansion_memo.proofs.walk.advance.Goals as goal
 
@@ -320,3 +322,233 @@ returns-in-End-clause-goes g c =
     let b = moment_at M W {K = g.row.M-Key.Denot} {V = g.row.M-Value.Denot} place item (record { local = c.step.new.local; node = walk.node; summary = walk.summary; frames = walk.frames }) Nothing (g.W.World.state c.args.world.now) nodes in
     let move : M.move_at a.place a.given ≡ End = sym c.in_ok-action.ensures.action ∙ ap (move_of key value code call item) c.in-End.is in
     (move, same_moment M W b (stepped a) c.in_ok-action.ensures.place refl refl refl refl refl refl)
+
+pub returns-in_ok-value-in-Ask-clause-makes : goal.returns-in_ok-value-in-Ask-clause-makes
+returns-in_ok-value-in-Ask-clause-makes g c =
+    let M = g.M.AskMachine.model in
+    let W = g.W.World.model in
+    let key = g.M.Key.Kept.code in
+    let value = g.M.Value.Kept.code in
+    let code = g.M.Call.Kept.code in
+    let call = g.M.AskMachine.call_of in
+    let place = g.M.AskMachine.place in
+    let item = g.M.AskMachine.item_of in
+    let walk = c.args.walk.now in
+    let nodes = c.args.arena.now.nodes in
+    let a = moment_at M W place item walk (told_of value c.args.given) (g.W.World.state c.args.world.now) nodes in
+    let b = moment_at M W {K = g.row.M-Key.Denot} {V = g.row.M-Value.Denot} place item (record { local = c.step.new.local; node = walk.node; summary = c.ask.new.summary; frames = walk.frames }) (Answered (value c.in_ok-value-in-Ask.value)) (g.W.World.state c.ask.new.world) nodes in
+    let move : M.move_at a.place a.given ≡ Ask (g.M.Key.Kept.code c.in-Ask.key) = sym c.in_ok-action.ensures.action ∙ ap (move_of key value code call item) c.in-Ask.is in
+    let marked = g.M.AskMachine.marked in
+    let made = c.args.arena.now.made in
+    λ kept fuel. makes_ask M W call c.args.depth kept fuel a b c.in_ok-action.ensures.place (owed marked made (place walk.local)) (owed marked made (place c.step.new.local)) (owed_falls M marked g.met.M.AskMachine.emits_once_a_count a.place a.given (ap is_count move) (place c.step.new.local) c.in_ok-action.ensures.place made) (key c.in-Ask.key) move (ap Answered c.in_ok-value-in-Ask.ensures.value) c.in_ok-value-in-Ask.ensures.kept refl refl c.in_ok-value-in-Ask.ensures.noted refl
+
+pub returns-in_ok-put-in-Put-clause-makes : goal.returns-in_ok-put-in-Put-clause-makes
+returns-in_ok-put-in-Put-clause-makes g c =
+    let M = g.M.AskMachine.model in
+    let W = g.W.World.model in
+    let key = g.M.Key.Kept.code in
+    let value = g.M.Value.Kept.code in
+    let code = g.M.Call.Kept.code in
+    let call = g.M.AskMachine.call_of in
+    let place = g.M.AskMachine.place in
+    let item = g.M.AskMachine.item_of in
+    let walk = c.args.walk.now in
+    let nodes = c.args.arena.now.nodes in
+    let a = moment_at M W place item walk (told_of value c.args.given) (g.W.World.state c.args.world.now) nodes in
+    let b = moment_at M W {K = g.row.M-Key.Denot} {V = g.row.M-Value.Denot} place item (record { local = c.step.new.local; node = walk.node; summary = c.put.new.summary; frames = walk.frames }) Nothing (g.W.World.state c.put.new.world) nodes in
+    let move : M.move_at a.place a.given ≡ Put (g.M.Key.Kept.code c.in-Put.key) (g.M.Value.Kept.code c.in-Put.value) = sym c.in_ok-action.ensures.action ∙ ap (move_of key value code call item) c.in-Put.is in
+    let marked = g.M.AskMachine.marked in
+    let made = c.args.arena.now.made in
+    λ kept fuel. makes_put M W call c.args.depth kept fuel a b c.in_ok-action.ensures.place (owed marked made (place walk.local)) (owed marked made (place c.step.new.local)) (owed_falls M marked g.met.M.AskMachine.emits_once_a_count a.place a.given (ap is_count move) (place c.step.new.local) c.in_ok-action.ensures.place made) (key c.in-Put.key) (value c.in-Put.value) move refl c.in_ok-put-in-Put.ensures.state refl refl c.in_ok-put-in-Put.ensures.noted refl
+
+pub returns-in_ok-count_call-in-Bump-clause-makes : goal.returns-in_ok-count_call-in-Bump-clause-makes
+returns-in_ok-count_call-in-Bump-clause-makes g c =
+    let M = g.M.AskMachine.model in
+    let W = g.W.World.model in
+    let key = g.M.Key.Kept.code in
+    let value = g.M.Value.Kept.code in
+    let code = g.M.Call.Kept.code in
+    let call = g.M.AskMachine.call_of in
+    let place = g.M.AskMachine.place in
+    let item = g.M.AskMachine.item_of in
+    let walk = c.args.walk.now in
+    let nodes = c.args.arena.now.nodes in
+    let a = moment_at M W place item walk (told_of value c.args.given) (g.W.World.state c.args.world.now) nodes in
+    let b = moment_at M W {K = g.row.M-Key.Denot} {V = g.row.M-Value.Denot} place item (record { local = c.step.new.local; node = walk.node; summary = c.count_call.new.self; frames = walk.frames }) Nothing (g.W.World.state c.bump.new.self) nodes in
+    let move : M.move_at a.place a.given ≡ Bump = sym c.in_ok-action.ensures.action ∙ ap (move_of key value code call item) c.in-Bump.is in
+    let marked = g.M.AskMachine.marked in
+    let made = c.args.arena.now.made in
+    λ kept fuel. makes_bump M W call c.args.depth kept fuel a b c.in_ok-action.ensures.place (owed marked made (place walk.local)) (owed marked made (place c.step.new.local)) (owed_falls M marked g.met.M.AskMachine.emits_once_a_count a.place a.given (ap is_count move) (place c.step.new.local) c.in_ok-action.ensures.place made) move refl c.bump.ensures refl refl c.in_ok-count_call-in-Bump.ensures.ok refl
+
+pub returns-in_ok-append-in-Emit-clause-makes : goal.returns-in_ok-append-in-Emit-clause-makes
+returns-in_ok-append-in-Emit-clause-makes g c =
+    let M = g.M.AskMachine.model in
+    let W = g.W.World.model in
+    let key = g.M.Key.Kept.code in
+    let value = g.M.Value.Kept.code in
+    let code = g.M.Call.Kept.code in
+    let call = g.M.AskMachine.call_of in
+    let place = g.M.AskMachine.place in
+    let item = g.M.AskMachine.item_of in
+    let walk = c.args.walk.now in
+    let nodes = c.args.arena.now.nodes in
+    let a = moment_at M W place item walk (told_of value c.args.given) (g.W.World.state c.args.world.now) nodes in
+    let b = moment_at M W {K = g.row.M-Key.Denot} {V = g.row.M-Value.Denot} place item (record { local = c.step.new.local; node = walk.node; summary = walk.summary; frames = walk.frames }) Nothing (g.W.World.state c.args.world.now) c.append.new.self.nodes in
+    let move : M.move_at a.place a.given ≡ Emit (g.M.AskMachine.item_of c.in-Emit.item) = sym c.in_ok-action.ensures.action ∙ ap (move_of key value code call item) c.in-Emit.is in
+    let marked = g.M.AskMachine.marked in
+    let made = c.args.arena.now.made in
+    λ kept fuel. makes_emit M W call c.args.depth kept fuel a b c.in_ok-action.ensures.place (owed marked made (place walk.local)) (owed marked c.append.new.self.made (place c.step.new.local)) (owed_emits M marked g.met.M.AskMachine.emits_once_a_count a.place a.given (item c.in-Emit.item) move (place c.step.new.local) c.in_ok-action.ensures.place made c.append.new.self.made _ c.in_ok-append-in-Emit.ensures.made) (item c.in-Emit.item) move refl refl (appended_points item nodes c.append.new.self.nodes walk.node.0 c.in-Emit.item c.in_ok-append-in-Emit.ensures.appended) (ap (map item) (appended_last nodes c.append.new.self.nodes walk.node.0 c.in-Emit.item c.in_ok-append-in-Emit.ensures.appended)) refl refl
+
+pub returns-then-depth-walk-ge-DEEPEST-clause-makes : goal.returns-then-depth-walk-ge-DEEPEST-clause-makes
+returns-then-depth-walk-ge-DEEPEST-clause-makes g c =
+    let M = g.M.AskMachine.model in
+    let W = g.W.World.model in
+    let key = g.M.Key.Kept.code in
+    let value = g.M.Value.Kept.code in
+    let code = g.M.Call.Kept.code in
+    let call = g.M.AskMachine.call_of in
+    let place = g.M.AskMachine.place in
+    let item = g.M.AskMachine.item_of in
+    let walk = c.args.walk.now in
+    let nodes = c.args.arena.now.nodes in
+    let a = moment_at M W place item walk (told_of value c.args.given) (g.W.World.state c.args.world.now) nodes in
+    let b = moment_at M W {K = g.row.M-Key.Denot} {V = g.row.M-Value.Denot} place item (record { local = c.step.new.local; node = walk.node; summary = c.find_no_room.new.self; frames = walk.frames }) TooDeep (g.W.World.state c.args.world.now) nodes in
+    let move : M.move_at a.place a.given ≡ Deepen = sym c.in_ok-action.ensures.action ∙ ap (move_of key value code call item) c.in-Deepen.is in
+    let full : deepest_depth ≤ c.args.depth + walk.frames = omega arith in
+    let marked = g.M.AskMachine.marked in
+    let made = c.args.arena.now.made in
+    λ kept fuel. makes_no_frame M W call c.args.depth kept fuel a b c.in_ok-action.ensures.place (owed marked made (place walk.local)) (owed marked made (place c.step.new.local)) (owed_falls M marked g.met.M.AskMachine.emits_once_a_count a.place a.given (ap is_count move) (place c.step.new.local) c.in_ok-action.ensures.place made) move full refl refl refl refl c.find_no_room.ensures refl
+
+pub returns-else-depth-walk-ge-DEEPEST-clause-makes : goal.returns-else-depth-walk-ge-DEEPEST-clause-makes
+returns-else-depth-walk-ge-DEEPEST-clause-makes g c =
+    let M = g.M.AskMachine.model in
+    let W = g.W.World.model in
+    let key = g.M.Key.Kept.code in
+    let value = g.M.Value.Kept.code in
+    let code = g.M.Call.Kept.code in
+    let call = g.M.AskMachine.call_of in
+    let place = g.M.AskMachine.place in
+    let item = g.M.AskMachine.item_of in
+    let walk = c.args.walk.now in
+    let nodes = c.args.arena.now.nodes in
+    let a = moment_at M W place item walk (told_of value c.args.given) (g.W.World.state c.args.world.now) nodes in
+    let b = moment_at M W {K = g.row.M-Key.Denot} {V = g.row.M-Value.Denot} place item (record { local = c.step.new.local; node = walk.node; summary = c.deepen.new.self; frames = walk.frames + 1 }) Nothing (g.W.World.state c.args.world.now) nodes in
+    let move : M.move_at a.place a.given ≡ Deepen = sym c.in_ok-action.ensures.action ∙ ap (move_of key value code call item) c.in-Deepen.is in
+    let room : c.args.depth + walk.frames < deepest_depth = omega arith in
+    let marked = g.M.AskMachine.marked in
+    let made = c.args.arena.now.made in
+    λ kept fuel. makes_deepen M W call c.args.depth kept fuel a b c.in_ok-action.ensures.place (owed marked made (place walk.local)) (owed marked made (place c.step.new.local)) (owed_falls M marked g.met.M.AskMachine.emits_once_a_count a.place a.given (ap is_count move) (place c.step.new.local) c.in_ok-action.ensures.place made) move room refl refl refl refl c.deepen.ensures refl
+
+pub returns-in-Rise-clause-makes : goal.returns-in-Rise-clause-makes
+returns-in-Rise-clause-makes g c =
+    let M = g.M.AskMachine.model in
+    let W = g.W.World.model in
+    let key = g.M.Key.Kept.code in
+    let value = g.M.Value.Kept.code in
+    let code = g.M.Call.Kept.code in
+    let call = g.M.AskMachine.call_of in
+    let place = g.M.AskMachine.place in
+    let item = g.M.AskMachine.item_of in
+    let walk = c.args.walk.now in
+    let nodes = c.args.arena.now.nodes in
+    let a = moment_at M W place item walk (told_of value c.args.given) (g.W.World.state c.args.world.now) nodes in
+    let b = moment_at M W {K = g.row.M-Key.Denot} {V = g.row.M-Value.Denot} place item (record { local = c.step.new.local; node = walk.node; summary = walk.summary; frames = c.saturating_sub-walk.result }) Nothing (g.W.World.state c.args.world.now) nodes in
+    let move : M.move_at a.place a.given ≡ Rise = sym c.in_ok-action.ensures.action ∙ ap (move_of key value code call item) c.in-Rise.is in
+    let marked = g.M.AskMachine.marked in
+    let made = c.args.arena.now.made in
+    λ kept fuel. makes_rise M W call c.args.depth kept fuel a b c.in_ok-action.ensures.place (owed marked made (place walk.local)) (owed marked made (place c.step.new.local)) (owed_falls M marked g.met.M.AskMachine.emits_once_a_count a.place a.given (ap is_count move) (place c.step.new.local) c.in_ok-action.ensures.place made) move refl refl refl refl refl c.saturating_sub-walk.ensures
+
+pub returns-in-At-clause-makes : goal.returns-in-At-clause-makes
+returns-in-At-clause-makes g c =
+    let M = g.M.AskMachine.model in
+    let W = g.W.World.model in
+    let key = g.M.Key.Kept.code in
+    let value = g.M.Value.Kept.code in
+    let code = g.M.Call.Kept.code in
+    let call = g.M.AskMachine.call_of in
+    let place = g.M.AskMachine.place in
+    let item = g.M.AskMachine.item_of in
+    let walk = c.args.walk.now in
+    let nodes = c.args.arena.now.nodes in
+    let a = moment_at M W place item walk (told_of value c.args.given) (g.W.World.state c.args.world.now) nodes in
+    let b = moment_at M W {K = g.row.M-Key.Denot} {V = g.row.M-Value.Denot} place item (record { local = c.step.new.local; node = walk.node; summary = c.tell_at.new.self; frames = walk.frames }) Nothing (g.W.World.state c.at.new.self) nodes in
+    let move : M.move_at a.place a.given ≡ At c.in-At.statement = sym c.in_ok-action.ensures.action ∙ ap (move_of key value code call item) c.in-At.is in
+    let marked = g.M.AskMachine.marked in
+    let made = c.args.arena.now.made in
+    λ kept fuel. makes_at M W call c.args.depth kept fuel a b c.in_ok-action.ensures.place (owed marked made (place walk.local)) (owed marked made (place c.step.new.local)) (owed_falls M marked g.met.M.AskMachine.emits_once_a_count a.place a.given (ap is_count move) (place c.step.new.local) c.in_ok-action.ensures.place made) c.in-At.statement move refl c.at.ensures refl refl c.tell_at.ensures refl
+
+pub returns-in-Count-clause-makes : goal.returns-in-Count-clause-makes
+returns-in-Count-clause-makes g c =
+    let M = g.M.AskMachine.model in
+    let W = g.W.World.model in
+    let key = g.M.Key.Kept.code in
+    let value = g.M.Value.Kept.code in
+    let code = g.M.Call.Kept.code in
+    let call = g.M.AskMachine.call_of in
+    let place = g.M.AskMachine.place in
+    let item = g.M.AskMachine.item_of in
+    let walk = c.args.walk.now in
+    let nodes = c.args.arena.now.nodes in
+    let a = moment_at M W place item walk (told_of value c.args.given) (g.W.World.state c.args.world.now) nodes in
+    let b = moment_at M W {K = g.row.M-Key.Denot} {V = g.row.M-Value.Denot} place item (record { local = c.step.new.local; node = walk.node; summary = walk.summary; frames = walk.frames }) Nothing (g.W.World.state c.args.world.now) nodes in
+    let move : M.move_at a.place a.given ≡ Count = sym c.in_ok-action.ensures.action ∙ ap (move_of key value code call item) c.in-Count.is in
+    let marked = g.M.AskMachine.marked in
+    let made = c.args.arena.now.made in
+    refl
+
+pub returns-in-Enter-clause-makes : goal.returns-in-Enter-clause-makes
+returns-in-Enter-clause-makes g c =
+    let M = g.M.AskMachine.model in
+    let W = g.W.World.model in
+    let key = g.M.Key.Kept.code in
+    let value = g.M.Value.Kept.code in
+    let code = g.M.Call.Kept.code in
+    let call = g.M.AskMachine.call_of in
+    let place = g.M.AskMachine.place in
+    let item = g.M.AskMachine.item_of in
+    let walk = c.args.walk.now in
+    let nodes = c.args.arena.now.nodes in
+    let a = moment_at M W place item walk (told_of value c.args.given) (g.W.World.state c.args.world.now) nodes in
+    let b = moment_at M W {K = g.row.M-Key.Denot} {V = g.row.M-Value.Denot} place item (record { local = c.step.new.local; node = walk.node; summary = walk.summary; frames = walk.frames }) Nothing (g.W.World.state c.args.world.now) nodes in
+    let move : M.move_at a.place a.given ≡ Enter (g.M.AskMachine.call_of (g.M.Call.Kept.code c.in-Enter.call)) = sym c.in_ok-action.ensures.action ∙ ap (move_of key value code call item) c.in-Enter.is in
+    let marked = g.M.AskMachine.marked in
+    let made = c.args.arena.now.made in
+    (refl, (owed_falls M marked g.met.M.AskMachine.emits_once_a_count a.place a.given (ap is_count move) (place c.step.new.local) c.in_ok-action.ensures.place made))
+
+pub returns-in-Leave-clause-makes : goal.returns-in-Leave-clause-makes
+returns-in-Leave-clause-makes g c =
+    let M = g.M.AskMachine.model in
+    let W = g.W.World.model in
+    let key = g.M.Key.Kept.code in
+    let value = g.M.Value.Kept.code in
+    let code = g.M.Call.Kept.code in
+    let call = g.M.AskMachine.call_of in
+    let place = g.M.AskMachine.place in
+    let item = g.M.AskMachine.item_of in
+    let walk = c.args.walk.now in
+    let nodes = c.args.arena.now.nodes in
+    let a = moment_at M W place item walk (told_of value c.args.given) (g.W.World.state c.args.world.now) nodes in
+    let b = moment_at M W {K = g.row.M-Key.Denot} {V = g.row.M-Value.Denot} place item (record { local = c.step.new.local; node = walk.node; summary = walk.summary; frames = walk.frames }) Nothing (g.W.World.state c.args.world.now) nodes in
+    let move : M.move_at a.place a.given ≡ Leave = sym c.in_ok-action.ensures.action ∙ ap (move_of key value code call item) c.in-Leave.is in
+    let marked = g.M.AskMachine.marked in
+    let made = c.args.arena.now.made in
+    refl
+
+pub returns-in-End-clause-makes : goal.returns-in-End-clause-makes
+returns-in-End-clause-makes g c =
+    let M = g.M.AskMachine.model in
+    let W = g.W.World.model in
+    let key = g.M.Key.Kept.code in
+    let value = g.M.Value.Kept.code in
+    let code = g.M.Call.Kept.code in
+    let call = g.M.AskMachine.call_of in
+    let place = g.M.AskMachine.place in
+    let item = g.M.AskMachine.item_of in
+    let walk = c.args.walk.now in
+    let nodes = c.args.arena.now.nodes in
+    let a = moment_at M W place item walk (told_of value c.args.given) (g.W.World.state c.args.world.now) nodes in
+    let b = moment_at M W {K = g.row.M-Key.Denot} {V = g.row.M-Value.Denot} place item (record { local = c.step.new.local; node = walk.node; summary = walk.summary; frames = walk.frames }) Nothing (g.W.World.state c.args.world.now) nodes in
+    let move : M.move_at a.place a.given ≡ End = sym c.in_ok-action.ensures.action ∙ ap (move_of key value code call item) c.in-End.is in
+    let marked = g.M.AskMachine.marked in
+    let made = c.args.arena.now.made in
+    refl
