@@ -11,3 +11,7 @@ pub mod CallLemmas
 pub mod ShowLemmas
 pub mod HoldLemmas
 pub mod BlockLemmas
+pub mod PartLemmas
+pub mod SplitLemmas
+pub mod SeekLemmas
+pub mod ChangeLemmas

@@ -74,7 +74,7 @@ place_of-le text at = elim (cases_lt at.line (length (lines text))) [
 ]
 
 -- in one line the units are in order
-units_in_order : (from to : Position) → is_after from to ≡ false → from.line ≡ to.line → from.character ≤ to.character
+pub units_in_order : (from to : Position) → is_after from to ≡ false → from.line ≡ to.line → from.character ≤ to.character
 units_in_order from to h same =
     let tests : ((from.line == to.line) && nat_lt to.character from.character) ≡ false = (or_parts (nat_lt to.line from.line) _ h).1 in
     ltb-false to.character from.character (ap (λ b. b && nat_lt to.character from.character) (sym (eq-eqb from.line to.line same)) ∙ tests)

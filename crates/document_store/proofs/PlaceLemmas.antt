@@ -227,13 +227,13 @@ drop-past line later xss h past = sym (drop-nil (later - line)) ∙ ap (drop (la
 pub lines_in_order : (from to : Position) → is_after from to ≡ false → from.line ≤ to.line
 lines_in_order from to h = ltb-false to.line from.line (or_parts (nat_lt to.line from.line) _ h).0
 
-whole_lines-positive : (text : List ℕ) → 0 < length (whole_lines text)
+pub whole_lines-positive : (text : List ℕ) → 0 < length (whole_lines text)
 whole_lines-positive text = let some = whole_lines-some text in omega (arith, ap length some.is)
 
-eqb_self : (n : ℕ) → (n == n) ≡ true
+pub eqb_self : (n : ℕ) → (n == n) ≡ true
 eqb_self n = grind (arith, nat_tests)
 
-eqb-false_from : (a b : ℕ) → a < b → (a == b) ≡ false
+pub eqb-false_from : (a b : ℕ) → a < b → (a == b) ≡ false
 eqb-false_from a b h = grind (arith, nat_tests)
 
 -- the line where a position lies, and how much of it stands before the position

@@ -30,12 +30,6 @@ GivesText asked (Ok text) = asked ≡ Ok (chars (string_bytes text))
 GivesText asked (Err OutOfMemory) = Unit {0}
 GivesText asked (Err fault) = asked ≡ Err fault
 
--- a call leaves the text that is asked, or gives the refusal that is; want of memory may come in place of either
-abbrev pub LeavesText : Result (List ℕ) StoreFault → Result Unit StoreFault → String Global → Type 0
-LeavesText asked (Ok done) text = asked ≡ Ok (chars (string_bytes text))
-LeavesText asked (Err OutOfMemory) text = Unit {0}
-LeavesText asked (Err fault) text = asked ≡ Err fault
-
 -- the refusal of the change of this number, or want of memory
 abbrev pub IsBadRange : ℕ → StoreFault → Type 0
 IsBadRange number fault = (fault ≡ BadRange number) ⊎ (fault ≡ OutOfMemory)

@@ -1,14 +1,18 @@
 //! Changes of a text, one after another.
-ghost use Rattle.std.specs.Prelude.{◌≡◌, ◌+◌, ◌<◌, ◌≤◌, ◌^◌, ◌++◌, ℕ, length, IfOk};
+ghost use Rattle.std.specs.Prelude.{◌≡◌, ◌+◌, ◌<◌, ◌≤◌, ◌^◌, ◌++◌, ℕ, length, IfOk, OnOk};
 ghost use Rattle.std.specs.Str.{chars};
 ghost use Rattle.std.specs.String.{string_bytes, string_len};
 ghost use Rattle.document_store.specs.Edits as changes;
-ghost use Rattle.document_store.specs.Places.{GivesText, LeavesText, IsBadRange};
+ghost use Rattle.std.specs.Option.{option_map};
+ghost use Rattle.document_store.specs.Parts.{text_in, IsBeforeLine, position_behind, first_line_of, LeavesParts};
+ghost use Rattle.document_store.specs.Places.{GivesText, IsBadRange};
 
 use crate::StoreFault;
 use crate::place::span_of;
-use hl_base::Edit;
-use std::alloc::{AllocError, Global};
+use crate::seeking::{seek, settle};
+use crate::split_text::SplitText;
+use hl_base::{Edit, Position};
+use std::alloc::Global;
 use text_pool::LONGEST_TEXT;
 
 /// Whether the start of a change lies behind its end.
@@ -33,57 +37,84 @@ fn bad_range(number: usize) -> StoreFault
     }
 }
 
-/// Makes the change of a number in the text. Where it is refused for want of memory or for its length, the text is as it
-/// was.
-fn make_edit(text: &mut String, number: usize, edit: &Edit) -> Result<(), StoreFault>
-    requires { string_len text.old ≤ LONGEST_TEXT }
-    ensures given { LeavesText (changes.after_edit (chars (string_bytes text.old)) number edit.now) result text.new }
-    ensures short { string_len text.new ≤ LONGEST_TEXT }
+/// A position counted from a later line on.
+fn position_behind(at: Option<Position>, line: u32) -> Option<Position>
+    ensures { result ≡ option_map (position_behind line) at }
+{
+    match at {
+        Some(at) => Some(Position {
+            line: at.line.saturating_sub(line),
+            character: at.character,
+        }),
+        None => None,
+    }
+}
+
+/// The first line that a change speaks of.
+fn first_line_of(from: Option<Position>) -> u32
+    ensures { result ≡ first_line_of from }
+{
+    match from {
+        Some(at) => at.line,
+        None => 0,
+    }
+}
+
+/// Makes the change of a number in a text that is split before a line, and answers the line before which it is split then.
+/// After an `Err` the text is not to be used.
+fn make_edit(
+    alloc: Global,
+    text: &mut SplitText,
+    line: u32,
+    number: usize,
+    edit: &Edit,
+) -> Result<u32, StoreFault>
+    requires before { IsBeforeLine line text.old }
+    requires short { length text.old.front + length text.old.back ≤ LONGEST_TEXT }
+    ensures given { LeavesParts (changes.after_edit (text_in text.old) number edit.now) result text.new }
+    ensures before { IfOk result (λ next. IsBeforeLine next text.new) }
+    ensures short { OnOk result (length text.new.front + length text.new.back ≤ LONGEST_TEXT) }
 {
     if is_backward(edit) {
         return Err(bad_range(number));
     }
-    let whole = text.as_str();
-    let span = span_of(whole, edit);
-    let kept = whole.len() - (span.end - span.start);
+    let line = seek(text, line, first_line_of(edit.from));
+    let span = span_of(
+        text.back(),
+        position_behind(edit.from, line),
+        position_behind(edit.to, line),
+    );
+    let kept = text.front().len() + (text.back().len() - (span.end - span.start));
     let middle = edit.text.as_str();
     if middle.len() > LONGEST_TEXT - kept {
         return Err(StoreFault::TextTooLong);
     }
-    text.replace_range(span.start..span.end, middle)?;
-    Ok(())
+    text.replace(alloc, span.start, span.end, middle)?;
+    Ok(settle(text, line))
 }
 
-/// How many bytes a text may come to have while these changes are made.
-fn room_for(text: &str, edits: &[Edit]) -> usize
+/// How many bytes these changes put into a text.
+fn room_for(edits: &[Edit]) -> usize
     ensures { result ≤ LONGEST_TEXT }
 {
-    let mut room = text.len();
+    let mut room: usize = 0;
     for edit in edits {
         room = room.saturating_add(edit.text.as_str().len());
     }
     room.min(LONGEST_TEXT)
 }
 
-/// A copy of a text that has room for these changes, so that it is not moved while they are made.
-fn copy_for(alloc: Global, text: &str, edits: &[Edit]) -> Result<String, AllocError>
-    requires { length text.now ≤ LONGEST_TEXT }
-    ensures { IfOk result (λ copy. string_bytes copy ≡ text.now) }
-{
-    let mut copy = String::with_capacity(alloc, room_for(text, edits))?;
-    copy.push_str(text)?;
-    Ok(copy)
-}
-
-/// The text after these changes in turn, each made in the one copy. The first that is refused refuses all.
+/// The text after these changes in turn, each made in the one copy, where the one before was made. The first that is refused
+/// refuses all.
 pub fn after_edits(alloc: Global, text: &str, edits: &[Edit]) -> Result<String, StoreFault>
     requires { length text.now ≤ LONGEST_TEXT }
     ensures given { GivesText (changes.after_edits edits.now 0 (chars text.now)) result }
     ensures short { IfOk result (λ t. string_len t ≤ LONGEST_TEXT) }
 {
-    let mut changed = copy_for(alloc, text, edits)?;
+    let mut changed = SplitText::new(alloc, "", room_for(edits), text)?;
+    let mut line = 0;
     for (index, edit) in edits.iter().enumerate() {
-        make_edit(&mut changed, index, edit)?;
+        line = make_edit(alloc, &mut changed, line, index, edit)?;
     }
-    Ok(changed)
+    Ok(changed.joined())
 }

@@ -19,6 +19,8 @@ mod lines;
 mod opening;
 mod paths;
 mod place;
+mod seeking;
+mod split_text;
 mod store;
 
 pub use changes::after_edits;

@@ -26,7 +26,7 @@ struct Ahead<'a> {
 const BLOCK: usize = 224;
 
 /// Whether a line ends at a byte that stands before another.
-fn ends_at(byte: u8, next: u8) -> bool
+pub(crate) fn ends_at(byte: u8, next: u8) -> bool
     ensures { result ≡ ((byte == 10 || byte == 13) && not (byte == 13 && next == 10)) }
 {
     (byte == b'\n' || byte == b'\r') && !(byte == b'\r' && next == b'\n')

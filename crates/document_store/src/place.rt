@@ -7,7 +7,7 @@ ghost use Rattle.document_store.specs.Edits.{is_after, is_backward, start_of, st
 ghost use Rattle.document_store.specs.Places.{lines_behind, bytes_before};
 
 use crate::lines::{NumberedLine, first_line, from_line, line_or_last};
-use hl_base::{Edit, Position, units};
+use hl_base::{Position, units};
 use text_pool::LONGEST_TEXT;
 
 /// What stands before a place in a line.
@@ -113,12 +113,12 @@ fn span_between(text: &str, from: Position, to: Position) -> Span
 
 /// The part of a text that a change replaces. Without a start it begins where the text does, and without an end it ends
 /// where the text does.
-pub(crate) fn span_of(text: &str, edit: &Edit) -> Span
-    requires { is_backward edit.now.from edit.now.to ≡ false }
-    ensures start { result.start ≡ bytes_before (chars text.now) (start_of (chars text.now) edit.now.from) }
-    ensures end { result.end ≡ bytes_before (chars text.now) (stop_of (chars text.now) edit.now.to) }
+pub(crate) fn span_of(text: &str, from: Option<Position>, to: Option<Position>) -> Span
+    requires { is_backward from to ≡ false }
+    ensures start { result.start ≡ bytes_before (chars text.now) (start_of (chars text.now) from) }
+    ensures end { result.end ≡ bytes_before (chars text.now) (stop_of (chars text.now) to) }
 {
-    match (edit.from, edit.to) {
+    match (from, to) {
         (Some(from), Some(to)) => span_between(text, from, to),
         (Some(from), None) => Span {
             start: place(text, from),

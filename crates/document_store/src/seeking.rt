@@ -1,0 +1,163 @@
+//! Where a line begins, sought from the place where a text is split: forward and back.
+ghost use Rattle.std.specs.Prelude.{◌≡◌, ◌≤◌, ◌<◌, ◌+◌, List, ℕ, length, drop, slice_index, IsTrue, true};
+ghost use Rattle.std.specs.Str.{chars, IsCharBoundary};
+ghost use Rattle.document_store.specs.Parts.{text_in, parted, BeginsLine, IsBeforeLine};
+ghost use Rattle.document_store.specs.Places.{line_ends};
+ghost use Rattle.document_store.specs.Positions.{whole_lines};
+
+use crate::lines::{ends_at, from_line};
+use crate::split_text::SplitText;
+
+/// At most so many lines are gone back; further ones are found from the front of the text.
+const NEAR: u32 = 1000;
+
+/// The byte of a place; 0 behind the last.
+fn byte_at(bytes: &[u8], at: usize) -> u8
+    ensures { result ≡ slice_index bytes.now at }
+{
+    bytes.get(at).copied().unwrap_or(0)
+}
+
+/// Whether a line begins between two texts.
+fn is_between_lines(front: &str, back: &str) -> bool
+    ensures { IsTrue result → parted (chars front.now) (chars back.now) ≡ true }
+{
+    let size = front.len();
+    if size == 0 {
+        return true;
+    }
+    let last = byte_at(front.as_bytes(), size - 1);
+    let next = byte_at(back.as_bytes(), 0);
+    ends_at(last, next)
+}
+
+/// A place so many lines back from the end of a text that ends in a line end, or near that.
+fn place_back(text: &str, lines: u32) -> usize
+    ensures { IsCharBoundary text.now result }
+{
+    let bytes = text.as_bytes();
+    let mut left = lines;
+    let mut next = 0;
+    for passed in 0..bytes.len() {
+        let at = bytes.len() - 1 - passed;
+        let byte = bytes[at];
+        if ends_at(byte, next) {
+            if left == 0 {
+                return at + 1;
+            }
+            left -= 1;
+        }
+        next = byte;
+    }
+    0
+}
+
+/// How many lines end in the first bytes of a text.
+fn count_ends(text: &str, first: usize) -> usize
+    requires { first ≤ length text.now }
+    ensures { result ≡ line_ends first text.now }
+{
+    let bytes = text.as_bytes();
+    let mut count = 0;
+    for at in 0..first {
+        let next = byte_at(bytes, at + 1);
+        if ends_at(bytes[at], next) {
+            count += 1;
+        }
+    }
+    count
+}
+
+/// Goes back to the front of the text.
+fn go_to_front(text: &mut SplitText) -> u32
+    ensures text { text_in text.new ≡ text_in text.old }
+    ensures size { length text.new.front + length text.new.back ≡ length text.old.front + length text.old.back }
+    ensures line { result ≡ 0 }
+    ensures before { IsBeforeLine 0 text.new }
+{
+    text.go_to_start();
+    0
+}
+
+/// Goes back to the beginning of a line that is near, or to one before it.
+fn go_back_lines(text: &mut SplitText, line: u32, wanted: u32) -> u32
+    requires before { IsBeforeLine line text.old }
+    requires back { wanted < line }
+    ensures text { text_in text.new ≡ text_in text.old }
+    ensures size { length text.new.front + length text.new.back ≡ length text.old.front + length text.old.back }
+    ensures before { IsBeforeLine result text.new }
+    ensures reached { result ≤ wanted }
+{
+    let at = place_back(text.front(), line - wanted);
+    let passed = text.front().len() - at;
+    text.go_back(at);
+    if !is_between_lines(text.front(), text.back()) {
+        return go_to_front(text);
+    }
+    let ends = count_ends(text.back(), passed);
+    let found = (line as usize).saturating_sub(ends);
+    if found > wanted as usize {
+        return go_to_front(text);
+    }
+    found as u32
+}
+
+/// How many bytes of a text stand before its line of a number, from which this is the rest. The number is for the contract
+/// alone.
+fn bytes_over(text: &str, rest: &str, _line: u32) -> usize
+    requires { whole_lines (chars rest.now) ≡ drop _line (whole_lines (chars text.now)) }
+    ensures cut { IsCharBoundary text.now result }
+    ensures rest { drop result text.now ≡ rest.now }
+{
+    text.len() - rest.len()
+}
+
+/// Goes to the beginning of a line, if it is there.
+fn advance_lines(text: &mut SplitText, line: u32, wanted: u32) -> u32
+    requires before { IsBeforeLine line text.old }
+    requires ahead { line ≤ wanted }
+    ensures text { text_in text.new ≡ text_in text.old }
+    ensures size { length text.new.front + length text.new.back ≡ length text.old.front + length text.old.back }
+    ensures before { IsBeforeLine result text.new }
+    ensures reached { result ≤ wanted }
+{
+    let back = text.back();
+    let Some(rest) = from_line(back, wanted - line) else {
+        return line;
+    };
+    let passed = bytes_over(back, rest, wanted - line);
+    text.advance(passed);
+    wanted
+}
+
+/// Splits the text before a line, or before an earlier one where it has no such line; where it was split before, the lines
+/// are sought from there.
+pub(crate) fn seek(text: &mut SplitText, line: u32, wanted: u32) -> u32
+    requires before { IsBeforeLine line text.old }
+    ensures text { text_in text.new ≡ text_in text.old }
+    ensures size { length text.new.front + length text.new.back ≡ length text.old.front + length text.old.back }
+    ensures before { IsBeforeLine result text.new }
+    ensures reached { result ≤ wanted }
+{
+    if line <= wanted {
+        return advance_lines(text, line, wanted);
+    }
+    let near = if line - wanted > NEAR {
+        go_to_front(text)
+    } else {
+        go_back_lines(text, line, wanted)
+    };
+    advance_lines(text, near, wanted)
+}
+
+/// Splits a text before a line again, whose second part was changed.
+pub(crate) fn settle(text: &mut SplitText, line: u32) -> u32
+    ensures text { text_in text.new ≡ text_in text.old }
+    ensures size { length text.new.front + length text.new.back ≡ length text.old.front + length text.old.back }
+    ensures before { (earlier : List ℕ) → BeginsLine line (chars text.old.front) earlier → IsBeforeLine result text.new }
+{
+    if is_between_lines(text.front(), text.back()) {
+        return line;
+    }
+    go_to_front(text)
+}
