@@ -28,8 +28,8 @@ returns-clause-assembly g c =
       root_is = refl;
       points_are = c.points.ensures.points;
       notes_are =
-          c.in_ok-notes.ensures
+          c.in_ok-notes_of.ensures
           ∙ ap (λ bytes. notes_of path (chars bytes) (ran_of nodes outcome)) c.as_str.ensures.value;
-      globals_are = c.in_ok-globals.ensures;
-      touched_are = c.in_ok-touched.ensures;
+      globals_are = c.in_ok-globals_at_end.ensures;
+      touched_are = c.in_ok-touched_paths.ensures;
     }
