@@ -1,0 +1,5 @@
+pub mod MemberLaws
+pub mod CopyingLaws
+pub mod ExtentLaws
+pub mod VariableLaws
+pub mod ContentLaws

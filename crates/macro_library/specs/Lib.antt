@@ -1,0 +1,9 @@
+pub mod Members
+pub mod Extents
+pub mod Variables
+pub mod Definitions
+pub mod Later
+pub mod Contents
+pub mod Held
+pub mod Copying
+pub mod Inside

@@ -1,0 +1,28 @@
+//! Macro definitions: where one ends as it is written, its prototype, its statements with those of copied members in place,
+//! and the system variables that they name.
+//!
+//! `read_definition` reads the definition that begins at a statement MACRO of a list, or gives its first fault, or asks for
+//! the member that the COPY met next names. A `Def` shares the lines that it is made of, each of which was read once; `same`
+//! tells two apart by a number of their contents first. `behind_definition` says where processing goes on behind a
+//! definition as it is written, and `defining_at` whether a member defines an operation.
+//!
+//! It knows nothing of calls, values and files: what members are is told to it. It follows the HLASM Language Reference
+//! SC26-4940, "Format of a macro definition", "Macro prototype statement", "Inner macro definitions", "COPY instruction",
+//! "System variable symbols".
+#![tactic(auto)]
+
+mod content;
+mod copying;
+mod definition;
+mod extent;
+mod fault;
+mod later;
+mod line;
+mod member;
+mod variables;
+
+pub use definition::{Def, read_definition};
+pub use extent::{behind_definition, defining_at};
+pub use fault::DefFault;
+pub use member::{Member, Members};
+pub use variables::SystemVariables;
