@@ -553,6 +553,23 @@ fn main(rt: HostRuntime) -> io::Result<()> {
     time_all::<Brand>(&rt, Blank::new(1))
 }
 PROGRAM
+# What a counter that goes round comes to: FUNCTION, and what changes.
+counted() {
+    mkdir -p "$program/proofs/CountingWorld/$1"
+    cat > "$program/proofs/CountingWorld/$1/Answers.antt" <<ANSWERS
+use Rattle.std.proofs.Common.{ap}
+use Rattle.kept_values.specs.Trees.{Leaf}
+use Rattle.asking_core.specs.Counters.{round}
+use Rattle.asking_core.proofs.CounterLaws.{counted_with, round_more}
+use Rattle.memo_bench.proofs.CountingWorld.$1.Goals as goal
+
+pub returns : goal.returns
+returns c = ap (λ r. counted_with $2 (Leaf c.args.self.now.cell)) (round_more $3)
+ANSWERS
+}
+counted bump 'r (round c.args.self.now.depth)' 'c.args.self.now.calls c.args.calls'
+counted enter '(round c.args.self.now.calls) r' 'c.args.self.now.depth 1'
+counted leave '(round c.args.self.now.calls) r' 'c.args.self.now.depth 4294967295'
 mkdir -p "$program/proofs/main"
 cat > "$program/proofs/main/Invariants.antt" <<'GHOSTS'
 use Rattle.memo_bench.proofs.main.Given as goal
