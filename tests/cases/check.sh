@@ -20,7 +20,6 @@ program_of() {
         attributes | defining_operations) echo attribute_cases ;;
         declarations | branches | templates | field_ends | operations | effects) echo statement_cases ;;
         expansions) echo expansion_cases ;;
-        globals | touched) echo program_cases ;;
         prototypes | bindings | parameter_values) echo definition_cases ;;
     esac
 }
