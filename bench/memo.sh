@@ -469,26 +469,22 @@ impl Expansions {
         }
     }
 
-    /// Expands the call of a number. After an `Err` nothing is kept any more.
+    /// Expands the call of a number.
     fn expand<L: Ledger>(
-        &mut self,
+        self,
         alloc: Global,
         number: u32,
         world: &mut Counting,
         steps: &mut Steps<L>,
-    ) -> Result<u32, OutOfMemory> {
+    ) -> Result<Expansions, OutOfMemory> {
         counters_that_go_round_fit();
         let call = Tag { number };
-        let came = self
-            .memo
-            .expand(&Teller, alloc, &call, world, 100, 0, &mut self.arena, steps);
-        match came {
-            Ok(outcome) => Ok(outcome.cost),
-            Err(err) => {
-                *self = Expansions::new(alloc);
-                Err(err)
-            }
-        }
+        let Expansions {
+            mut memo,
+            mut arena,
+        } = self;
+        let _outcome = memo.expand(&Teller, alloc, &call, world, 100, 0, &mut arena, steps)?;
+        Ok(Expansions { memo, arena })
     }
 }
 
@@ -511,7 +507,7 @@ fn expand_all<L: Ledger>(
             world.calls = 0;
         }
         let call = if differ { number } else { 0 };
-        let _cost = kept.expand(alloc, call, &mut world, steps)?;
+        kept = kept.expand(alloc, call, &mut world, steps)?;
     }
     Ok(kept.arena.made())
 }
