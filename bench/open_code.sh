@@ -8,6 +8,8 @@ program open_code_bench 'hl_base hlasm_statements program_assembly' <<'PROGRAM'
 //! Times the assembly of the text that its first argument names, and the reading of its statements, as often as the second says.
 #![tactic(auto)]
 
+ghost use Rattle.std.specs.Prelude.{◌≡◌};
+
 use hl_base::{Ledger, PathId, Steps};
 use hlasm_statements::read_statements;
 use program_assembly::assembly_notes;
@@ -85,6 +87,13 @@ for name, text in (("plain", "".join(map(line, range(50000))) + "         END\n"
     with open(f"{sys.argv[1]}/{name}.hlasm", "w") as out:
         out.write(text)
 TEXTS
+mkdir -p proofs/main
+cat > proofs/main/Invariants.antt <<'GHOSTS'
+use Rattle.open_code_bench.proofs.main.Given as goal
+
+abbrev pub ghosts-time : goal.ghosts-time
+ghosts-time a = record { name = a.blank.name; parts = a.blank.parts }
+GHOSTS
 rt run -- "$work/few.hlasm" 1 > "$work/built" || { cat "$work/built" >&2; exit 1; }
 python3 - "$work" "$work/crates/open_code_bench/out/open_code_bench" <<'RESULT'
 import os, subprocess, sys
