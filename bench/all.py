@@ -16,7 +16,7 @@ import time
 HERE = os.path.dirname(os.path.realpath(__file__))
 PAGE = os.path.join(HERE, "README.md")
 BEGIN, END = "<!-- figures, written by make bench -->\n", "<!-- end of the figures -->\n"
-SCRIPTS = ["statements.sh", "expressions.sh", "edits.sh", "session.sh", "open_code.sh", "memo.sh"]
+SCRIPTS = ["statements.sh", "expressions.sh", "edits.sh", "session.sh", "definitions.sh", "open_code.sh", "macros.sh", "memo.sh"]
 # More than so much of the processors' time in use: the figures would be those of a busy machine.
 MOST_BUSY = 0.05
 
@@ -72,10 +72,24 @@ ROWS = [
         r"one of 1 open programs.*: ([\d.]+) ms", most=1.1),
     Row("session.sh", "10,000 changes in one message, downwards", r"downwards.* (\d+) copies", "copies of the text", most=100),
     Row("session.sh", "10,000 changes in one message, upwards", r"upwards.* (\d+) copies", "copies of the text", most=100),
+    Row("definitions.sh", "a definition of 60,000 statements", r"(?m)^a definition of 60000 statements: read in ([\d.]+) ms", "ms",
+        "reading its statements alone", r"its statements alone in ([\d.]+) ms", most=2),
+    Row("definitions.sh", "the same, copied from a member", r"(?m)^copied from a member: read in ([\d.]+) ms", "ms",
+        "reading its statements alone", r"its statements alone in ([\d.]+) ms", most=2),
+    Row("definitions.sh", "the time of 32 times as many statements of members that copy the next one twice",
+        r"32 times as many as \d+ take ([\d.]+) times", "times", most=48),
+    Row("definitions.sh", "the time of a statement where such a definition is stopped, beside one that is read",
+        r"a statement, ([\d.]+) times what one costs", "times", most=1.5),
     Row("open_code.sh", "50,000 statements assembled, without conditional assembly", r"assembled in ([\d.]+) ms", "ms", "reading them alone",
         r"read alone in ([\d.]+) ms", most=4),
     Row("open_code.sh", "a loop of 90,000 points", r"points: ([\d.]+) ms", "ms", most=150),
     Row("open_code.sh", "memory of a point", r"(?m)^memory: (\d+) bytes", "bytes", most=300),
+    Row("macros.sh", "10,000 calls of a macro with a counter and a constant", r"(?m)^10000 calls: (\d+) ms", "ms", "GNU as: 70 ms",
+        most=70),
+    Row("macros.sh", "100,000 such calls", r"(?m)^100000 calls: (\d+) ms", "ms", "GNU as: 980 ms", most=980),
+    Row("macros.sh", "memory of a point of such calls", r"(?m)^memory: (\d+) bytes", "bytes", most=300),
+    Row("macros.sh", "20,000 calls at depth 100", r"depth 100: (\d+) ms", "ms"),
+    Row("macros.sh", "the same, beside depth 1", r"depth 100: .* ([\d.]+) times", "times", most=1.1),
     Row("memo.sh", "100,000 different calls in one state, run and kept", r"(?m)^different calls in one state: 100,000 in ([\d.]+) s", "s", most=0.15),
     Row("memo.sh", "100,000 equal calls, reused", r"(?m)^equal calls, reused: 100,000 in ([\d.]+) s", "s", most=0.05),
     Row("memo.sh", "four times as many equal calls with different outcomes", r"four times as many ([\d.]+) times", "times", most=5),

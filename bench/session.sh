@@ -18,14 +18,13 @@ while at < len(data):
     at, count = head + 4 + length, count + 1
 print(count)
 PLAIN
-python3 - "$top/crates/hlasm_ls/out/hlasm_ls" "$work" <<'RUNS'
-import json, os, re, subprocess, sys, time
-server, work = sys.argv[1:]
+python3 - "$top/crates/hlasm_ls/out/hlasm_ls" "$work" "$top/bench" <<'RUNS'
+import os, re, subprocess, sys, time
+server, work, bench = sys.argv[1:]
+sys.path.insert(0, bench)
+sys.dont_write_bytecode = True
+from replay import frame, opened, run, write_session
 uri = "file:///w/a.hlasm"
-
-def frame(message):
-    body = json.dumps({"jsonrpc": "2.0", **message}).encode()
-    return b"Content-Length: %d\r\n\r\n" % len(body) + body
 
 def text(lines):
     shapes = ["L{n:05}   MVC   TARGET,SOURCE  moves it", "         LR    R1,R2", "* a comment line with some words in it"]
@@ -38,10 +37,6 @@ def keystroke(number, line):
     return frame({"method": "textDocument/didChange", "params": {
         "textDocument": {"uri": uri, "version": number + 2}, "contentChanges": [change]}})
 
-def opened(name, words):
-    return frame({"method": "textDocument/didOpen", "params": {"textDocument": {
-        "uri": name, "languageId": "hlasm", "version": 1, "text": words}}})
-
 # So many changes in one message: a character comes into each of the first lines, downwards or upwards.
 def changes(count, downwards):
     places = ({"line": line, "character": 30} for line in (range(count) if downwards else reversed(range(count))))
@@ -50,41 +45,12 @@ def changes(count, downwards):
 
 # A session with one message behind the opening of a text of 10,000 lines of 80 characters.
 def one_message(name, message):
-    path = f"{work}/{name}"
-    with open(path, "wb") as out:
-        out.write(frame({"id": 1, "method": "initialize", "params": {}}))
-        out.write(opened(uri, "".join(f"L{n:05}   MVC   TARGET,SOURCE".ljust(71) + f"{n % 10**8:>8}\n" for n in range(10000))))
-        out.write(message + frame({"id": 2, "method": "shutdown"}) + frame({"method": "exit"}))
-    return path
+    words = "".join(f"L{n:05}   MVC   TARGET,SOURCE".ljust(71) + f"{n % 10**8:>8}\n" for n in range(10000))
+    return write_session(f"{work}/{name}", [opened(uri, words), message])
 
 def session(name, lines, keystrokes, others=0):
-    path = f"{work}/{name}"
-    with open(path, "wb") as out:
-        out.write(frame({"id": 1, "method": "initialize", "params": {}}))
-        for number in range(others):
-            out.write(opened(f"file:///w/other{number}.hlasm", text(lines)))
-        out.write(opened(uri, text(lines)))
-        for number in range(keystrokes):
-            out.write(keystroke(number, lines // 2 // 3 * 3))
-        out.write(frame({"id": 2, "method": "shutdown"}))
-        out.write(frame({"method": "exit"}))
-    return path
-
-# Runs a command over a session: its output, the seconds up to each byte count of it, those of all, and the peak in kB.
-def run(command, path):
-    with open(path, "rb") as source:
-        start = time.perf_counter()
-        child = subprocess.Popen(command, stdin=source, stdout=subprocess.PIPE)
-        output, seen = b"", []
-        while piece := os.read(child.stdout.fileno(), 1 << 20):
-            output += piece
-            seen.append((len(output), time.perf_counter() - start))
-        _, status, usage = os.wait4(child.pid, 0)
-        whole = time.perf_counter() - start
-    child.returncode = os.waitstatus_to_exitcode(status)
-    if child.returncode:
-        sys.exit(f"{command[0]} ended with {child.returncode}: {output[-200:]}")
-    return output, seen, whole, usage.ru_maxrss
+    messages = [opened(f"file:///w/other{number}.hlasm", text(lines)) for number in range(others)] + [opened(uri, text(lines))]
+    return write_session(f"{work}/{name}", messages + [keystroke(number, lines // 2 // 3 * 3) for number in range(keystrokes)])
 
 def last_list(output, seen):
     end = [found.end() for found in re.finditer(rb'publishDiagnostics.*?"version":\d+\}\}', output)][-1]

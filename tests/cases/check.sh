@@ -18,9 +18,10 @@ program_of() {
         arithmetic_trees | ordinary_trees | character_trees | logical_trees) echo expression_cases ;;
         numbers | truths | texts | note_texts) echo expression_cases ;;
         attributes | defining_operations) echo attribute_cases ;;
-        declarations | branches | templates | field_ends | operations | effects) echo statement_cases ;;
+        declarations | branches | templates | field_ends | operations | effects | calls) echo statement_cases ;;
         expansions) echo expansion_cases ;;
         prototypes | bindings | parameter_values) echo definition_cases ;;
+        definitions | defining_members | comparisons) echo definition_cases ;;
     esac
 }
 
@@ -37,9 +38,9 @@ compare() {
         return 1
     fi
     found=$("$program" "$1" < "$1.txt")
-    status=$?
+    answered=$?
     echo "$found" | sed "s/^/$1: /"
-    return $status
+    return $answered
 }
 
 if [ $# -eq 0 ]; then set -- *.txt; fi

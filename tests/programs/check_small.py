@@ -14,7 +14,7 @@ import tempfile
 HERE = os.path.dirname(os.path.realpath(__file__))
 LINT = os.path.normpath(os.path.join(HERE, "../../clients/hlasm-lint"))
 BUILT = os.path.normpath(os.path.join(HERE, "../../crates/hlasm_ls/out/hlasm_ls"))
-TABLES = ["open_code"]
+TABLES = ["open_code", "macros"]
 
 
 class Case:

@@ -1,5 +1,5 @@
 -- The first answer to a key, one noted pair after the other.
-use Rattle.std.proofs.Common.{◌≡◌, ◌∙◌, ◌+◌, ◌<◌, ◌≤◌, ℕ, cond, List, length, get_or, drop, Some, None, ap, drop_of_length-le}
+use Rattle.std.proofs.Common.{◌≡◌, ◌∙◌, ◌+◌, ◌<◌, ◌≤◌, ℕ, cond, List, length, get_or, drop, Some, None, refl, ap, sym, drop_of_length-le}
 use Rattle.std.specs.Option.{option_map}
 use Rattle.hl_base.specs.declared.set.Key.{Key}
 use Rattle.kept_values.specs.Trees.{same_tree, look_up}
@@ -8,10 +8,18 @@ use Rattle.kept_values.proofs.TreeLaws.{same_tree-same, same_tree-other}
 use Rattle.asking_core.specs.declared.footprint.Noted.{Noted}
 use Rattle.asking_core.specs.Places.{pairs_of}
 use Rattle.question_trees.specs.Answers.{answer_in}
-use Rattle.call_sites.specs.Values.{known_tree}
+use Rattle.question_trees.proofs.ReadBack.{answer_back}
+use Rattle.call_sites.specs.Values.{known_tree, told_of}
 use Rattle.call_sites.specs.declared.known.Known.{Known}
+use Rattle.call_sites.specs.declared.known.Known.TheVariants as known
 use Rattle.call_knowledge.specs.Tellings.{answers_of}
 use Rattle.call_knowledge.proofs.ListLaws.{item-at}
+
+-- what expressions are told of what is known is what is read from its tree
+pub told_back : (k : Known) → told_of k ≡ answer_in (known_tree k)
+told_back (known.Plain answer) = sym (answer_back answer)
+told_back (known.Macro content) = refl
+told_back (known.Member member) = refl
 
 -- a pair of the key itself
 pub answer-found : (ns : List (Noted Key Known)) (i : ℕ) (n : Noted Key Known) (key : Key) → i < length ns → n ≡ get_or ns i n →

@@ -103,14 +103,12 @@ fn local_value(
     }
 }
 
-/// The answer that is known.
-#[tactic(auto, using(question_trees::proofs::ReadBack::answer_back))]
+/// The answer that expressions are told.
+#[tactic(auto, using(crate::proofs::TellingLaws::told_back))]
 fn told(known: &Known) -> &Answer
     ensures { result.now ≡ answer_in (known_tree known.now) }
 {
-    match known {
-        Known::Plain(answer) => answer,
-    }
+    known.answer()
 }
 
 /// The first answer to a key that was noted.

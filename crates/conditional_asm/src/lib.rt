@@ -30,6 +30,7 @@ pub use conditional_fields::{ago, declarations, ended};
 pub use generating::defined;
 pub use laws::{effects_are_asked, effects_stay};
 pub use performing::{doing, effect, perform};
+pub use repeating::once;
 pub use statement_reading::{
     Body, Choices, Entry, Fields, Goto, Instruction, Known, Message, Piece, ReadStatement,
     Selector, Setting, Task, Template, Varying, is_generated, is_lasting, read_body, task_of,

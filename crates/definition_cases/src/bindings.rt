@@ -29,7 +29,7 @@ fn parameter(alloc: Global, parameter: &Parameter) -> Result<String, OutOfMemory
 }
 
 /// Adds the parameters of a prototype.
-fn push_parameters(
+pub fn push_parameters(
     alloc: Global,
     line: &mut String,
     parameters: &Parameters,
@@ -70,7 +70,7 @@ fn push_bounds(alloc: Global, line: &mut String, binding: &Binding) -> Result<()
 }
 
 /// The text of a note with its code.
-fn noted(alloc: Global, note: &Note) -> Result<String, OutOfMemory> {
+pub fn noted(alloc: Global, note: &Note) -> Result<String, OutOfMemory> {
     let (code, text) = (note.code, note.text.as_str());
     Ok(format!(in alloc; "H{code}: {text}")?)
 }

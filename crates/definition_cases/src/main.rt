@@ -1,4 +1,4 @@
-//! Compares tables of cases with what `macro_binding` answers: `definition_cases TABLE` reads the cases of
+//! Compares tables of cases with what `macro_binding` and `macro_library` answer: `definition_cases TABLE` reads the cases of
 //! one table from standard input, prints each whose answer differs, and at the end `N passed, M failed`.
 //!
 //! tests/cases/README.md says what each table reads. What the crates promise stands on their own functions; here is only
@@ -6,6 +6,9 @@
 #![tactic(auto)]
 
 mod bindings;
+mod comparisons;
+mod definitions;
+mod listings;
 mod tables;
 mod words;
 

@@ -1,5 +1,5 @@
 //! The tables by their words.
-use crate::bindings;
+use crate::{bindings, comparisons, definitions};
 use case_lines::CaseTable;
 use hl_base::OutOfMemory;
 use std::alloc::Global;
@@ -15,6 +15,15 @@ pub enum Table {
 
     /// What a variable symbol is worth in a call.
     ParameterValues,
+
+    /// What begins at a MACRO.
+    Definitions,
+
+    /// Whether a member defines an operation.
+    DefiningMembers,
+
+    /// Whether two definitions are the same.
+    Comparisons,
 }
 
 /// What is answered where the fields are not those of the table.
@@ -44,12 +53,23 @@ fn answer_to_call(
     }
 }
 
+/// What is answered to the text of a member and an operation.
+fn answer_to_member(alloc: Global, written: &str, rest: &[String]) -> Result<String, OutOfMemory> {
+    match rest {
+        [operation] => definitions::defining(alloc, written, operation.as_str()),
+        _ => other_fields(alloc),
+    }
+}
+
 impl CaseTable for Table {
     fn named(word: &str) -> Option<Table> {
         match word {
             "prototypes" => Some(Table::Prototypes),
             "bindings" => Some(Table::Bindings),
             "parameter_values" => Some(Table::ParameterValues),
+            "definitions" => Some(Table::Definitions),
+            "defining_members" => Some(Table::DefiningMembers),
+            "comparisons" => Some(Table::Comparisons),
             _ => None,
         }
     }
@@ -63,6 +83,9 @@ impl CaseTable for Table {
             Table::Bindings | Table::ParameterValues => {
                 answer_to_call(alloc, *self, text.as_str(), rest)
             }
+            Table::Definitions => definitions::definitions(alloc, text.as_str(), rest),
+            Table::DefiningMembers => answer_to_member(alloc, text.as_str(), rest),
+            Table::Comparisons => comparisons::comparisons(alloc, fields),
         }
     }
 }

@@ -25,7 +25,7 @@ whole_completes status b w0 w1 l0 l1 h0 h1 plain answer = (
   plain.asked,
   λ bytes replies wanted count told out.
       let whole = answer bytes told in
-      let same = one_out (beginning_with b plain.waits) 0 [] bytes whole.replies replies status wanted (length plain.taken) count whole.out out in
+      let same = one_out (beginning_with b plain.waits []) 0 bytes whole.replies replies status wanted (length plain.taken) count whole.out out in
       inr (
         same.1,
         subst (λ n. l1 ≡ Some (drop n bytes)) same.2 (left_now l0 l1 plain.taken bytes plain.read told),

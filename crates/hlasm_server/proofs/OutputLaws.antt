@@ -1,12 +1,18 @@
 -- Laws of what a run writes and answers: there is one answer for each input, and only one.
-use Rattle.std.proofs.Common.{◌≡◌, ℕ, ◌+◌, ◌-◌, ◌<◌, ◌≤◌, Bool, true, false, List, [], ◌∷◌, ◌++◌, length, take, drop, ◌⊎◌, inl, inr, refl, sym, ap, ◌∙◌, subst, arith, length-append, append_assoc, append-nil}
+use Rattle.std.proofs.Common.{◌≡◌, ℕ, zero, suc, ◌+◌, ◌-◌, ◌<◌, ◌≤◌, Bool, true, false, if◌then◌else◌, List, [], ◌∷◌, ◌++◌, length, take, drop, ◌⊎◌, inl, inr, refl, sym, ap, ◌∙◌, subst, arith, length-append, append_assoc, append-nil}
 use Rattle.std.proofs.lemmas.Bool.{cases_lt}
 use Rattle.std.proofs.lemmas.List.{take-append-drop, take-append-le, take-take, length-drop}
-use Rattle.io_edge.specs.LibraryCall.{LibraryCall}
+use Rattle.session_core.specs.declared.phase.Phase.{Phase}
+use Rattle.session_core.specs.declared.phase.Phase.TheVariants as phase
+use Rattle.session_core.specs.Held.{phase_of}
+use Rattle.session_core.specs.Message.{event}
+use Rattle.session_core.specs.State.{State}
+use Rattle.session_core.specs.Turn.{turn}
 use Rattle.rpc_framing.specs.Frames.{IsFrame, IsFrames, IsPartial, IsBadStart}
 use Rattle.hlasm_server.specs.declared.status.Status.{Status}
 use Rattle.hlasm_server.specs.declared.status.Status.TheVariants.{Done, NoShutdown, InputEnded, OutOfMemory, ReadFault, WriteFault, BadFrame, BadWords, InputTooLong}
-use Rattle.hlasm_server.specs.Hearing.{Running, Heard, Goes, Ends, hear}
+use Rattle.hlasm_server.specs.Hearing.{Running, Heard, Goes, Ends, Lacks, Differs, hear, heard_in, none_made, behind, turns, following}
+use Rattle.hlasm_server.specs.Waiting.{is_held, unasked, one_more as one_message_more}
 use Rattle.hlasm_server.specs.Output.{Leads, Meets, most_input, EndsAt, Out}
 use Rattle.rpc_framing.proofs.Lists.{take-past}
 use Rattle.rpc_framing.proofs.FrameLaws.{IsFrame-unique, IsPartial-no_frame, IsPartial-take, BeginsFrames-IsPartial, IsBadStart-unique, HasNoFrame-IsBadStart}
@@ -86,6 +92,8 @@ abbrev pub brings : Heard → Status
 brings (Goes next first) = BadWords
 brings (Ends true) = Done
 brings (Ends false) = NoShutdown
+brings (Lacks bodies) = BadWords
+brings Differs = BadWords
 
 -- Why a session ends where it stands open: by the next frame, by the input's end, by a bad start, or by the most that
 -- is taken.
@@ -194,10 +202,10 @@ one_reading (b' ∷ bs) (c ∷ cs) s t v before f g x y ra rb u w a b (first, ot
     (all ∙ ap (λ z. z ++ more) same_said ∙ ap (λ z. said' ++ z) behind.0 ∙ sym all', behind.1, omega (arith, behind.2))
 
 -- one output, one status and one count for an input
-pub one_out : (from : Running) (before : ℕ) (calls : List LibraryCall) (bytes : List ℕ) (replies others : List (List ℕ)) (status other : Status) (taken count : ℕ)
-    → Out from before calls bytes replies status taken → Out from before calls bytes others other count
+pub one_out : (from : Running) (before : ℕ) (bytes : List ℕ) (replies others : List (List ℕ)) (status other : Status) (taken count : ℕ)
+    → Out from before bytes replies status taken → Out from before bytes others other count
     → (replies ≡ others) × (status ≡ other) × (taken ≡ count)
-one_out from before calls bytes replies others status other taken count p q =
+one_out from before bytes replies others status other taken count p q =
     let one = p.count in
     let two = q.count in
     let room = p.within in
@@ -208,21 +216,45 @@ one_out from before calls bytes replies others status other taken count p q =
 
 -- ---- some answer
 
--- the session goes on, or is at its end
-pub data Effect (heard : Heard) : Type 0 where
-  going : (next : Running) (first : List (List ℕ)) → heard ≡ Goes next first → Effect heard
-  ending : (closed : Bool) → heard ≡ Ends closed → Effect heard
+-- Turns leave the calls of the library that are to come
+turns_keep : (n : ℕ) (r : Running) → (turns n r).next.calls ≡ r.calls
+turns_keep zero r = refl
+turns_keep (suc n) r = by_held (is_held r.since r.waits) (turns_keep n after) where
+  after : Running
+  after = record r { state = (turn r.state).state; waits = unasked r.since r.waits; since = 0 }
 
-pub effect_of : (heard : Heard) → Effect heard
-effect_of (Goes next first) = going next first refl
-effect_of (Ends closed) = ending closed refl
+  by_held : (b : Bool) → (turns n after).next.calls ≡ r.calls
+      → (if b then none_made (record r { waits = unasked r.since r.waits }) else behind (turn r.state).bodies (turns n after)).next.calls ≡ r.calls
+  by_held true behind_it = refl
+  by_held false behind_it = behind_it
+
+-- the session goes on, with all calls of the library that were to come, or is at its end
+pub data Effect (s : Running) (heard : Heard) : Type 0 where
+  going : (next : Running) (first : List (List ℕ)) → heard ≡ Goes next first → next.calls ≡ s.calls → Effect s heard
+  ending : (closed : Bool) → heard ≡ Ends closed → Effect s heard
+
+pub effect_of : (s : Running) (body : List ℕ) → Effect s (hear s body)
+unfolding hear
+effect_of s body = by_phase (phase_of (event s.state body).state) refl where
+  now : State
+  now = (event s.state body).state
+
+  bodies : List (List ℕ)
+  bodies = (event s.state body).bodies
+
+  after : Running
+  after = record { state = now; waits = s.waits; calls = s.calls; since = one_message_more s.since }
+
+  by_phase : (p : Phase) → phase_of now ≡ p → Effect s (heard_in (phase_of now) s now bodies s.calls)
+  by_phase phase.Running e = going (following after).next (bodies ++ (following after).bodies) (ap (λ p. heard_in p s now bodies s.calls) e) (turns_keep (length now.queue) after)
+  by_phase (phase.Exit closed) e = ending closed (ap (λ p. heard_in p s now bodies s.calls) e)
 
 -- there is an output of this input
 pub record SomeOut (from : Running) (before : ℕ) (bytes : List ℕ) : Type 0 where
   pub replies : List (List ℕ)
   pub status : Status
   pub taken : ℕ
-  pub out : Out from before [] bytes replies status taken
+  pub out : Out from before bytes replies status taken
 
 pub Leads-append : (bs cs : List (List ℕ)) (s t v : Running) (first rest : List (List ℕ)) → Leads s bs t first → Leads t cs v rest → Leads s (bs ++ cs) v (first ++ rest)
 Leads-append [] cs s t v first rest p q =
@@ -232,9 +264,9 @@ Leads-append (b ∷ bs) cs s t v first rest (next, said, more, goes, on, all) q 
     (next, said, more ++ rest, goes, Leads-append bs cs next t v more rest on q, ap (λ z. z ++ rest) all ∙ append_assoc said more rest)
 
 -- what was heard before goes before
-pub Out-behind : (bs : List (List ℕ)) (s t : Running) (before : ℕ) (calls : List LibraryCall) (front bytes : List ℕ) (first rest : List (List ℕ)) (status : Status) (taken : ℕ)
-    → IsFrames front bs → Leads s bs t first → Out t (before + length front) calls bytes rest status taken → Out s before calls (front ++ bytes) (first ++ rest) status (length front + taken)
-Out-behind bs s t before calls front bytes first rest status taken p l o = record {
+pub Out-behind : (bs : List (List ℕ)) (s t : Running) (before : ℕ) (front bytes : List ℕ) (first rest : List (List ℕ)) (status : Status) (taken : ℕ)
+    → IsFrames front bs → Leads s bs t first → Out t (before + length front) bytes rest status taken → Out s before (front ++ bytes) (first ++ rest) status (length front + taken)
+Out-behind bs s t before front bytes first rest status taken p l o = record {
   front = front ++ o.front;
   bodies = bs ++ o.bodies;
   tail = o.tail;
@@ -251,8 +283,8 @@ Out-behind bs s t before calls front bytes first rest status taken p l o = recor
 }
 
 -- the session ends with the next thing that happens
-pub Out-here : (s : Running) (before : ℕ) (bytes : List ℕ) (status : Status) (taken : ℕ) → before + taken ≤ most_input → EndsAt s before bytes status taken → Out s before [] bytes [] status taken
-Out-here s before bytes status taken room end = record {
+pub Out-here : (s : Running) (before : ℕ) (bytes : List ℕ) (status : Status) (taken : ℕ) → s.calls ≡ [] → before + taken ≤ most_input → EndsAt s before bytes status taken → Out s before bytes [] status taken
+Out-here s before bytes status taken none room end = record {
   front = [];
   bodies = [];
   tail = bytes;
@@ -264,12 +296,12 @@ Out-here s before bytes status taken room end = record {
   ends = let at : before ≡ before + 0 = omega arith in subst (λ k. EndsAt s k bytes status taken) at end;
   count = omega arith;
   within = room;
-  none_left = refl;
+  none_left = none;
 }
 
 -- all was taken that may be
-pub out_at_limit : (s : Running) (before : ℕ) (bytes : List ℕ) (taken : ℕ) → IsPartial (take taken bytes) → taken ≤ length bytes → before + taken ≡ most_input → SomeOut s before bytes
-out_at_limit s before bytes taken partial le most = record { replies = []; status = InputTooLong; taken = taken; out = Out-here s before bytes InputTooLong taken (omega arith) (partial, le, most) }
+pub out_at_limit : (s : Running) (before : ℕ) (bytes : List ℕ) (taken : ℕ) → s.calls ≡ [] → IsPartial (take taken bytes) → taken ≤ length bytes → before + taken ≡ most_input → SomeOut s before bytes
+out_at_limit s before bytes taken none partial le most = record { replies = []; status = InputTooLong; taken = taken; out = Out-here s before bytes InputTooLong taken none (omega arith) (partial, le, most) }
 
 -- one frame and what comes behind it
 pub one_more : (b : List ℕ) (s t : Running) (before : ℕ) (f bytes : List ℕ) (first : List (List ℕ)) → IsFrame f b → hear s b ≡ Goes t first → SomeOut t (before + length f) bytes → SomeOut s before (f ++ bytes)
@@ -279,7 +311,7 @@ one_more b s t before f bytes first p goes o = record {
   taken = length f + o.taken;
   out = let frames : IsFrames f (b ∷ []) = (f, [], p, refl, sym (append-nil f)) in
       let leads : Leads s (b ∷ []) t first = (t, first, [], goes, (refl, refl), sym (append-nil first)) in
-      Out-behind (b ∷ []) s t before [] f bytes first o.replies o.status o.taken frames leads o.out;
+      Out-behind (b ∷ []) s t before f bytes first o.replies o.status o.taken frames leads o.out;
 }
 
 -- a frame whose body comes to this
@@ -287,42 +319,42 @@ pub met_frame : (b : List ℕ) (s : Running) (f bytes : List ℕ) (heard : Heard
 met_frame b s f bytes heard p e = record { bytes = f; body = b; rest = bytes; whole = refl; is_frame = p; effect = e; place = refl }
 
 -- a frame that passes what may be taken
-out_past : (b : List ℕ) (s : Running) (before : ℕ) (f bytes : List ℕ) → IsFrame f b → before ≤ most_input → most_input < before + length f → SomeOut s before (f ++ bytes)
-out_past b s before f bytes is room past =
+out_past : (b : List ℕ) (s : Running) (before : ℕ) (f bytes : List ℕ) → s.calls ≡ [] → IsFrame f b → before ≤ most_input → most_input < before + length f → SomeOut s before (f ++ bytes)
+out_past b s before f bytes none is room past =
     let k : ℕ = most_input - before in
     let less : k < length f = omega arith in
     let same : take k (f ++ bytes) ≡ take k f = take-append-le k f bytes (omega arith) in
-    out_at_limit s before (f ++ bytes) k (subst IsPartial (sym same) (front_is_partial f b k is less)) (omega (arith, length-append f bytes)) (omega arith)
+    out_at_limit s before (f ++ bytes) k none (subst IsPartial (sym same) (front_is_partial f b k is less)) (omega (arith, length-append f bytes)) (omega arith)
 
 -- less than a whole frame
-out_of_partial : (s : Running) (before : ℕ) (tail : List ℕ) → before ≤ most_input → IsPartial tail → SomeOut s before tail
-out_of_partial s before tail room partial = elim (cases_lt (before + length tail) most_input) [
-  | inl few ↦ record { replies = []; status = InputEnded; taken = length tail; out = Out-here s before tail InputEnded (length tail) (omega arith) (partial, refl, few) }
-  | inr many ↦ out_at_limit s before tail (most_input - before) (IsPartial-take (most_input - before) tail partial) (omega arith) (omega arith)
+out_of_partial : (s : Running) (before : ℕ) (tail : List ℕ) → s.calls ≡ [] → before ≤ most_input → IsPartial tail → SomeOut s before tail
+out_of_partial s before tail none room partial = elim (cases_lt (before + length tail) most_input) [
+  | inl few ↦ record { replies = []; status = InputEnded; taken = length tail; out = Out-here s before tail InputEnded (length tail) none (omega arith) (partial, refl, few) }
+  | inr many ↦ out_at_limit s before tail (most_input - before) none (IsPartial-take (most_input - before) tail partial) (omega arith) (omega arith)
 ]
 
 -- a bad start
-out_of_bad : (s : Running) (before : ℕ) (tail : List ℕ) (at : ℕ) → before ≤ most_input → IsBadStart tail at → SomeOut s before tail
-out_of_bad s before tail at room bad = elim (cases_lt most_input (before + at)) [
-  | inr within ↦ record { replies = []; status = BadFrame (before + at); taken = at; out = Out-here s before tail (BadFrame (before + at)) at within (bad, refl) }
-  | inl past ↦ let long = bad.within in out_at_limit s before tail (most_input - before) (short_of_bad tail at (most_input - before) bad (omega arith)) (omega arith) (omega arith)
+out_of_bad : (s : Running) (before : ℕ) (tail : List ℕ) (at : ℕ) → s.calls ≡ [] → before ≤ most_input → IsBadStart tail at → SomeOut s before tail
+out_of_bad s before tail at none room bad = elim (cases_lt most_input (before + at)) [
+  | inr within ↦ record { replies = []; status = BadFrame (before + at); taken = at; out = Out-here s before tail (BadFrame (before + at)) at none within (bad, refl) }
+  | inl past ↦ let long = bad.within in out_at_limit s before tail (most_input - before) none (short_of_bad tail at (most_input - before) bad (omega arith)) (omega arith) (omega arith)
 ]
 
-walk : (bs : List (List ℕ)) (s : Running) (before : ℕ) (front tail : List ℕ) → before ≤ most_input → IsFrames front bs → IsPartial tail ⊎ ((at : ℕ) × IsBadStart tail at) → SomeOut s before (front ++ tail)
-walk [] s before front tail room p (inl partial) = subst (λ z. SomeOut s before (z ++ tail)) (sym p) (out_of_partial s before tail room partial)
-walk [] s before front tail room p (inr (at, bad)) = subst (λ z. SomeOut s before (z ++ tail)) (sym p) (out_of_bad s before tail at room bad)
-walk (b ∷ bs) s before front tail room (f, rest, is, frames, cut) t =
+walk : (bs : List (List ℕ)) (s : Running) (before : ℕ) (front tail : List ℕ) → s.calls ≡ [] → before ≤ most_input → IsFrames front bs → IsPartial tail ⊎ ((at : ℕ) × IsBadStart tail at) → SomeOut s before (front ++ tail)
+walk [] s before front tail none room p (inl partial) = subst (λ z. SomeOut s before (z ++ tail)) (sym p) (out_of_partial s before tail none room partial)
+walk [] s before front tail none room p (inr (at, bad)) = subst (λ z. SomeOut s before (z ++ tail)) (sym p) (out_of_bad s before tail at none room bad)
+walk (b ∷ bs) s before front tail none room (f, rest, is, frames, cut) t =
     let reads : f ++ (rest ++ tail) ≡ front ++ tail = sym (append_assoc f rest tail) ∙ sym (ap (λ z. z ++ tail) cut) in
     subst (SomeOut s before) reads (elim (cases_lt most_input (before + length f)) [
-      | inl past ↦ out_past b s before f (rest ++ tail) is room past
-      | inr within ↦ elim (effect_of (hear s b)) [
-        | going next first goes ↦ one_more b s next before f (rest ++ tail) first is goes (walk bs next (before + length f) rest tail within frames t)
-        | ending closed ends ↦ record { replies = []; status = brings (Ends closed); taken = length f; out = Out-here s before (f ++ (rest ++ tail)) (brings (Ends closed)) (length f) within (ends_by_frame closed s before (f ++ (rest ++ tail)) (length f) (met_frame b s f (rest ++ tail) (Ends closed) is ends)) }
+      | inl past ↦ out_past b s before f (rest ++ tail) none is room past
+      | inr within ↦ elim (effect_of s b) [
+        | going next first goes same ↦ one_more b s next before f (rest ++ tail) first is goes (walk bs next (before + length f) rest tail (same ∙ none) within frames t)
+        | ending closed ends ↦ record { replies = []; status = brings (Ends closed); taken = length f; out = Out-here s before (f ++ (rest ++ tail)) (brings (Ends closed)) (length f) none within (ends_by_frame closed s before (f ++ (rest ++ tail)) (length f) (met_frame b s f (rest ++ tail) (Ends closed) is ends)) }
       ]
     ])
 
 -- each input has an output, wherever the session stands
-pub some_out : (s : Running) (before : ℕ) (bytes : List ℕ) → before ≤ most_input → SomeOut s before bytes
-some_out s before bytes room =
+pub some_out : (s : Running) (before : ℕ) (bytes : List ℕ) → s.calls ≡ [] → before ≤ most_input → SomeOut s before bytes
+some_out s before bytes none room =
     let p = parts bytes in
-    subst (SomeOut s before) (sym p.whole) (walk p.bodies s before p.front p.tail room p.frames p.tail_is)
+    subst (SomeOut s before) (sym p.whole) (walk p.bodies s before p.front p.tail none room p.frames p.tail_is)

@@ -11,10 +11,10 @@ use Rattle.session_core.specs.declared.phase.Phase.{Phase}
 use Rattle.session_core.specs.declared.phase.Phase.TheVariants.{Running as StillRunning, Exit}
 use Rattle.session_core.specs.Diagnostics.{diagnostics_of}
 use Rattle.session_core.specs.State.{State, document_at, last_list}
-use Rattle.session_core.specs.Step.{Step, quiet, says, written}
+use Rattle.session_core.specs.Step.{Effect, quiet, says, written}
 use Rattle.session_core.specs.Turn.{is_published, turn_at, without_first, turn_of, assemble_first, turn}
-use Rattle.session_core.specs.Message.{message}
-use Rattle.session_core.specs.Held.{Held, phase_of}
+use Rattle.session_core.specs.Message.{event}
+use Rattle.session_core.specs.Held.{Held, phase_of, Moves}
 use Rattle.hlasm_server.specs.Hearing.{Running, at_rest, Made, none_made, behind, turns, following, Heard, Ends, goes_on, heard_in, hear, said}
 use Rattle.hlasm_server.specs.Sending.{PutsFront, PutsFirst, PutsUntil, IsReady, Follows, StopsFollowing, GoesOn, Closes, StopsHearing}
 use Rattle.hlasm_server.specs.Waiting.{one_more, is_held, unasked, Asked, Asks}
@@ -82,21 +82,21 @@ turn_leaves s some = turn_of_leaves s s.queue refl some
 -- ---- an event
 
 -- an event that came to a step, of a session whose output was taken
-pub record Came (step : Step) (now : Held) : Type 0 where
+pub record Came (step : Effect) (now : Held) : Type 0 where
   pub state : now.state ≡ step.state
   pub output : now.output ≡ written step.bodies
   pub sound : now.spent ≡ false
 
-pub came : (step : Step) (before now : Held) → IsReady before
-    → (before.spent ≡ false) × (now ≡ record { state = step.state; output = before.output ++ written step.bodies; spent = false }) → Came step now
-came step before now ready comes = record {
-  state = ap (λ (h : Held). h.state) comes.1;
-  output = ap (λ (h : Held). h.output) comes.1 ∙ ap (λ z. z ++ written step.bodies) ready.empty;
-  sound = ap (λ (h : Held). h.spent) comes.1;
+pub came : (step : Effect) (before now : Held) → IsReady before
+    → Moves step.state step.bodies before now → Came step now
+came step before now ready moves = record {
+  state = moves.state_is;
+  output = moves.output_is ∙ ap (λ z. z ++ written step.bodies) ready.empty;
+  sound = moves.sound_still;
 }
 
 -- its output is taken
-pub ready_again : (step : Step) (s t : Held) → Came step s → t ≡ record s { output = [] } → IsReady t × (t.state ≡ step.state)
+pub ready_again : (step : Effect) (s t : Held) → Came step s → t ≡ record s { output = [] } → IsReady t × (t.state ≡ step.state)
 ready_again step s t came is = (
   record { sound = ap (λ (h : Held). h.spent) is ∙ came.sound; empty = ap (λ (h : Held). h.output) is },
   ap (λ (h : Held). h.state) is ∙ came.state,
@@ -235,17 +235,17 @@ turning_breaks s0 s1 s2 n0 n1 w0 w1 w2 h0 h1 h2 f0 f1 turning some asks came fro
 -- ---- one message
 
 -- what a message comes to whose step goes on
-hear-Running : (s : State) (w : List Bool) (n : ℕ) (body : List ℕ) → phase_of (message s body []).state ≡ StillRunning
-    → hear (at_rest s w n) body ≡ goes_on (message s body []).bodies (following (at_rest (message s body []).state w (one_more n)))
+hear-Running : (s : State) (w : List Bool) (n : ℕ) (body : List ℕ) → phase_of (event s body).state ≡ StillRunning
+    → hear (at_rest s w n) body ≡ goes_on (event s body).bodies (following (at_rest (event s body).state w (one_more n)))
 unfolding hear
-hear-Running s w n body is = ap (λ (p : Phase). heard_in p (at_rest s w n) (message s body [])) is
+hear-Running s w n body is = ap (λ (p : Phase). heard_in p (at_rest s w n) (event s body).state (event s body).bodies []) is
 
-hear-Exit : (s : State) (w : List Bool) (n : ℕ) (body : List ℕ) (closed : Bool) → phase_of (message s body []).state ≡ Exit closed → hear (at_rest s w n) body ≡ Ends closed
+hear-Exit : (s : State) (w : List Bool) (n : ℕ) (body : List ℕ) (closed : Bool) → phase_of (event s body).state ≡ Exit closed → hear (at_rest s w n) body ≡ Ends closed
 unfolding hear
-hear-Exit s w n body closed is = ap (λ (p : Phase). heard_in p (at_rest s w n) (message s body [])) is
+hear-Exit s w n body closed is = ap (λ (p : Phase). heard_in p (at_rest s w n) (event s body).state (event s body).bodies []) is
 
 -- the phase that is answered is that of the step
-phase_is : (step : Step) (now : Held) (phase : Phase) → Came step now → phase ≡ phase_of now.state → phase_of step.state ≡ phase
+phase_is : (step : Effect) (now : Held) (phase : Phase) → Came step now → phase ≡ phase_of now.state → phase_of step.state ≡ phase
 phase_is step now phase came is = ap phase_of (sym came.state) ∙ sym is
 
 -- before anything was written
@@ -253,19 +253,19 @@ pub stopped_before : (s : State) (n : ℕ) (body : List ℕ) (w : Option (List B
 stopped_before s n body w h = record { answers = []; asked = refl; put = ([], said (hear (at_rest s [] n) body), refl, Gains-nil h) }
 
 -- the session is at its end
-pub heard_end : (s : State) (n : ℕ) (body : List ℕ) (closed : Bool) (now : Held) (w : Option (List Bool)) (h : Option (List ℕ)) → Came (message s body []) now → Exit closed ≡ phase_of now.state
+pub heard_end : (s : State) (n : ℕ) (body : List ℕ) (closed : Bool) (now : Held) (w : Option (List Bool)) (h : Option (List ℕ)) → Came (event s body) now → Exit closed ≡ phase_of now.state
     → Closes s n body closed w w h h
 heard_end s n body closed now w h came is = record {
-  heard = λ waits. hear-Exit s waits n body closed (phase_is (message s body []) now (Exit closed) came is);
+  heard = λ waits. hear-Exit s waits n body closed (phase_is (event s body) now (Exit closed) came is);
   asked = refl;
   sent = refl;
 }
 
 -- the message itself could not all be written
-pub broken_before_turns : (s : State) (n : ℕ) (body : List ℕ) (now : Held) (w : Option (List Bool)) (h0 h1 : Option (List ℕ)) → Came (message s body []) now → StillRunning ≡ phase_of now.state
+pub broken_before_turns : (s : State) (n : ℕ) (body : List ℕ) (now : Held) (w : Option (List Bool)) (h0 h1 : Option (List ℕ)) → Came (event s body) now → StillRunning ≡ phase_of now.state
     → PutsFront h0 now.output h1 → StopsHearing stop.WriteFault s n body w w h0 h1
 broken_before_turns s n body now w h0 h1 came is front =
-    let step = message s body [] in
+    let step = event s body in
     let others = (following (at_rest step.state [] (one_more n))).bodies in
     let goes = hear-Running s [] n body (phase_is step now StillRunning came is) in
     let here : PutsFront h0 (written step.bodies) h1 = subst (λ z. PutsFront h0 z h1) came.output front in
@@ -274,10 +274,10 @@ broken_before_turns s n body now w h0 h1 came is front =
     record { answers = []; asked = refl; put = subst (λ (z : Heard). PutsFront h0 (written (said z)) h1) (sym goes) more }
 
 -- a Turn could not be made, or what it publishes not all be written
-pub broken_in_turns : (e : Stop) (s : State) (n : ℕ) (body : List ℕ) (now after : Held) (w0 w1 : Option (List Bool)) (h0 h1 h2 : Option (List ℕ)) → Came (message s body []) now
+pub broken_in_turns : (e : Stop) (s : State) (n : ℕ) (body : List ℕ) (now after : Held) (w0 w1 : Option (List Bool)) (h0 h1 h2 : Option (List ℕ)) → Came (event s body) now
     → StillRunning ≡ phase_of now.state → after ≡ record now { output = [] } → Gains h0 now.output h1 → StopsFollowing e after.state (one_more n) w0 w1 h1 h2 → StopsHearing e s n body w0 w1 h0 h2
 broken_in_turns e s n body now after w0 w1 h0 h1 h2 came is taken gains stops =
-    let step = message s body [] in
+    let step = event s body in
     let goes = hear-Running s stops.answers n body (phase_is step now StillRunning came is) in
     let again = ready_again step now after came taken in
     let sent : Gains h0 (written step.bodies) h1 = subst (λ z. Gains h0 z h1) came.output gains in
@@ -295,10 +295,10 @@ broken_in_turns e s n body now after w0 w1 h0 h1 h2 came is taken gains stops =
         subst (λ z. PutsFront h0 z h2) (sym (flat_map-append frame bodies more)) (PutsFront-behind (written bodies) (written more) h0 h1 h2 sent put)
 
 -- a message and the Turns that follow were written
-pub heard_whole : (s t : State) (n m : ℕ) (body : List ℕ) (now after : Held) (w0 w1 : Option (List Bool)) (h0 h1 h2 : Option (List ℕ)) → Came (message s body []) now
+pub heard_whole : (s t : State) (n m : ℕ) (body : List ℕ) (now after : Held) (w0 w1 : Option (List Bool)) (h0 h1 h2 : Option (List ℕ)) → Came (event s body) now
     → StillRunning ≡ phase_of now.state → after ≡ record now { output = [] } → Gains h0 now.output h1 → Follows after.state (one_more n) t m w0 w1 h1 h2 → GoesOn s n body t m w0 w1 h0 h2
 heard_whole s t n m body now after w0 w1 h0 h1 h2 came is taken gains follows =
-    let step = message s body [] in
+    let step = event s body in
     let again = ready_again step now after came taken in
     let sent : Gains h0 (written step.bodies) h1 = subst (λ z. Gains h0 z h1) came.output gains in
     record {

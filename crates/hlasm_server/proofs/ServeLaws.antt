@@ -16,7 +16,7 @@ use Rattle.session_core.specs.Step.{written}
 use Rattle.session_core.specs.Held.{Held, beginning}
 use Rattle.hlasm_server.specs.Hearing.{Running, Goes, Ends, at_rest, beginning_with, hear, said}
 use Rattle.hlasm_server.specs.Output.{Leads, most_input, EndsAt, Out}
-use Rattle.hlasm_server.specs.Headline.{Whole, IsAnswer, IsPlainRunWith, HasStatusCause}
+use Rattle.hlasm_server.specs.Headline.{Whole, FirstFrames, FirstBytes, IsAnswer, IsPlainRunWith, HasStatusCause}
 use Rattle.hlasm_server.specs.Status.{status_of}
 use Rattle.hlasm_server.specs.declared.sending.Stop.{Stop}
 use Rattle.hlasm_server.specs.declared.sending.Stop.TheVariants as stop
@@ -35,7 +35,7 @@ pub record IsServing (budget : ℕ) (left_before left_now held_before held_now :
   pub answers : List Bool
   pub asked : Asked waits_before answers waits_now
   pub whole : IsFrames front bodies
-  pub heard : (more : List Bool) → Leads (beginning_with budget (answers ++ more)) bodies (at_rest session.state more since) replies
+  pub heard : (more : List Bool) → Leads (beginning_with budget (answers ++ more) []) bodies (at_rest session.state more since) replies
   pub ready : IsReady session
   pub read : Gives left_before front left_now
   pub wrote : Gains held_before (written replies) held_now
@@ -66,33 +66,33 @@ took_all before (Some rest) taken bytes gives end told =
 
 -- what was heard before, and an end
 whole_at : (from s : Running) (bodies : List (List ℕ)) (front tail : List ℕ) (replies : List (List ℕ)) (status : Status) (place : ℕ)
-    → IsFrames front bodies → Leads from bodies s replies → length front + place ≤ most_input → EndsAt s (length front) tail status place
-    → Out from 0 [] (front ++ tail) replies status (length front + place)
-whole_at from s bodies front tail replies status place frames leads room end =
+    → IsFrames front bodies → Leads from bodies s replies → s.calls ≡ [] → length front + place ≤ most_input → EndsAt s (length front) tail status place
+    → Out from 0 (front ++ tail) replies status (length front + place)
+whole_at from s bodies front tail replies status place frames leads none room end =
     let first : length front ≡ 0 + length front = omega arith in
     let end_here : EndsAt s (0 + length front) tail status place = subst (λ k. EndsAt s k tail status place) first end in
-    let here : Out s (0 + length front) [] tail [] status place = Out-here s (0 + length front) tail status place (omega arith) end_here in
-    subst (λ z. Out from 0 [] (front ++ tail) z status (length front + place)) (append-nil replies)
-    (Out-behind bodies from s 0 [] front tail replies [] status place frames leads here)
+    let here : Out s (0 + length front) tail [] status place = Out-here s (0 + length front) tail status place none (omega arith) end_here in
+    subst (λ z. Out from 0 (front ++ tail) z status (length front + place)) (append-nil replies)
+    (Out-behind bodies from s 0 front tail replies [] status place frames leads here)
 
 -- what was heard before, and some output of what follows
 out_at : (from s : Running) (bodies : List (List ℕ)) (front tail : List ℕ) (replies more : List (List ℕ)) (status : Status) (taken : ℕ)
-    → IsFrames front bodies → Leads from bodies s replies → Out s (0 + length front) [] tail more status taken
-    → Out from 0 [] (front ++ tail) (replies ++ more) status (length front + taken)
+    → IsFrames front bodies → Leads from bodies s replies → Out s (0 + length front) tail more status taken
+    → Out from 0 (front ++ tail) (replies ++ more) status (length front + taken)
 out_at from s bodies front tail replies more status taken frames leads o =
-    Out-behind bodies from s 0 [] front tail replies more status taken frames leads o
+    Out-behind bodies from s 0 front tail replies more status taken frames leads o
 
 -- a frame is next: an output that begins with what is written for its body
 pub record OutMeeting (s : Running) (before : ℕ) (tail body : List ℕ) : Type 0 where
   pub more : List (List ℕ)
   pub status : Status
   pub taken : ℕ
-  pub out : Out s before [] tail (said (hear s body) ++ more) status taken
+  pub out : Out s before tail (said (hear s body) ++ more) status taken
 
-out_meeting : (s : Running) (before : ℕ) (f rest body : List ℕ) → IsFrame f body → before + length f ≤ most_input → OutMeeting s before (f ++ rest) body
-out_meeting s before f rest body is room = elim (effect_of (hear s body)) [
-  | going next first goes ↦
-      let o = some_out next (before + length f) rest room in
+out_meeting : (s : Running) (before : ℕ) (f rest body : List ℕ) → s.calls ≡ [] → IsFrame f body → before + length f ≤ most_input → OutMeeting s before (f ++ rest) body
+out_meeting s before f rest body none is room = elim (effect_of s body) [
+  | going next first goes same ↦
+      let o = some_out next (before + length f) rest (same ∙ none) room in
       let says : first ≡ said (hear s body) = ap said (sym goes) in
       let frames : IsFrames f (body ∷ []) = IsFrames-one f body is in
       let leads : Leads s (body ∷ []) next first = (next, first, [], goes, (refl, refl), sym (append-nil first)) in
@@ -100,8 +100,8 @@ out_meeting s before f rest body is room = elim (effect_of (hear s body)) [
         more = o.replies;
         status = o.status;
         taken = length f + o.taken;
-        out = subst (λ z. Out s before [] (f ++ rest) (z ++ o.replies) o.status (length f + o.taken)) says
-            (Out-behind (body ∷ []) s next before [] f rest first o.replies o.status o.taken frames leads o.out);
+        out = subst (λ z. Out s before (f ++ rest) (z ++ o.replies) o.status (length f + o.taken)) says
+            (Out-behind (body ∷ []) s next before f rest first o.replies o.status o.taken frames leads o.out);
       }
   | ending closed ends ↦
       let says : [] ≡ said (hear s body) = ap said (sym ends) in
@@ -109,8 +109,8 @@ out_meeting s before f rest body is room = elim (effect_of (hear s body)) [
         more = [];
         status = brings (Ends closed);
         taken = length f;
-        out = subst (λ z. Out s before [] (f ++ rest) (z ++ []) (brings (Ends closed)) (length f)) says
-            (Out-here s before (f ++ rest) (brings (Ends closed)) (length f) room
+        out = subst (λ z. Out s before (f ++ rest) (z ++ []) (brings (Ends closed)) (length f)) says
+            (Out-here s before (f ++ rest) (brings (Ends closed)) (length f) none room
             (ends_by_frame closed s before (f ++ rest) (length f) (met_frame body s f rest (Ends closed) is ends)));
       }
 ]
@@ -166,8 +166,8 @@ serving_goes_on b l0 l1 l2 h0 h1 h2 w0 w1 w2 f0 f1 f2 k0 k1 k2 s t n m r q f bod
   asked = Asked-append w0 w1 w2 serving.answers goes.answers serving.asked goes.asked;
   whole = IsFrames-append serving.bodies (body ∷ []) serving.front f serving.whole (IsFrames-one f body is);
   ready = ready;
-  heard = λ more. subst (λ z. Leads (beginning_with b z) (serving.bodies ++ body ∷ []) (at_rest t.state more m) (serving.replies ++ goes.bodies)) (sym (append_assoc serving.answers goes.answers more))
-      (heard_more (beginning_with b (serving.answers ++ (goes.answers ++ more))) (at_rest s.state (goes.answers ++ more) n) (at_rest t.state more m) serving.bodies body serving.replies goes.bodies
+  heard = λ more. subst (λ z. Leads (beginning_with b z []) (serving.bodies ++ body ∷ []) (at_rest t.state more m) (serving.replies ++ goes.bodies)) (sym (append_assoc serving.answers goes.answers more))
+      (heard_more (beginning_with b (serving.answers ++ (goes.answers ++ more)) []) (at_rest s.state (goes.answers ++ more) n) (at_rest t.state more m) serving.bodies body serving.replies goes.bodies
       (serving.heard (goes.answers ++ more)) (goes.heard more));
   read = Gives-append l0 l1 l2 serving.front f serving.read gives;
   wrote = subst (λ z. Gains h0 z h2) (sym (flat_map-append frame serving.replies goes.bodies))
@@ -185,9 +185,9 @@ frame_falls fed more f body is sum room = let some = (length-IsFrame f body is).
 
 -- what was heard, with the answers that were given so far and no others
 heard_so_far : (b : ℕ) (l0 l1 h0 h1 : Option (List ℕ)) (w0 w1 : Option (List Bool)) (f0 f1 k0 k1 : ℕ) (s : Held) (n : ℕ) (r : Reading) (serving : IsServing b l0 l1 h0 h1 w0 w1 f0 f1 k0 k1 s n r)
-    → Leads (beginning_with b serving.answers) serving.bodies (at_rest s.state [] n) serving.replies
+    → Leads (beginning_with b serving.answers []) serving.bodies (at_rest s.state [] n) serving.replies
 heard_so_far b l0 l1 h0 h1 w0 w1 f0 f1 k0 k1 s n r serving =
-    subst (λ z. Leads (beginning_with b z) serving.bodies (at_rest s.state [] n) serving.replies) (append-nil serving.answers) (serving.heard [])
+    subst (λ z. Leads (beginning_with b z []) serving.bodies (at_rest s.state [] n) serving.replies) (append-nil serving.answers) (serving.heard [])
 
 -- ---- the ends
 
@@ -202,8 +202,8 @@ ends_within_frame b l0 l1 h0 h1 w0 w1 f0 f1 k0 k1 s n r t serving partial few =
     let so_far = heard_so_far b l0 l1 h0 h1 w0 w1 f0 f1 k0 k1 s n r serving in
     record {
       replies = serving.replies;
-      out = subst (Out (beginning_with b serving.answers) 0 [] (serving.front ++ t) serving.replies InputEnded) size
-          (whole_at (beginning_with b serving.answers) (at_rest s.state [] n) serving.bodies serving.front t serving.replies InputEnded (length t) serving.whole so_far (omega arith) (partial, refl, less));
+      out = subst (Out (beginning_with b serving.answers []) 0 (serving.front ++ t) serving.replies InputEnded) size
+          (whole_at (beginning_with b serving.answers []) (at_rest s.state [] n) serving.bodies serving.front t serving.replies InputEnded (length t) serving.whole so_far refl (omega arith) (partial, refl, less));
       all = refl;
     }
 
@@ -236,6 +236,23 @@ ends_with_read_fault b l0 l1 l2 h0 h1 w0 w1 f0 f1 k0 k1 s n r t serving gives pa
   answer = λ bytes told. ends_within_frame b l0 l1 h0 h1 w0 w1 f0 f1 k0 k1 s n r t serving partial few;
 }
 
+-- what was written so far answers these bytes, whatever follows
+frames_before : (b : ℕ) (l0 l1 h0 h1 : Option (List ℕ)) (w0 w1 : Option (List Bool)) (f0 f1 k0 k1 : ℕ) (s : Held) (n : ℕ) (r : Reading) (rest : List ℕ)
+    → (serving : IsServing b l0 l1 h0 h1 w0 w1 f0 f1 k0 k1 s n r) → FirstFrames b serving.answers [] (serving.front ++ rest) (written serving.replies)
+frames_before b l0 l1 h0 h1 w0 w1 f0 f1 k0 k1 s n r rest serving =
+    let fed = serving.fed in
+    let within = serving.within in
+    let o = some_out (at_rest s.state [] n) (0 + length serving.front) rest refl (omega arith) in
+    let so_far = heard_so_far b l0 l1 h0 h1 w0 w1 f0 f1 k0 k1 s n r serving in
+    record {
+      first = serving.replies;
+      others = o.replies;
+      status = o.status;
+      taken = length serving.front + o.taken;
+      out = out_at (beginning_with b serving.answers []) (at_rest s.state [] n) serving.bodies serving.front rest serving.replies o.replies o.status o.taken serving.whole so_far o.out;
+      all = refl;
+    }
+
 -- memory ran out before anything was written for the next message
 pub ends_without_memory : (b : ℕ) (l0 l1 l2 h0 h1 : Option (List ℕ)) (w0 w1 : Option (List Bool)) (f0 f1 k0 k1 : ℕ) (s : Held) (n : ℕ) (r : Reading) (t : List ℕ)
     → IsServing b l0 l1 h0 h1 w0 w1 f0 f1 k0 k1 s n r → Gives l1 t l2 → IsPlainRunWith b [] w0 w1 l0 l2 h0 h1 OutOfMemory
@@ -248,20 +265,10 @@ ends_without_memory b l0 l1 l2 h0 h1 w0 w1 f0 f1 k0 k1 s n r t serving gives = r
   wrote = serving.wrote;
   answer = λ bytes told.
       let there = took l0 l2 (serving.front ++ t) bytes (Gives-append l0 l1 l2 serving.front t serving.read gives) told in
-      let cut : serving.front ++ (t ++ there.rest) ≡ bytes = sym (append_assoc serving.front t there.rest) ∙ sym there.is in
-      let fed = serving.fed in
-      let within = serving.within in
-      let o = some_out (at_rest s.state [] n) (0 + length serving.front) (t ++ there.rest) (omega arith) in
-      let so_far = heard_so_far b l0 l1 h0 h1 w0 w1 f0 f1 k0 k1 s n r serving in
-      record {
-        first = serving.replies;
-        others = o.replies;
-        status = o.status;
-        taken = length serving.front + o.taken;
-        out = subst (λ z. Out (beginning_with b serving.answers) 0 [] z (serving.replies ++ o.replies) o.status (length serving.front + o.taken)) cut
-            (out_at (beginning_with b serving.answers) (at_rest s.state [] n) serving.bodies serving.front (t ++ there.rest) serving.replies o.replies o.status o.taken serving.whole so_far o.out);
-        all = refl;
-      };
+      let cut : serving.front ++ (t ++ there.rest) ≡ bytes = sym (append_assoc serving.front t there.rest) ∙ sym there.is in (
+        subst (λ z. FirstFrames b serving.answers [] z (written serving.replies)) cut (frames_before b l0 l1 h0 h1 w0 w1 f0 f1 k0 k1 s n r (t ++ there.rest) serving),
+        frames_before b l0 l1 h0 h1 w0 w1 f0 f1 k0 k1 s n r t serving,
+      );
 }
 
 -- there was no memory for a session
@@ -270,6 +277,31 @@ ends_at_once b left held waits =
     let reader : Reading = record { ready = []; rest = []; fed = 0; fault = None } in
     let at_first = between_at_first reader refl in
     ends_without_memory b left left left held held waits waits 0 0 0 0 (beginning b) 0 reader [] (serving_begins b left held waits 0 0 reader at_first.0 at_first.1) (Gives-nil left)
+
+-- the first bodies that are written for a message, and those before them, answer these bytes, whatever follows
+frames_within : (b : ℕ) (l0 l1 h0 h1 : Option (List ℕ)) (w0 w1 : Option (List Bool)) (f0 f1 k0 k1 : ℕ) (s : Held) (n : ℕ) (r : Reading) (f body rest : List ℕ) (answers : List Bool) (first others : List (List ℕ))
+    → (serving : IsServing b l0 l1 h0 h1 w0 w1 f0 f1 k0 k1 s n r) → IsFrame f body → r.fed + length f ≤ most_input → said (hear (at_rest s.state answers n) body) ≡ first ++ others
+    → FirstFrames b (serving.answers ++ answers) [] (serving.front ++ (f ++ rest)) (written (serving.replies ++ first))
+frames_within b l0 l1 h0 h1 w0 w1 f0 f1 k0 k1 s n r f body rest answers first others serving is room cut_said =
+    let now : Running = at_rest s.state answers n in
+    let from : Running = beginning_with b (serving.answers ++ answers) [] in
+    let fed = serving.fed in
+    let o = out_meeting now (0 + length serving.front) f rest body refl is (omega arith) in
+    let parts : serving.replies ++ (said (hear now body) ++ o.more) ≡ (serving.replies ++ first) ++ (others ++ o.more) =
+    ap (λ z. serving.replies ++ (z ++ o.more)) cut_said ∙ ap (λ z. serving.replies ++ z) (append_assoc first others o.more) ∙ sym (append_assoc serving.replies first (others ++ o.more)) in
+    record {
+      first = serving.replies ++ first;
+      others = others ++ o.more;
+      status = o.status;
+      taken = length serving.front + o.taken;
+      out = subst (λ z. Out from 0 (serving.front ++ (f ++ rest)) z o.status (length serving.front + o.taken)) parts
+          (out_at from now serving.bodies serving.front (f ++ rest) serving.replies (said (hear now body) ++ o.more) o.status o.taken serving.whole (serving.heard answers) o.out);
+      all = refl;
+    }
+
+-- nothing follows what was taken
+nothing_follows : (front f : List ℕ) → front ++ (f ++ []) ≡ front ++ f
+nothing_follows front f = ap (λ z. front ++ z) (append-nil f)
 
 -- memory ran out while the message was answered
 pub ends_without_memory_within : (b : ℕ) (l0 l1 l2 h0 h1 h2 : Option (List ℕ)) (w0 w1 w2 : Option (List Bool)) (f0 f1 k0 k1 : ℕ) (s : Held) (n : ℕ) (r : Reading) (f body : List ℕ) (answers : List Bool)
@@ -284,25 +316,36 @@ ends_without_memory_within b l0 l1 l2 h0 h1 h2 w0 w1 w2 f0 f1 k0 k1 s n r f body
   wrote = subst (λ z. Gains h0 z h2) (sym (flat_map-append frame serving.replies first))
       (Gains-append h0 h1 h2 (written serving.replies) (written first) serving.wrote gains);
   answer = λ bytes told.
-      let now : Running = at_rest s.state answers n in
-      let from : Running = beginning_with b (serving.answers ++ answers) in
       let there = took l0 l2 (serving.front ++ f) bytes (Gives-append l0 l1 l2 serving.front f serving.read gives) told in
-      let cut : serving.front ++ (f ++ there.rest) ≡ bytes = sym (append_assoc serving.front f there.rest) ∙ sym there.is in
-      let fed = serving.fed in
-      let o = out_meeting now (0 + length serving.front) f there.rest body is (omega arith) in
-      let parts : serving.replies ++ (said (hear now body) ++ o.more) ≡ (serving.replies ++ first) ++ (others ++ o.more) =
-      ap (λ z. serving.replies ++ (z ++ o.more)) cut_said ∙ ap (λ z. serving.replies ++ z) (append_assoc first others o.more) ∙ sym (append_assoc serving.replies first (others ++ o.more)) in
-      record {
-        first = serving.replies ++ first;
-        others = others ++ o.more;
-        status = o.status;
-        taken = length serving.front + o.taken;
-        out = subst (λ z. Out from 0 [] bytes z o.status (length serving.front + o.taken)) parts
-            (subst (λ z. Out from 0 [] z (serving.replies ++ (said (hear now body) ++ o.more)) o.status (length serving.front + o.taken)) cut
-            (out_at from now serving.bodies serving.front (f ++ there.rest) serving.replies (said (hear now body) ++ o.more) o.status o.taken serving.whole (serving.heard answers) o.out));
-        all = refl;
-      };
+      let cut : serving.front ++ (f ++ there.rest) ≡ bytes = sym (append_assoc serving.front f there.rest) ∙ sym there.is in (
+        subst (λ z. FirstFrames b (serving.answers ++ answers) [] z (written (serving.replies ++ first))) cut
+            (frames_within b l0 l1 h0 h1 w0 w1 f0 f1 k0 k1 s n r f body there.rest answers first others serving is room cut_said),
+        subst (λ z. FirstFrames b (serving.answers ++ answers) [] z (written (serving.replies ++ first))) (nothing_follows serving.front f)
+            (frames_within b l0 l1 h0 h1 w0 w1 f0 f1 k0 k1 s n r f body [] answers first others serving is room cut_said),
+      );
 }
+
+-- the first bytes of what is written for a message, and those before them, answer these bytes, whatever follows
+bytes_within : (b : ℕ) (l0 l1 h0 h1 : Option (List ℕ)) (w0 w1 : Option (List Bool)) (f0 f1 k0 k1 : ℕ) (s : Held) (n : ℕ) (r : Reading) (f body rest : List ℕ) (answers : List Bool) (first others : List ℕ)
+    → (serving : IsServing b l0 l1 h0 h1 w0 w1 f0 f1 k0 k1 s n r) → IsFrame f body → r.fed + length f ≤ most_input → written (said (hear (at_rest s.state answers n) body)) ≡ first ++ others
+    → FirstBytes b (serving.answers ++ answers) [] (serving.front ++ (f ++ rest)) (written serving.replies ++ first)
+bytes_within b l0 l1 h0 h1 w0 w1 f0 f1 k0 k1 s n r f body rest answers first others serving is room cut_said =
+    let now : Running = at_rest s.state answers n in
+    let from : Running = beginning_with b (serving.answers ++ answers) [] in
+    let fed = serving.fed in
+    let o = out_meeting now (0 + length serving.front) f rest body refl is (omega arith) in
+    record {
+      replies = serving.replies ++ (said (hear now body) ++ o.more);
+      status = o.status;
+      taken = length serving.front + o.taken;
+      rest = others ++ written o.more;
+      out = out_at from now serving.bodies serving.front (f ++ rest) serving.replies (said (hear now body) ++ o.more) o.status o.taken serving.whole (serving.heard answers) o.out;
+      all = flat_map-append frame serving.replies (said (hear now body) ++ o.more)
+          ∙ ap (λ z. written serving.replies ++ z) (flat_map-append frame (said (hear now body)) o.more)
+          ∙ ap (λ z. written serving.replies ++ (z ++ written o.more)) cut_said
+          ∙ ap (λ z. written serving.replies ++ z) (append_assoc first others (written o.more))
+          ∙ sym (append_assoc (written serving.replies) first (others ++ written o.more));
+    }
 
 -- the sink refused while the answer was written
 pub ends_with_write_fault : (b : ℕ) (l0 l1 l2 h0 h1 h2 : Option (List ℕ)) (w0 w1 w2 : Option (List Bool)) (f0 f1 k0 k1 : ℕ) (s : Held) (n : ℕ) (r : Reading) (f body : List ℕ) (answers : List Bool)
@@ -316,25 +359,13 @@ ends_with_write_fault b l0 l1 l2 h0 h1 h2 w0 w1 w2 f0 f1 k0 k1 s n r f body answ
   read = Gives-append l0 l1 l2 serving.front f serving.read gives;
   wrote = Gains-append h0 h1 h2 (written serving.replies) first serving.wrote gains;
   answer = λ bytes told.
-      let now : Running = at_rest s.state answers n in
-      let from : Running = beginning_with b (serving.answers ++ answers) in
       let there = took l0 l2 (serving.front ++ f) bytes (Gives-append l0 l1 l2 serving.front f serving.read gives) told in
-      let cut : serving.front ++ (f ++ there.rest) ≡ bytes = sym (append_assoc serving.front f there.rest) ∙ sym there.is in
-      let fed = serving.fed in
-      let o = out_meeting now (0 + length serving.front) f there.rest body is (omega arith) in
-      record {
-        replies = serving.replies ++ (said (hear now body) ++ o.more);
-        status = o.status;
-        taken = length serving.front + o.taken;
-        rest = others ++ written o.more;
-        out = subst (λ z. Out from 0 [] z (serving.replies ++ (said (hear now body) ++ o.more)) o.status (length serving.front + o.taken)) cut
-            (out_at from now serving.bodies serving.front (f ++ there.rest) serving.replies (said (hear now body) ++ o.more) o.status o.taken serving.whole (serving.heard answers) o.out);
-        all = flat_map-append frame serving.replies (said (hear now body) ++ o.more)
-            ∙ ap (λ z. written serving.replies ++ z) (flat_map-append frame (said (hear now body)) o.more)
-            ∙ ap (λ z. written serving.replies ++ (z ++ written o.more)) cut_said
-            ∙ ap (λ z. written serving.replies ++ z) (append_assoc first others (written o.more))
-            ∙ sym (append_assoc (written serving.replies) first (others ++ written o.more));
-      };
+      let cut : serving.front ++ (f ++ there.rest) ≡ bytes = sym (append_assoc serving.front f there.rest) ∙ sym there.is in (
+        subst (λ z. FirstBytes b (serving.answers ++ answers) [] z (written serving.replies ++ first)) cut
+            (bytes_within b l0 l1 h0 h1 w0 w1 f0 f1 k0 k1 s n r f body there.rest answers first others serving is room cut_said),
+        subst (λ z. FirstBytes b (serving.answers ++ answers) [] z (written serving.replies ++ first)) (nothing_follows serving.front f)
+            (bytes_within b l0 l1 h0 h1 w0 w1 f0 f1 k0 k1 s n r f body [] answers first others serving is room cut_said),
+      );
 }
 
 -- what was taken ends at this place, and so does the session
@@ -350,9 +381,9 @@ ended b l0 l1 l2 h0 h1 w0 w1 f0 f1 k0 k1 s n r t status serving gives room end b
     let so_far = heard_so_far b l0 l1 h0 h1 w0 w1 f0 f1 k0 k1 s n r serving in
     record {
       replies = serving.replies;
-      out = subst (λ z. Out (beginning_with b serving.answers) 0 [] z serving.replies status (length (serving.front ++ t))) cut
-          (subst (Out (beginning_with b serving.answers) 0 [] (serving.front ++ (t ++ there.rest)) serving.replies status) size
-          (whole_at (beginning_with b serving.answers) (at_rest s.state [] n) serving.bodies serving.front (t ++ there.rest) serving.replies status (length t) serving.whole so_far (omega arith) (end there.rest)));
+      out = subst (λ z. Out (beginning_with b serving.answers []) 0 z serving.replies status (length (serving.front ++ t))) cut
+          (subst (Out (beginning_with b serving.answers []) 0 (serving.front ++ (t ++ there.rest)) serving.replies status) size
+          (whole_at (beginning_with b serving.answers []) (at_rest s.state [] n) serving.bodies serving.front (t ++ there.rest) serving.replies status (length t) serving.whole so_far refl (omega arith) (end there.rest)));
       all = refl;
     }
 

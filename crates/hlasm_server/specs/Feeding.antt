@@ -37,7 +37,7 @@ pub record Within (old new : Reading) (bytes : List ℕ) : Type 0 where
   pub partial : IsPartial new.rest
 
 -- a piece came, and the frame is whole, with nothing of the next
-pub record Completes (old new : Reading) (bytes : List ℕ) : Type 0 where
+pub record Fills (old new : Reading) (bytes : List ℕ) : Type 0 where
   pub body : List ℕ
   pub frame : IsFrame (old.rest ++ bytes) body
   pub ready : new.ready ≡ old.ready ++ body ∷ []
@@ -49,13 +49,13 @@ pub record Brings (most : ℕ) (old new : Reading) (bytes : List ℕ) : Type 0 w
   pub fed : new.fed ≡ old.fed + length bytes
   pub within : new.fed ≤ most
   pub sound : new.fault ≡ None
-  pub reaches : Within old new bytes ⊎ Completes old new bytes
+  pub reaches : Within old new bytes ⊎ Fills old new bytes
 
 -- what taking one piece more of a frame comes to
-abbrev pub Comes : (most : ℕ) → Piece → (left_before left_now : Option (List ℕ)) → (faults_before faults_now : ℕ) → (old new : Reading) → Type 0
-Comes most piece.Came before now f g old new = Taking before now (λ bytes. Brings most old new bytes)
-Comes most piece.End before now f g old new = Gives before [] now × IsPartial old.rest × IsAtEnd now × (old.fed < most)
-Comes most (piece.Broken at) before now f g old new = Taking before now (λ bytes. IsBadStart (old.rest ++ bytes) (length (old.rest ++ bytes)) × (at ≡ old.fed + length bytes) × (at ≤ most))
-Comes most piece.TooLong before now f g old new = Gives before [] now × IsPartial old.rest × (old.fed ≡ most)
-Comes most piece.ReadFault before now f g old new = Gives before [] now × IsPartial old.rest × HasRisen f g × (old.fed < most)
-Comes most piece.OutOfMemory before now f g old new = Taking before now (λ _. Unit {0})
+abbrev pub Takes : (most : ℕ) → Piece → (left_before left_now : Option (List ℕ)) → (faults_before faults_now : ℕ) → (old new : Reading) → Type 0
+Takes most piece.Came before now f g old new = Taking before now (λ bytes. Brings most old new bytes)
+Takes most piece.End before now f g old new = Gives before [] now × IsPartial old.rest × IsAtEnd now × (old.fed < most)
+Takes most (piece.Broken at) before now f g old new = Taking before now (λ bytes. IsBadStart (old.rest ++ bytes) (length (old.rest ++ bytes)) × (at ≡ old.fed + length bytes) × (at ≤ most))
+Takes most piece.TooLong before now f g old new = Gives before [] now × IsPartial old.rest × (old.fed ≡ most)
+Takes most piece.ReadFault before now f g old new = Gives before [] now × IsPartial old.rest × HasRisen f g × (old.fed < most)
+Takes most piece.OutOfMemory before now f g old new = Taking before now (λ _. Unit {0})

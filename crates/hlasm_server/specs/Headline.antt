@@ -13,7 +13,7 @@ use Rattle.hlasm_server.specs.Waiting.{Asked}
 -- the whole output of the input, with this status
 pub record Whole (budget : ℕ) (waits : List Bool) (calls : List LibraryCall) (bytes : List ℕ) (status : Status) (taken : ℕ) (output : List ℕ) : Type 0 where
   pub replies : List (List ℕ)
-  pub out : Out (beginning_with budget waits) 0 calls bytes replies status taken
+  pub out : Out (beginning_with budget waits calls) 0 bytes replies status taken
   pub all : output ≡ written replies
 
 -- the first bodies of the output, each a whole frame
@@ -22,7 +22,7 @@ pub record FirstFrames (budget : ℕ) (waits : List Bool) (calls : List LibraryC
   pub others : List (List ℕ)
   pub status : Status
   pub taken : ℕ
-  pub out : Out (beginning_with budget waits) 0 calls bytes (first ++ others) status taken
+  pub out : Out (beginning_with budget waits calls) 0 bytes (first ++ others) status taken
   pub all : output ≡ written first
 
 -- the first bytes of the output
@@ -31,15 +31,16 @@ pub record FirstBytes (budget : ℕ) (waits : List Bool) (calls : List LibraryCa
   pub status : Status
   pub taken : ℕ
   pub rest : List ℕ
-  pub out : Out (beginning_with budget waits) 0 calls bytes replies status taken
+  pub out : Out (beginning_with budget waits calls) 0 bytes replies status taken
   pub all : written replies ≡ output ++ rest
 
--- What a run with this status has written, `bytes` being the input that was there and `taken` what it took of it.
+-- What a run with this status has written, `bytes` being the input that was there and `taken` what it took of it. Where
+-- writing was cut off, what was written answers what was taken, too.
 abbrev pub IsAnswer : Status → (budget : ℕ) → List Bool → List LibraryCall → (bytes taken output : List ℕ) → Type 0
 -- want of memory ends it at a whole frame
-IsAnswer OutOfMemory budget waits calls bytes taken output = FirstFrames budget waits calls bytes output
+IsAnswer OutOfMemory budget waits calls bytes taken output = FirstFrames budget waits calls bytes output × FirstFrames budget waits calls taken output
 -- a sink that failed has taken some beginning
-IsAnswer WriteFault budget waits calls bytes taken output = FirstBytes budget waits calls bytes output
+IsAnswer WriteFault budget waits calls bytes taken output = FirstBytes budget waits calls bytes output × FirstBytes budget waits calls taken output
 -- a source that failed is as an input that ended there
 IsAnswer ReadFault budget waits calls bytes taken output = Whole budget waits calls taken InputEnded (length taken) output
 -- with right words no answer speaks of the words
@@ -78,7 +79,7 @@ HasStatusCause InputTooLong a b c d = Unit {0}
 abbrev pub CompletesWith : (budget : ℕ) → List LibraryCall → (waits_before waits_now : Option (List Bool)) → (left_before left_now held_before held_now : Option (List ℕ)) → Status → Type 0
 CompletesWith budget calls waits_before waits_now left_before left_now held_before held_now status =
     (waits : List Bool) × Asked waits_before waits waits_now
-    × ((bytes : List ℕ) (replies : List (List ℕ)) (wanted : Status) (taken : ℕ) → left_before ≡ Some bytes → Out (beginning_with budget waits) 0 calls bytes replies wanted taken
+    × ((bytes : List ℕ) (replies : List (List ℕ)) (wanted : Status) (taken : ℕ) → left_before ≡ Some bytes → Out (beginning_with budget waits calls) 0 bytes replies wanted taken
     → (status ≡ OutOfMemory) ⊎ ((status ≡ wanted) × (left_now ≡ Some (drop taken bytes)) × Gains held_before (written replies) held_now))
 
 -- ---- the calls

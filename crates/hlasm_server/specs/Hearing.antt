@@ -3,26 +3,30 @@
 use Rattle.std.specs.Prelude.{ℕ, zero, suc, Bool, List, [], ◌++◌, length, if◌then◌else◌}
 use Rattle.session_core.specs.declared.phase.Phase.{Phase}
 use Rattle.session_core.specs.declared.phase.Phase.TheVariants as phase
+use Rattle.io_edge.specs.LibraryCall.{LibraryCall}
 use Rattle.session_core.specs.State.{State, start}
 use Rattle.session_core.specs.Step.{Step}
+use Rattle.session_core.specs.Step as step
 use Rattle.session_core.specs.Turn.{turn}
 use Rattle.session_core.specs.Message.{message}
 use Rattle.session_core.specs.Held.{phase_of}
 use Rattle.hlasm_server.specs.Waiting.{one_more, is_held, unasked}
 
--- a session between two events: its state, the answers of `waiting` to come, and how many messages came since the last
--- Turn
+-- a session between two events: its state, the answers of `waiting` and the calls of the library to come, and how many
+-- messages came since the last Turn
 pub record Running : Type 0 where
   pub state : State
   pub waits : List Bool
+  pub calls : List LibraryCall
   pub since : ℕ
 
-abbrev pub at_rest : State → (waits : List Bool) → (since : ℕ) → Running
-at_rest s waits since = record { state = s; waits = waits; since = since }
-
 -- before the first message, where a program may be given so many statements
-abbrev pub beginning_with : (budget : ℕ) (waits : List Bool) → Running
-beginning_with budget waits = at_rest (start budget) waits 0
+abbrev pub beginning_with : (budget : ℕ) (waits : List Bool) (calls : List LibraryCall) → Running
+beginning_with budget waits calls = record { state = start budget; waits = waits; calls = calls; since = 0 }
+
+-- where no call of the library is to come
+abbrev pub at_rest : State → (waits : List Bool) → (since : ℕ) → Running
+at_rest s waits since = record { state = s; waits = waits; calls = []; since = since }
 
 -- ---- Turns
 
@@ -43,8 +47,8 @@ behind bodies made = record { next = made.next; bodies = bodies ++ made.bodies }
 abbrev pub turns : ℕ → Running → Made
 turns zero r = none_made r
 turns (suc n) r =
-    if is_held r.since r.waits then none_made (at_rest r.state (unasked r.since r.waits) r.since)
-    else behind (turn r.state).bodies (turns n (at_rest (turn r.state).state (unasked r.since r.waits) 0))
+    if is_held r.since r.waits then none_made (record r { waits = unasked r.since r.waits })
+    else behind (turn r.state).bodies (turns n (record r { state = (turn r.state).state; waits = unasked r.since r.waits; since = 0 }))
 
 -- Turns until no program is queued, or until one is held back
 abbrev pub following : Running → Made
@@ -52,29 +56,36 @@ following r = turns (length r.state.queue) r
 
 -- ---- messages
 
--- the session goes on, and these bodies are written; or `exit` came, after `shutdown` was answered or before
+-- the session goes on, and these bodies are written; or `exit` came, after `shutdown` was answered or before; or no answer
+-- of the library was left, or the next one is of another call
 pub data Heard : Type 0 where
   Goes : (next : Running) (bodies : List (List ℕ)) → Heard
   Ends : (closed : Bool) → Heard
+  Lacks : (bodies : List (List ℕ)) → Heard
+  Differs : Heard
 
 -- these bodies were written, then those of some Turns, and the session goes on
 abbrev pub goes_on : List (List ℕ) → Made → Heard
 goes_on bodies made = Goes made.next (bodies ++ made.bodies)
 
 -- Where the session goes on, the Turns follow. At its end nothing is written, and no Turn is made.
-abbrev pub heard_in : Phase → Running → Step → Heard
-heard_in phase.Running r step = goes_on step.bodies (following (at_rest step.state r.waits (one_more r.since)))
-heard_in (phase.Exit closed) r step = Ends closed
+abbrev pub heard_in : Phase → Running → (state : State) (bodies : List (List ℕ)) (rest : List LibraryCall) → Heard
+heard_in phase.Running r state bodies rest = goes_on bodies (following (record { state = state; waits = r.waits; calls = rest; since = one_more r.since }))
+heard_in (phase.Exit closed) r state bodies rest = Ends closed
 
 -- an event, with what follows it
 abbrev pub heard_of : Running → Step → Heard
-heard_of r step = heard_in (phase_of step.state) r step
+heard_of r (step.Goes state bodies rest) = heard_in (phase_of state) r state bodies rest
+heard_of r (step.Stopped bodies) = Lacks bodies
+heard_of r step.Other = Differs
 
 -- one message, and then Turns until no program is queued, or until one is held back
 unfoldable pub hear : Running → List ℕ → Heard
-hear r body = heard_of r (message r.state body [])
+hear r body = heard_of r (message r.state body r.calls)
 
 -- what is written for it
 abbrev pub said : Heard → List (List ℕ)
 said (Goes next bodies) = bodies
 said (Ends closed) = []
+said (Lacks bodies) = bodies
+said Differs = []

@@ -1,7 +1,6 @@
 -- What a whole run writes and answers (this project): a relation between the bytes of the input and the bodies that are
 -- written, the status and the number of bytes taken. It knows nothing of pieces.
 use Rattle.std.specs.Prelude.{◌≡◌, ℕ, ◌+◌, ◌^◌, ◌<◌, ◌≤◌, true, false, List, [], ◌∷◌, ◌++◌, length, take}
-use Rattle.io_edge.specs.LibraryCall.{LibraryCall}
 use Rattle.rpc_framing.specs.Frames.{IsFrame, IsFrames, IsPartial, IsBadStart}
 use Rattle.hlasm_server.specs.declared.status.Status.{Status}
 use Rattle.hlasm_server.specs.declared.status.Status.TheVariants.{Done, NoShutdown, InputEnded, OutOfMemory, ReadFault, WriteFault, BadFrame, BadWords, InputTooLong}
@@ -47,8 +46,8 @@ EndsAt s before tail WriteFault taken = ⊥
 EndsAt s before tail BadWords taken = ⊥
 
 -- Where `before` bytes were taken and the session stands open: for these bytes it writes these bodies, ends with this
--- status, and takes this many bytes.
-pub record Out (from : Running) (before : ℕ) (calls : List LibraryCall) (bytes : List ℕ) (replies : List (List ℕ)) (status : Status) (taken : ℕ) : Type 0 where
+-- status, takes this many bytes, and makes exactly the calls of the library that were to come.
+pub record Out (from : Running) (before : ℕ) (bytes : List ℕ) (replies : List (List ℕ)) (status : Status) (taken : ℕ) : Type 0 where
   pub front : List ℕ
   pub bodies : List (List ℕ)
   pub tail : List ℕ
@@ -60,5 +59,4 @@ pub record Out (from : Running) (before : ℕ) (calls : List LibraryCall) (bytes
   pub ends : EndsAt session (before + length front) tail status place
   pub count : taken ≡ length front + place
   pub within : before + taken ≤ most_input
-  -- no library call is made, so none is left over
-  pub none_left : calls ≡ []
+  pub none_left : session.calls ≡ []

@@ -1,6 +1,6 @@
 //! The next body of the input.
 ghost use Rattle.std.specs.Prelude.{◌≡◌, ◌≤◌, ◌+◌, ◌<◌, ◌^◌, [], None, length};
-ghost use Rattle.hlasm_server.specs.Feeding.{IsBetweenFrames, Finds, Comes};
+ghost use Rattle.hlasm_server.specs.Feeding.{IsBetweenFrames, Finds, Takes};
 
 use io_edge::Source;
 use rpc_framing::{FrameFault, FrameReader};
@@ -67,7 +67,7 @@ fn take_piece<S: Source>(
     requires room { reader.old.fed ≤ most }
     requires most { most < 2 ^ 62 }
     requires buffer { length buffer.old ≡ LARGEST_PIECE }
-    ensures comes { Comes most result (S.left source.old) (S.left source.new) (S.faults source.old) (S.faults source.new) reader.old reader.new }
+    ensures comes { Takes most result (S.left source.old) (S.left source.new) (S.faults source.old) (S.faults source.new) reader.old reader.new }
     ensures waits { S.waits source.new ≡ S.waits source.old }
     ensures later { S.faults source.old ≤ S.faults source.new }
 {

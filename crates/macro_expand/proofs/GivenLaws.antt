@@ -1,7 +1,8 @@
 -- What the effect of a statement gives is never a question.
 use Rattle.std.proofs.Common.{◌≡◌, ℕ, ℤ, Bool, true, false, cond, List, [], ◌∷◌, Option, Some, None, Result, Ok, Err, refl}
 use Rattle.std.specs.Option.{option_map_or}
-use Rattle.plain_expansion.specs.Questions.{Comes}
+use Rattle.kept_values.specs.Trees.{Tree as Coded}
+use Rattle.plain_expansion.specs.Questions.{led_by}
 use Rattle.question_trees.specs.Bridge.{led_as}
 use Rattle.hl_base.specs.declared.note.Note.{Note}
 use Rattle.hl_base.specs.declared.set.SetKind.{SetKind}
@@ -32,7 +33,8 @@ use Rattle.conditional_asm.specs.Repeating.{once}
 use Rattle.conditional_asm.specs.Substitution.{substituted}
 use Rattle.call_knowledge.specs.Knowledge.{Knowledge}
 use Rattle.macro_expand.specs.Acts.{acted}
-use Rattle.macro_expand.specs.Language.{made}
+use Rattle.macro_expand.specs.Language.{led_on_act}
+use Rattle.macro_expand.specs.Passages.{Placed}
 use Rattle.macro_expand.specs.Codes.{led_to}
 
 abbrev pub IsAct : Act → Type 0
@@ -144,21 +146,22 @@ pub effect-gives : (reading : readings.Reading) (told : Told) → GivesAct (effe
 effect-gives reading told = instructed-gives reading.instruction told
 
 -- so what is shown of an effect tells how far it is led
-act-led : (known : Knowledge) (done : Act) (notes : List Note) → IsAct done → led_to known done notes ≡ Comes (acted known done notes)
-act-led known (act.Ask key) notes is = absurd is
-act-led known act.Next notes is = refl
-act-led known (act.Branch label) notes is = refl
-act-led known (act.Actr count) notes is = refl
-act-led known (act.Set name element v) notes is = refl
-act-led known (act.Declare list) notes is = refl
-act-led known act.Define notes is = refl
-act-led known (act.Call name) notes is = refl
-act-led known (act.Copy member) notes is = refl
-act-led known (act.Generate line) notes is = refl
-act-led known (act.Leave name) notes is = refl
-act-led known (act.End line) notes is = refl
+module _ (told : Coded → Option Coded) (s : Placed) (known : Knowledge) where
+  act-led : (done : Act) (notes : List Note) → IsAct done → led_to told s known done notes ≡ led_by told (acted s known done notes)
+  act-led (act.Ask key) notes is = absurd is
+  act-led act.Next notes is = refl
+  act-led (act.Branch label) notes is = refl
+  act-led (act.Actr count) notes is = refl
+  act-led (act.Set name element v) notes is = refl
+  act-led (act.Declare list) notes is = refl
+  act-led act.Define notes is = refl
+  act-led (act.Call name) notes is = refl
+  act-led (act.Copy member) notes is = refl
+  act-led (act.Generate line) notes is = refl
+  act-led (act.Leave name) notes is = refl
+  act-led (act.End line) notes is = refl
 
-pub shown-led : (known : Knowledge) (o : Outcome Act) → GivesAct o →
-    led_to known (effects.shown o).act (effects.shown o).notes ≡ led_as (made known) o
-shown-led known (Gives done notes) is = act-led known done (once notes) is
-shown-led known (Asks key) is = refl
+  pub shown-led : (o : Outcome Act) → GivesAct o →
+      led_to told s known (effects.shown o).act (effects.shown o).notes ≡ led_on_act told s known (led_as (λ noted. noted) o)
+  shown-led (Gives done notes) is = act-led done (once notes) is
+  shown-led (Asks key) is = refl

@@ -1,3 +1,5 @@
+pub mod TreeLaws
 pub mod EffectLaws
 pub mod GivenLaws
 pub mod PassageLaws
+pub mod CallLaws

@@ -22,12 +22,12 @@ abbrev pub notes_of : Option Row → List Note
 notes_of None = []
 notes_of (Some row) = noted row [] ∷ []
 
--- a point of open code, with the notes of its fault last
+-- a point, with the notes of its fault last
 abbrev pub item_of : Point words → TraceItem
 item_of point = record {
   frames = call_frames point.stack.here.listing point.stack.here.position;
-  definition = None;
-  called = None;
+  definition = point.stack.here.listing.definition;
+  called = point.said.called;
   entry = [];
   locals = point.said.locals;
   declared = point.said.declared;

@@ -1,38 +1,32 @@
-//! What comes of the act of a statement.
-ghost use Rattle.std.specs.Prelude.{◌≡◌, ◌++◌, [], ◌∷◌, IfOk, Some, codes, chars};
+//! What comes of the act of a statement: conditional assembly, generated statements and the ends of calls.
+ghost use Rattle.std.specs.Prelude.{◌≡◌, ◌++◌, [], ◌∷◌, IfOk, Some};
 ghost use Rattle.kept_values.specs.Keys.{key_tree};
-ghost use Rattle.kept_values.specs.Trees.{look_up};
 ghost use Rattle.asking_core.specs.Places.{pairs_of};
 ghost use Rattle.plain_expansion.specs.Questions.{Comes};
-ghost use Rattle.question_trees.specs.Bridge.{answers_in, led_as};
-ghost use Rattle.conditional_asm.specs.Effects as effects;
-ghost use Rattle.statement_reading.specs.Views.{reading_of};
-ghost use Rattle.conditional_asm.specs.declared.act.Act.TheVariants.{End, Generate};
-ghost use Rattle.note_rows.specs.declared.row.Row.TheVariants.{UndefinedOperation};
 ghost use Rattle.call_knowledge.specs.Knowledge.{Knowledge};
 ghost use Rattle.expansion_step.specs.Meaning.{performed_by};
 ghost use Rattle.call_sites.specs.Values.{known_tree};
-ghost use Rattle.call_knowledge.specs.Standing.{told_by};
-ghost use Rattle.macro_expand.specs.Acts.{acted, branching_to, done_by, going_on, puts_of, quiet, refused};
-ghost use Rattle.macro_expand.specs.Language.{made};
-ghost use Rattle.macro_expand.specs.Codes.{led_to, means};
+ghost use Rattle.macro_binding.specs.Prototypes.{name_of};
+ghost use Rattle.macro_expand.specs.Acts as acts;
+ghost use Rattle.macro_expand.specs.Codes.{means};
 
 use crate::{Passage, Said};
 use asking_core::Noted;
-use call_knowledge::{Change, Deed, Knowledge, Put, Surroundings, counting};
+use call_knowledge::{Change, Deed, Knowledge, Put};
 use call_sites::{CallSite, Known};
-use conditional_asm::{Act, ReadStatement, perform};
 use expansion_step::{Act as Acts, Performed};
-use hl_base::{Declarations, Frames, Key, Line, Name, Notes, OutOfMemory, Text};
+use hl_base::{Answer, Declarations, Frames, Key, Line, Name, Notes, OutOfMemory, Text};
 use note_rows::{Row, note};
 use std::alloc::Global;
 use trace_values::Settings;
 
-type Done = Performed<Passage, Name, Change, Said, CallSite, Key, Known>;
+pub(crate) type Done = Performed<Passage, Name, Change, Said, CallSite, Key, Known>;
+
+pub(crate) type Puts = Vec<Noted<Key, Known>>;
 
 /// What is put.
-fn puts_of(alloc: Global, put: Option<Put>) -> Result<Vec<Noted<Key, Known>>, OutOfMemory>
-    ensures { IfOk result (λ ps. pairs_of key_tree known_tree ps.items ≡ puts_of put) }
+fn puts_of(alloc: Global, put: Option<Put>) -> Result<Puts, OutOfMemory>
+    ensures { IfOk result (λ ps. pairs_of key_tree known_tree ps.items ≡ acts.puts_of put) }
 {
     let mut puts = Vec::new(alloc);
     match put {
@@ -47,7 +41,7 @@ fn puts_of(alloc: Global, put: Option<Put>) -> Result<Vec<Noted<Key, Known>>, Ou
 }
 
 /// Notes, and others behind them.
-fn joined(alloc: Global, mut notes: Notes, more: &Notes) -> Result<Notes, OutOfMemory>
+pub(crate) fn joined(alloc: Global, mut notes: Notes, more: &Notes) -> Result<Notes, OutOfMemory>
     ensures { IfOk result (λ all. all ≡ notes ++ more.now) }
 {
     for note in more.as_slice() {
@@ -57,12 +51,13 @@ fn joined(alloc: Global, mut notes: Notes, more: &Notes) -> Result<Notes, OutOfM
 }
 
 /// Nothing is said but these notes.
-fn quiet(alloc: Global, notes: Notes) -> Said
-    ensures { result ≡ quiet notes }
+pub(crate) fn quiet(alloc: Global, notes: Notes) -> Said
+    ensures { result ≡ acts.quiet notes }
 {
     Said {
         notes,
         target: None,
+        called: None,
         locals: Settings::new(alloc),
         declared: Declarations::new(alloc),
         globals: Settings::new(alloc),
@@ -70,32 +65,31 @@ fn quiet(alloc: Global, notes: Notes) -> Said
     }
 }
 
+/// A note more.
+pub(crate) fn with_row(alloc: Global, row: &Row, mut notes: Notes) -> Result<Notes, OutOfMemory>
+    ensures { IfOk result (λ all. all ≡ acts.with_row row.now notes) }
+{
+    notes.push(note(alloc, row, Frames::new(alloc))?)?;
+    Ok(notes)
+}
+
 /// The next statement follows, and nothing has changed.
-fn going_on(alloc: Global, said: Said) -> Done
-    ensures { (k : Knowledge) → performed_by means k result ≡ Some (Comes (going_on k said)) }
+pub(crate) fn going_on(alloc: Global, said: Said) -> Done
+    ensures { (k : Knowledge) → performed_by means k result ≡ Some (Comes (acts.going_on k said)) }
 {
     Performed::Does(said, Acts::Continues(Change::Nothing, Vec::new(alloc)))
 }
 
 /// The same, with a note more.
-fn refused(alloc: Global, row: &Row, mut notes: Notes) -> Result<Done, OutOfMemory>
-    ensures { IfOk result (λ p. (k : Knowledge) → performed_by means k p ≡ Some (Comes (refused k row.now notes))) }
+pub(crate) fn refused(alloc: Global, row: &Row, notes: Notes) -> Result<Done, OutOfMemory>
+    ensures { IfOk result (λ p. (k : Knowledge) → performed_by means k p ≡ Some (Comes (acts.refused k row.now notes))) }
 {
-    notes.push(note(alloc, row, Frames::new(alloc))?)?;
-    Ok(going_on(alloc, quiet(alloc, notes)))
-}
-
-/// An operation is not defined.
-fn undefined(alloc: Global, operation: &str, notes: Notes) -> Result<Done, OutOfMemory>
-    ensures { IfOk result (λ p. (k : Knowledge) → performed_by means k p ≡ Some (Comes (refused k (UndefinedOperation (chars operation.now)) notes))) }
-{
-    let row = Row::UndefinedOperation(Text::of(alloc, operation)?);
-    refused(alloc, &row, notes)
+    Ok(going_on(alloc, quiet(alloc, with_row(alloc, row, notes)?)))
 }
 
 /// A deed is done, and the next statement follows.
-fn done_by(alloc: Global, deed: Deed, notes: Notes) -> Result<Done, OutOfMemory>
-    ensures { IfOk result (λ p. (k : Knowledge) → performed_by means k p ≡ Some (Comes (done_by k deed notes))) }
+pub(crate) fn done_by(alloc: Global, deed: Deed, notes: Notes) -> Result<Done, OutOfMemory>
+    ensures { IfOk result (λ p. (k : Knowledge) → performed_by means k p ≡ Some (Comes (acts.done_by k deed notes))) }
 {
     let Deed {
         change,
@@ -108,6 +102,7 @@ fn done_by(alloc: Global, deed: Deed, notes: Notes) -> Result<Done, OutOfMemory>
     let said = Said {
         notes: joined(alloc, notes, &more)?,
         target: None,
+        called: None,
         locals,
         declared,
         globals,
@@ -118,70 +113,81 @@ fn done_by(alloc: Global, deed: Deed, notes: Notes) -> Result<Done, OutOfMemory>
 }
 
 /// A branch to a sequence symbol, if one is left.
-fn branching_to(alloc: Global, known: &Knowledge, label: Name, notes: Notes) -> Done
-    ensures { performed_by means known.now result ≡ Some (Comes (branching_to known.now label notes)) }
+pub(crate) fn branching_to(alloc: Global, known: &Knowledge, label: Name, notes: Notes) -> Done
+    ensures { performed_by means known.now result ≡ Some (Comes (acts.branching_to known.now label notes)) }
 {
     let mut said = quiet(alloc, notes);
     said.target = Some(label.copy());
     Performed::Does(said, Acts::Branches(label, known.branching()))
 }
 
-/// A statement is generated.
-fn generating(alloc: Global, line: Line, notes: Notes) -> Done
-    ensures { (k : Knowledge) → performed_by means k result ≡ Some (Comes (acted k (Generate line) notes)) }
+/// Whether an operation begins a section.
+fn is_section(op: &Name) -> bool
+    ensures { result ≡ acts.is_section op.now }
 {
+    let name = op.text();
+    name == "CSECT" || name == "DSECT" || name == "START"
+}
+
+/// The text of a section with this name, or of one that has none.
+fn section_named(alloc: Global, name: Option<Name>) -> Result<Text, OutOfMemory>
+    ensures { IfOk result (λ text. text ≡ acts.section_named name) }
+{
+    match name {
+        None => Ok(Text::new(alloc)),
+        Some(name) => Text::of(alloc, name.text()),
+    }
+}
+
+/// What a generated statement puts: the name of the section that it begins, if it begins one.
+fn section_puts(alloc: Global, line: &Line) -> Result<Puts, OutOfMemory>
+    ensures { IfOk result (λ ps. pairs_of key_tree known_tree ps.items ≡ acts.operation_puts (name_of line.now.op) line.now.label) }
+{
+    let mut puts = Vec::new(alloc);
+    let Some(op) = Name::read(line.op.as_str()) else {
+        return Ok(puts);
+    };
+    if is_section(&op) {
+        let text = section_named(alloc, Name::read(line.label.as_str()))?;
+        let value = Known::Plain(Answer::Chars(text));
+        puts.push(Noted {
+            key: Key::Sect,
+            value,
+        })?;
+    }
+    Ok(puts)
+}
+
+/// A statement is generated.
+pub(crate) fn generating(alloc: Global, line: Line, notes: Notes) -> Result<Done, OutOfMemory>
+    ensures { IfOk result (λ p. (k : Knowledge) → performed_by means k p ≡ Some (Comes (acts.generated k line notes))) }
+{
+    let puts = section_puts(alloc, &line)?;
     let mut said = quiet(alloc, notes);
     said.line = Some(line);
-    going_on(alloc, said)
+    Ok(Performed::Does(said, Acts::Continues(Change::Nothing, puts)))
+}
+
+/// The macro ends; there is none in open code.
+pub(crate) fn leaving(
+    alloc: Global,
+    known: &Knowledge,
+    name: Name,
+    notes: Notes,
+) -> Result<Done, OutOfMemory>
+    ensures { IfOk result (λ p. performed_by means known.now p ≡ Some (Comes (acts.leaving known.now name notes))) }
+{
+    if known.binding().is_some() {
+        return Ok(Performed::Does(quiet(alloc, notes), Acts::Returns));
+    }
+    refused(alloc, &Row::OutsideMacro(name), notes)
 }
 
 /// All ends, and END is generated where its fields can be read.
-fn ending(alloc: Global, line: Option<Line>, notes: Notes) -> Done
-    ensures { (k : Knowledge) → performed_by means k result ≡ Some (Comes (acted k (End line) notes)) }
+pub(crate) fn ending(alloc: Global, line: Option<Line>, notes: Notes) -> Done
+    ensures { (k : Knowledge) → performed_by means k result ≡ Some (Comes (acts.ended line notes)) }
 {
     let mut said = quiet(alloc, notes);
     said.line = line;
     Performed::Does(said, Acts::Finishes)
-}
-
-/// What comes of an act in a call that knows so much, behind these notes; or what is wanted.
-fn acting(alloc: Global, known: &Knowledge, act: Act, notes: Notes) -> Result<Done, OutOfMemory>
-    ensures { IfOk result (λ p. performed_by means known.now p ≡ Some (led_to known.now act notes)) }
-{
-    match act {
-        Act::Ask(key) => Ok(Performed::Wants(key)),
-        Act::Branch(label) => Ok(branching_to(alloc, known, label, notes)),
-        Act::Actr(count) => done_by(alloc, counting(alloc, count), notes),
-        Act::Set(name, element, value) => {
-            let deed = known.setting(alloc, name, element, value)?;
-            done_by(alloc, deed, notes)
-        }
-        Act::Declare(list) => {
-            let deed = known.declaring(alloc, &list)?;
-            done_by(alloc, deed, notes)
-        }
-        Act::Call(name) => undefined(alloc, name.text(), notes),
-        Act::Generate(line) => Ok(generating(alloc, line, notes)),
-        Act::End(line) => Ok(ending(alloc, line, notes)),
-        Act::Next | Act::Define | Act::Copy(_) | Act::Leave(_) => {
-            Ok(going_on(alloc, quiet(alloc, notes)))
-        }
-    }
-}
-
-/// What a statement that was read does in a call that knows so much, as far as the answers lead.
-pub(crate) fn performed(
-    alloc: Global,
-    read: &ReadStatement,
-    known: &Knowledge,
-    answers: &[Noted<Key, Known>],
-) -> Result<Done, OutOfMemory>
-    ensures { IfOk result (λ p. performed_by means known.now p ≡ Some (led_as (made known.now) (effects.effect_of (reading_of read.now) (told_by known.now (answers_in (look_up (pairs_of key_tree known_tree answers.now))))))) }
-{
-    let mut around = Surroundings {
-        knowledge: known,
-        answers,
-    };
-    let effect = perform(alloc, read, &mut around)?;
-    acting(alloc, known, effect.act, effect.notes)
 }

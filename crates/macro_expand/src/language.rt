@@ -1,5 +1,7 @@
 //! The language in code.
-ghost use Rattle.std.specs.Prelude.{◌≡◌, ◌++◌, IfOk, option_copied};
+ghost use Rattle.std.specs.Prelude.{◌≡◌, ◌++◌, ◌∷◌, [], map, IfOk, option_copied};
+ghost use Rattle.hl_base.specs.declared.set.Key.TheVariants.{Parm};
+ghost use Rattle.kept_values.specs.Keys.{key_tree};
 ghost use Rattle.expansion_step.specs.Meaning.{fault_by};
 ghost use Rattle.call_sites.specs.Calls.{call_of};
 ghost use Rattle.call_sites.specs.Rules as rules;
@@ -7,23 +9,24 @@ ghost use Rattle.macro_expand.specs.Items.{fault_row, notes_of};
 ghost use Rattle.macro_expand.specs.Language.{hlasm, parm_in};
 ghost use Rattle.macro_expand.specs.Codes.{reading};
 
-use crate::acting::performed;
 use crate::passage::passage_of;
+use crate::performing::performed;
 use crate::{Passage, Said};
 use asking_core::Noted;
 use call_knowledge::{Change, Knowledge, answered};
 use call_sites::{CallSite, Known, is_moving, is_writable, rebased};
 use expansion_step::{CodedLanguage, Fault, Level, Performed, Stack};
 use hl_base::{Answer, Frames, Key, Name, Notes, OutOfMemory, Text};
+use macro_entry::{bound_at_entry, entry_keys};
 use note_rows::{Row, note};
 use std::alloc::Global;
 use trace_values::{Settings, TraceItem};
 
-/// The language of open code.
+/// The language of open code and macros.
 #[derive(Drop)]
 pub struct HlasmLanguage;
 
-/// The asking machine that expands open code.
+/// The asking machine that expands open code and macros.
 pub type Expander = expansion_step::Expander<HlasmLanguage>;
 
 /// The text that is answered for SYSPARM: empty where none is.
@@ -62,6 +65,15 @@ fn with_fault(alloc: Global, mut notes: Notes, row: Option<Row>) -> Result<Notes
             Ok(notes)
         }
     }
+}
+
+/// What open code asks at its entry.
+fn open_code_keys(alloc: Global) -> Result<Vec<Key>, OutOfMemory>
+    ensures { IfOk result (λ keys. map key_tree keys.items ≡ key_tree Parm ∷ []) }
+{
+    let mut keys = Vec::new(alloc);
+    keys.push(Key::Parm)?;
+    Ok(keys)
 }
 
 impl CodedLanguage for HlasmLanguage {
@@ -106,15 +118,15 @@ impl CodedLanguage for HlasmLanguage {
     fn is_open_code(&self, call: &Self::Call) -> bool {
         match call {
             CallSite::OpenCode(_, _) => true,
+            CallSite::Macro(_) => false,
         }
     }
 
     fn entry_keys(&self, alloc: Global, call: &Self::Call) -> Result<Vec<Self::Key>, OutOfMemory> {
-        let mut keys = Vec::new(alloc);
         match call {
-            CallSite::OpenCode(_, _) => keys.push(Key::Parm)?,
+            CallSite::OpenCode(_, _) => open_code_keys(alloc),
+            CallSite::Macro(call) => entry_keys(alloc, &call.definition.definition),
         }
-        Ok(keys)
     }
 
     fn bind(
@@ -128,6 +140,7 @@ impl CodedLanguage for HlasmLanguage {
                 let parm = parm_in(alloc, answered(answers, &Key::Parm))?;
                 Knowledge::open_code(alloc, parm)
             }
+            CallSite::Macro(call) => bound_at_entry(alloc, call, answers),
         }
     }
 
@@ -157,10 +170,13 @@ impl CodedLanguage for HlasmLanguage {
         >,
         OutOfMemory,
     > {
-        match here.listing.listing.element(here.position) {
-            Some(element) => performed(alloc, element.reading, known, answers),
-            None => Ok(Performed::Nothing),
-        }
+        let Some(line) = here.listing.listing.point(here.position) else {
+            return Ok(Performed::Nothing);
+        };
+        let Some(reading) = line.reading() else {
+            return Ok(Performed::Nothing);
+        };
+        performed(alloc, here, line.statement(), reading, known, answers)
     }
 
     fn change(
@@ -182,6 +198,7 @@ impl CodedLanguage for HlasmLanguage {
         let Said {
             notes,
             target,
+            called,
             locals,
             declared,
             globals,
@@ -192,8 +209,8 @@ impl CodedLanguage for HlasmLanguage {
         let frames = stack.here.listing.frames_at(stack.here.position)?;
         Ok(TraceItem {
             frames,
-            definition: None,
-            called: None,
+            definition: stack.here.listing.definition,
+            called,
             entry: Settings::new(alloc),
             locals,
             declared,

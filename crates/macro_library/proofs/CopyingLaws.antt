@@ -120,13 +120,13 @@ met_inside-told told outer begun name member shallow closed is =
 
 -- these are the statements of a member that has a text
 abbrev pub HasText : Member → List Listed → Type 0
-HasText (File path text) list = list ≡ lines_of (File path text)
+HasText (File file) list = list ≡ lines_of (File file)
 HasText Absent list = ⊥
 HasText Unreadable list = ⊥
 
 text_in : (in_lines : List Listed → List Met) (name : List ℕ) (member : Member) (list : List Listed) → HasText member list →
     met_in_told in_lines name (Some member) ≡ in_lines list
-text_in in_lines name (File path text) list is = ap in_lines (sym is)
+text_in in_lines name (File file) list is = ap in_lines (sym is)
 text_in in_lines name Absent list none = absurd none
 text_in in_lines name Unreadable list none = absurd none
 

@@ -55,7 +55,7 @@ abbrev pub met_in_told : (List Listed → List Met) → (name : List ℕ) → Op
 met_in_told in_lines name None = fails (Asks name) ∷ []
 met_in_told in_lines name (Some Absent) = fails (CopyAbsent name) ∷ []
 met_in_told in_lines name (Some Unreadable) = fails (CopyUnreadable name) ∷ []
-met_in_told in_lines name (Some (File path text)) = in_lines (lines_of (File path text))
+met_in_told in_lines name (Some (File file)) = in_lines (lines_of (File file))
 
 -- whether a member is one of those that are being copied
 abbrev pub is_open : (copying : List (List ℕ)) → List ℕ → Bool

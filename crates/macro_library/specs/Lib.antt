@@ -1,3 +1,4 @@
+pub mod Files
 pub mod Members
 pub mod Extents
 pub mod Variables

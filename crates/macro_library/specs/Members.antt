@@ -1,7 +1,6 @@
 -- Members of a library, as they were told (this project).
 use Rattle.std.specs.Prelude.{ℕ, List, [], ◌∷◌, ◌++◌, find, is_some, Option, option_map, if◌then◌else◌}
-use Rattle.std.specs.Rc.{rc_str_bytes}
-use Rattle.std.specs.Str.{bytes_eq, chars}
+use Rattle.std.specs.Str.{bytes_eq}
 use Rattle.hlasm_statements.specs.Statements.{statements_of}
 use Rattle.statement_listing.specs.Listings.{Listed, listing_of}
 use Rattle.macro_library.specs.declared.member.Member.{Member}
@@ -21,7 +20,7 @@ member_of members name = option_map member_in (find (λ (told : Told). bytes_eq 
 
 -- the statements of a member, where it has a text
 abbrev pub lines_of : Member → List Listed
-lines_of (File path text) = listing_of path (statements_of (chars (rc_str_bytes text)))
+lines_of (File file) = listing_of file.path (statements_of file.text)
 lines_of other = []
 
 -- members, and one more of which nothing was told yet; a member of which something was told stays as it was told

@@ -130,7 +130,7 @@ impl Copying {
         match held.member() {
             Member::Absent => Err(DefFault::CopyAbsent(name)),
             Member::Unreadable => Err(DefFault::CopyUnreadable(name)),
-            Member::File(_, _) => {
+            Member::File(_) => {
                 self.enter(alloc, &name, held.lines())?;
                 Ok(())
             }

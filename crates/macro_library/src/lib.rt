@@ -24,5 +24,5 @@ mod variables;
 pub use definition::{Def, read_definition};
 pub use extent::{behind_definition, defining_at};
 pub use fault::DefFault;
-pub use member::{Member, Members};
+pub use member::{Member, MemberFile, Members};
 pub use variables::SystemVariables;

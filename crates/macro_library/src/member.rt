@@ -1,6 +1,8 @@
 //! Members of a library, as they were told.
 ghost use Rattle.std.specs.Prelude.{◌≡◌, [], IfOk, OnOk};
 ghost use Rattle.std.specs.Option.{option_copied};
+ghost use Rattle.std.specs.Rc.{rc_str_bytes};
+ghost use Rattle.std.specs.Str.{chars};
 ghost use Rattle.macro_library.specs.Members as library;
 
 use hl_base::{Name, OutOfMemory, PathId};
@@ -10,6 +12,58 @@ use statement_listing::{Line, lines_of};
 use std::alloc::Global;
 use std::marker::Model;
 use std::rc::RcStr;
+
+/// The file of a member. Contracts see its path and the characters of its text, which is shared.
+#[derive(Drop)]
+pub struct MemberFile {
+    path: PathId,
+    text: RcStr,
+}
+
+impl Model for MemberFile {
+    ghost use Rattle.std.specs.Rc.{rc_str_bytes};
+    ghost use Rattle.std.specs.Str.{chars};
+    ghost use Rattle.macro_library.specs.Files.{File};
+
+    ghost Value = { File };
+
+    ghost view = { λ f. record { path = f.path; text = chars (rc_str_bytes f.text) } };
+}
+
+impl MemberFile {
+    /// The file of this path and text.
+    pub fn of(path: PathId, text: RcStr) -> MemberFile
+        ensures path { result.path ≡ path }
+        ensures text { result.text ≡ chars (rc_str_bytes text) }
+    {
+        MemberFile { path, text }
+    }
+
+    /// Its path.
+    pub fn path(&self) -> PathId
+        ensures { result ≡ self.now.path }
+    {
+        self.path
+    }
+
+    /// Its text.
+    pub fn text(&self) -> &str
+        ensures { chars result.now ≡ self.now.text }
+    {
+        self.text.as_str()
+    }
+
+    /// The same file. It takes no memory; an `Err` comes only where its text is shared more often than can be counted.
+    pub fn share(&self) -> Result<MemberFile, OutOfMemory>
+        ensures { IfOk result (λ f. f ≡ self.now) }
+    {
+        let text = self.text.clone()?;
+        Ok(MemberFile {
+            path: self.path,
+            text,
+        })
+    }
+}
 
 /// What a library answers to the name of a member.
 #[derive(Drop)]
@@ -21,7 +75,7 @@ pub enum Member {
     Unreadable,
 
     /// Its path and its text.
-    File(PathId, RcStr),
+    File(MemberFile),
 }
 
 /// A member with its statements, each of which was read once.
@@ -64,9 +118,9 @@ fn read_lines(alloc: Global, member: &Member) -> Result<Vec<Line>, OutOfMemory>
     ensures { IfOk result (λ lines. lines.items ≡ library.lines_of member.now) }
 {
     match member {
-        Member::File(path, text) => {
-            let statements = read_statements(alloc, text.as_str())?;
-            lines_of(alloc, *path, statements)
+        Member::File(file) => {
+            let statements = read_statements(alloc, file.text())?;
+            lines_of(alloc, file.path(), statements)
         }
         Member::Absent | Member::Unreadable => Ok(Vec::new(alloc)),
     }

@@ -3,6 +3,7 @@ use Rattle.std.proofs.Common.{◌≡◌, ℕ, List, [], ◌∷◌, length, map, 
 use Rattle.std.proofs.Math.Logic.{∥∥₁_elim}
 use Rattle.std.proofs.Props.{props}
 use Rattle.kept_values.specs.Lists.{list_tree}
+use Rattle.hl_base.specs.declared.note.Note.{Note}
 use Rattle.trace_values.specs.declared.item.TraceItem.{TraceItem}
 use Rattle.trace_arena.specs.Nodes.{Node}
 use Rattle.trace_arena.specs.Points.{Point, points}
@@ -10,13 +11,13 @@ use Rattle.asking_core.specs.Machines.{Nothing}
 use Rattle.asking_core.specs.Runs.{Run, Plain}
 use Rattle.plain_expansion.specs.Expansion.{expansion}
 use Rattle.plain_expansion.specs.Laws.{Gives}
-use Rattle.call_sites.specs.Calls.{Call, open_code, call_of, text_in}
+use Rattle.call_sites.specs.Calls.{Call, open_code, open_code_tree, call_of, text_in}
 use Rattle.call_sites.specs.Rules.{rebased}
 use Rattle.program_world.specs.World.{ProgramState, program_world, first_world}
 use Rattle.macro_expand.specs.Language.{hlasm}
 use Rattle.program_assembly.specs.declared.assembly.Assembly.{Assembly}
 use Rattle.program_assembly.specs.Notes.{Ran, notes_of}
-use Rattle.program_assembly.specs.Runs.{open_code_tree, ran_of, IsAssembly}
+use Rattle.program_assembly.specs.Runs.{ran_of, IsReport, IsAssembly}
 use Rattle.trace_paths.specs.Touched.{AreTouched}
 use Rattle.program_assembly.specs.Assembly.{open_code_run, open_code_machine, assembly_notes, IsPlain}
 use Rattle.trace_variables.specs.Globals.{globals_after}
@@ -39,8 +40,8 @@ GivesExpansions = (call : Call) (s : ProgramState) (fuel depth : ℕ) (run : Run
 ran_as : (one other : Ran) → one.points ≡ other.points → one.ended ≡ other.ended → one.unpaid ≡ other.unpaid → one ≡ other
 ran_as one other points_is ended_is unpaid_is = λ i. record { points = points_is i; ended = ended_is i; unpaid = unpaid_is i }
 
-module _ (runs : GivesExpansions) (path : ℕ) (text parm : List ℕ) (budget : ℕ) (nodes : List (Node TraceItem)) (a : Assembly)
-    (is : IsAssembly open_code_machine rebased call_of (λ item. item) (λ frames. frames) path text parm budget nodes a) where
+module _ (runs : GivesExpansions) (path : ℕ) (text parm : List ℕ) (budget : ℕ) (nodes : List (Node TraceItem)) (root : NodeId) (notes : List Note)
+    (is : IsReport open_code_machine rebased call_of (λ item. item) (λ frames. frames) path text parm budget nodes root notes) where
   abbrev s : ProgramState
   s = first_world parm
 
@@ -63,14 +64,23 @@ module _ (runs : GivesExpansions) (path : ℕ) (text parm : List ℕ) (budget : 
       ran_as _ _ points_is (ended_is open_code_machine program_world rebased budget 0 call s _ comes e gives) unpaid_is in
       ran ∙ ap ran_at (call_is path text))
 
-  pub assembly_is_plain : IsPlain path text parm budget nodes a
+  -- so the root has its points, and the notes are those of it
+  pub root_points : points nodes root.0 ≡ (open_code_run path text parm budget).points
+  root_points = ap (λ (n : NodeId). points nodes n.0) is.root_is ∙ ap (λ (r : Ran). r.points) ran_is
+
+  pub report_is_plain : notes ≡ assembly_notes path text parm budget
   unfolding assembly_notes
+  report_is_plain = is.notes_are ∙ ap (notes_of path text) ran_is
+
+module _ (runs : GivesExpansions) (path : ℕ) (text parm : List ℕ) (budget : ℕ) (nodes : List (Node TraceItem)) (a : Assembly)
+    (is : IsAssembly open_code_machine rebased call_of (λ item. item) (λ frames. frames) path text parm budget nodes a) where
+  pub assembly_is_plain : IsPlain path text parm budget nodes a
   assembly_is_plain =
-      let points_is = ap (λ (r : Ran). r.points) ran_is in
+      let points_is = root_points runs path text parm budget nodes a.root a.notes is.reported in
       record {
-        points_are = ap (λ (n : NodeId). points nodes n.0) is.root_is ∙ points_is;
+        points_are = points_is;
         count_is = is.points_are ∙ ap length points_is;
-        notes_are = is.notes_are ∙ ap (notes_of path text) ran_is;
+        notes_are = report_is_plain runs path text parm budget nodes a.root a.notes is.reported;
         globals_are = is.globals_are ∙ ap (λ (ps : List (Point TraceItem)). globals_after (map (λ p. p.item) ps)) points_is;
         touched_are = subst (λ (ps : List (Point TraceItem)). AreTouched ps a.touched) points_is is.touched_are;
       }

@@ -8,12 +8,11 @@ ghost use Rattle.expansion_memo.specs.Running.{IsHandedOut};
 ghost use Rattle.call_sites.specs.Rules.{is_moving, is_writable, rebased};
 ghost use Rattle.program_assembly.specs.Runs.{IsAssembly};
 
-use crate::notes::notes_of;
+use crate::report::{Report, report_of};
 use asking_core::AskMachine;
 use call_sites::{CallSite, Known};
 use expansion_memo::Memo;
 use hl_base::{Frames, Key, Ledger, Notes, OutOfMemory, PathId, Steps, TextId};
-use program_world::{ProgramWorld, the_world_fits};
 use std::alloc::Global;
 use std::rc::RcStr;
 use text_pool::Present;
@@ -41,7 +40,7 @@ pub struct Assembly {
 }
 
 /// Assembles the program of a path and a text, as `assemble` does.
-pub(crate) fn assemble_text<
+fn assemble_text<
     M: AskMachine<Key = Key, Value = Known, Call = CallSite, Item = TraceItem, Frames = Frames>,
     L: Ledger,
 >(
@@ -65,15 +64,12 @@ pub(crate) fn assemble_text<
     ensures stand { OnOk result (AllStand M.model M.rebased M.call_of M.item_of arena.new.nodes memo.new) }
     ensures still_kept { OnOk result ((i : ℕ) (o : KeptOutcome) → kept_at memo.old i ≡ Some o → kept_at memo.new i ≡ Some o) }
 {
-    the_world_fits();
-    let call = CallSite::OpenCode(path, text.clone()?);
-    let mut world = ProgramWorld::new(alloc, parm)?;
-    let outcome = memo.expand(machine, alloc, &call, &mut world, budget, 0, arena, steps)?;
-    let root = outcome.node;
+    let report = report_of(machine, alloc, path, text, parm, memo, arena, budget, steps)?;
+    let Report { root, notes } = report;
     Ok(Assembly {
         root,
         points: arena.points(root),
-        notes: notes_of(alloc, path, text.as_str(), arena, &outcome)?,
+        notes,
         globals: globals_at_end(alloc, arena, root)?,
         touched: touched_paths(alloc, arena, root)?,
     })

@@ -16,6 +16,7 @@ mod notes;
 mod places;
 mod plain;
 mod point_notes;
+mod report;
 
 pub use assembler::Assembler;
 pub use assembly::{Assembly, assemble};

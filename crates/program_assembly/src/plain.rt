@@ -4,8 +4,7 @@ ghost use Rattle.std.specs.Rc.{rc_str_bytes};
 ghost use Rattle.std.specs.Str.{chars};
 ghost use Rattle.program_assembly.specs.Assembly.{assembly_notes, AssembliesArePlain};
 
-use crate::Assembly;
-use crate::assembly::assemble_text;
+use crate::report::report_of;
 use expansion_memo::Memo;
 use expansion_step::runs_are_expansions;
 use hl_base::{Ledger, Notes, OutOfMemory, PathId, Steps};
@@ -31,17 +30,10 @@ pub fn assembly_notes<L: Ledger>(
     let machine = Expander::new(HlasmLanguage);
     let mut memo: Memo<Expander> = Memo::new(alloc);
     let mut arena = TraceArena::new(alloc);
-    let assembly = assemble_text(
+    let report = report_of(
         &machine, alloc, path, text, parm, &mut memo, &mut arena, budget, steps,
     )?;
-    let Assembly {
-        root: _,
-        points: _,
-        notes,
-        globals: _,
-        touched: _,
-    } = assembly;
-    Ok(notes)
+    Ok(report.notes)
 }
 
 /// What an assembly by the machine that expands HLASM says of a program is what the program's plain expansion says. The function

@@ -36,7 +36,8 @@ meaning_in (Fork (Leaf letter) (Leaf length)) = answer.Meaning (record { letter 
 meaning_in (Fork (Leaf letter) (Fork a b)) = answer.Nothing
 meaning_in (Fork (Fork a b) t) = answer.Nothing
 
--- an answer of this kind: those that say nothing more, and those that do
+-- An answer of this kind: those that say nothing more, and those that do. The kind of macros (8) tells that an operation is
+-- defined; of what else is known expressions are told nothing.
 abbrev pub plain_answer_in : ℕ → Answer
 plain_answer_in kind = if kind == 4 then answer.Defined else (if kind == 6 then answer.Unreadable else answer.Nothing)
 
@@ -47,7 +48,8 @@ answer_of_kind kind t =
     else (if kind == 3 then answer.Chars (list_in t)
     else (if kind == 5 then file_in t
     else (if kind == 7 then meaning_in t
-    else answer.Nothing))))
+    else (if kind == 8 then answer.Defined
+    else answer.Nothing)))))
 
 -- the answer
 abbrev pub answer_in : Tree → Answer

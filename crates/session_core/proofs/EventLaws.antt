@@ -13,15 +13,15 @@ use Rattle.session_core.specs.declared.state.Stage.{Stage}
 use Rattle.session_core.specs.Message.{asked, asked_at}
 use Rattle.session_core.specs.Replies.{log_line, refusal_of}
 use Rattle.session_core.specs.State.{State}
-use Rattle.session_core.specs.Step.{Step, IsStep}
+use Rattle.session_core.specs.Step.{Effect, IsEffect}
 use Rattle.session_core.proofs.StoreLaws.{Answers-refused}
 
 -- a step whose bodies are told in other words
-pub with_bodies : (step : Step) (s : State) (bodies others : List (List ℕ)) → others ≡ bodies → IsStep step s bodies → IsStep step s others
+pub with_bodies : (step : Effect) (s : State) (bodies others : List (List ℕ)) → others ≡ bodies → IsEffect step s bodies → IsEffect step s others
 with_bodies step s bodies others same is = is ∙ ap (λ z. record { state = s; bodies = z }) (sym same)
 
 -- and its state
-pub with_state : (step : Step) (s t : State) (bodies : List (List ℕ)) → t ≡ s → IsStep step s bodies → IsStep step t bodies
+pub with_state : (step : Effect) (s t : State) (bodies : List (List ℕ)) → t ≡ s → IsEffect step s bodies → IsEffect step t bodies
 with_state step s t bodies same is = is ∙ ap (λ z. record { state = z; bodies = bodies }) (sym same)
 
 -- what was refused has left the state as it was
@@ -29,7 +29,7 @@ pub state_kept : (s old : State) (store : Store) (queue : List PathId) → old �
 state_kept s old store queue is kept same = ap (λ z. record old { store = z; queue = queue }) kept ∙ ap (λ q. record old { queue = q }) same ∙ is
 
 -- a message at a stage that is known
-pub asked_in : (stage : Stage) (s now : State) (told : Result LspIn Refusal) (bodies : List (List ℕ)) → s.stage ≡ stage → IsStep (asked_at stage s told) now bodies → IsStep (asked s told) now bodies
+pub asked_in : (stage : Stage) (s now : State) (told : Result LspIn Refusal) (bodies : List (List ℕ)) → s.stage ≡ stage → IsEffect (asked_at stage s told) now bodies → IsEffect (asked s told) now bodies
 asked_in stage s now told bodies is step = ap (λ z. asked_at z s told) is ∙ step
 
 -- ---- what the store answers
@@ -54,7 +54,7 @@ Logs method refused bodies = (refused ≢ fault.OutOfMemory) × (bodies ≡ log_
 
 -- the store has refused a change
 pub change_refused : (s now : State) (method : List ℕ) (wanted asked : Result Store StoreFault) (refused : StoreFault) (new : Store) (bodies : List (List ℕ))
-    → wanted ≡ asked → Answers asked (Err refused) new → now ≡ s → Logs method refused bodies → IsStep (change_asked s method wanted) now bodies
+    → wanted ≡ asked → Answers asked (Err refused) new → now ≡ s → Logs method refused bodies → IsEffect (change_asked s method wanted) now bodies
 change_refused s now method wanted asked refused new bodies same answers kept logs =
     let told : wanted ≡ Err refused = same ∙ Answers-refused asked refused new answers logs.0 in
     ap (change_asked s method) told ∙ ap (λ z. record { state = z; bodies = log_line method (refusal_of refused) ∷ [] }) (sym kept)
@@ -62,7 +62,7 @@ change_refused s now method wanted asked refused new bodies same answers kept lo
 
 -- the store has refused to close
 pub closing_refused : (s now : State) (method : List ℕ) (n : Option PathId) (wanted asked : Result Store StoreFault) (refused : StoreFault) (new : Store) (bodies : List (List ℕ))
-    → wanted ≡ asked → Answers asked (Err refused) new → now ≡ s → Logs method refused bodies → IsStep (closing_asked s method n wanted) now bodies
+    → wanted ≡ asked → Answers asked (Err refused) new → now ≡ s → Logs method refused bodies → IsEffect (closing_asked s method n wanted) now bodies
 closing_refused s now method n wanted asked refused new bodies same answers kept logs =
     let told : wanted ≡ Err refused = same ∙ Answers-refused asked refused new answers logs.0 in
     ap (closing_asked s method n) told ∙ ap (λ z. record { state = z; bodies = log_line method (refusal_of refused) ∷ [] }) (sym kept)

@@ -23,23 +23,23 @@ use Rattle.document_store.specs.Changes.{opened, changed, closed}
 use Rattle.document_store.specs.declared.fault.StoreFault.{StoreFault}
 use Rattle.session_core.specs.declared.state.LastList.{LastList}
 use Rattle.session_core.specs.Diagnostics.{diagnostics_of}
-use Rattle.session_core.specs.Laws.{is_listed, AreFresh, AllQueued}
-use Rattle.session_core.specs.Message.{message, received, asked, effect, effect_of, after_change, after_closing, queue_all, is_passed_over, unless_refused}
+use Rattle.session_core.specs.Laws.{is_listed, AreFresh, AllQueued, LeavesFresh, KeepsOrQueues}
+use Rattle.session_core.specs.Message.{message, event, received, asked, effect, effect_of, after_change, after_closing, queue_all, is_passed_over, unless_refused}
 use Rattle.session_core.specs.Refusals.{Refused, refusal, is_ended}
 use Rattle.session_core.specs.Replies.{list_body}
 use Rattle.session_core.specs.Same.{is_same_position, is_same_span, is_same_relation, is_same_diagnostic, is_same_list}
 use Rattle.session_core.specs.State.{State, start, number_at, number_named, is_number, is_program, is_queued, document_at, programs, with_programs, last_list, without_list, with_list, without, published_without}
-use Rattle.session_core.specs.Step.{Step, quiet, says}
+use Rattle.session_core.specs.Step.{Effect, quiet, says}
 use Rattle.session_core.proofs.TextLaws.{found_passes}
 use Rattle.session_core.specs.Turn.{is_published, publish, assemble_first, assemble_many, turn, turn_of, turn_at, without_first}
 
 -- ---- tests
 
-or_right : (a b : Bool) → b ≡ true → (a || b) ≡ true
+pub or_right : (a b : Bool) → b ≡ true → (a || b) ≡ true
 or_right true b is = refl
 or_right false b is = is
 
-or_split : (a b : Bool) → (a || b) ≡ false → (a ≡ false) × (b ≡ false)
+pub or_split : (a b : Bool) → (a || b) ≡ false → (a ≡ false) × (b ≡ false)
 or_split true b is = cc
 or_split false b is = (refl, is)
 
@@ -47,11 +47,11 @@ and_true : (a b : Bool) → a ≡ true → b ≡ true → (a && b) ≡ true
 and_true true b one two = two
 and_true false b one two = cc
 
-not_both : (b : Bool) → b ≡ true → b ≡ false → ⊥
+pub not_both : (b : Bool) → b ≡ true → b ≡ false → ⊥
 not_both true is other = cc
 not_both false is other = cc
 
-any_front : {X : Type 0} (p : X → Bool) (xs ys : List X) → list_any p xs ≡ true → list_any p (xs ++ ys) ≡ true
+pub any_front : {X : Type 0} (p : X → Bool) (xs ys : List X) → list_any p xs ≡ true → list_any p (xs ++ ys) ≡ true
 any_front p [] ys here = cc
 any_front p (x ∷ xs) ys here = by_first (p x) here (any_front p xs ys) where
   by_first : (b : Bool) → (b || list_any p xs) ≡ true → (list_any p xs ≡ true → list_any p (xs ++ ys) ≡ true) → (b || list_any p (xs ++ ys)) ≡ true
@@ -64,16 +64,16 @@ any_back p (x ∷ xs) ys there = or_right (p x) (list_any p (xs ++ ys)) (any_bac
 
 -- ---- numbers
 
-same_number : (n m : PathId) → is_number n m ≡ true → n ≡ m
+pub same_number : (n m : PathId) → is_number n m ≡ true → n ≡ m
 same_number n m is = ap (λ (k : ℕ). record { 0 = k }) ((Decides-eqb n.0 m.0).0 is)
 
 number_back : (n m : PathId) → is_number n m ≡ true → is_number m n ≡ true
 number_back n m is = (Decides-eqb m.0 n.0).1 (sym ((Decides-eqb n.0 m.0).0 is))
 
-number_itself : (n : PathId) → is_number n n ≡ true
+pub number_itself : (n : PathId) → is_number n n ≡ true
 number_itself n = (Decides-eqb n.0 n.0).1 refl
 
-other_number : (a b : PathId) → is_number b a ≡ false → is_number a b ≡ false
+pub other_number : (a b : PathId) → is_number b a ≡ false → is_number a b ≡ false
 other_number a b differs = by_test (is_number a b) refl where
   by_test : (c : Bool) → is_number a b ≡ c → c ≡ false
   by_test true same = absurd (not_both (is_number b a) (number_back a b same) differs)
@@ -180,7 +180,7 @@ listed_path published n last found = same_number last.path n (found_passes (λ (
 
 -- ---- what was last published
 
-last_other : (published : List LastList) (last : LastList) (m : PathId) → is_number last.path m ≡ false → last_list (with_list published last) m ≡ last_list published m
+pub last_other : (published : List LastList) (last : LastList) (m : PathId) → is_number last.path m ≡ false → last_list (with_list published last) m ≡ last_list published m
 last_other [] last m other = ap (λ b. cond b (Some last) None) other
 last_other (x ∷ published) last m other = by_kept (is_number x.path last.path) refl (last_other published last m other) where
   others : List LastList
@@ -193,7 +193,7 @@ last_other (x ∷ published) last m other = by_kept (is_number x.path last.path)
       behind ∙ ap (λ b. cond b (Some x) (last_list published m)) (sym path)
   by_kept false differs behind = ap (λ z. cond (is_number x.path m) (Some x) z) behind
 
-last_newest : (published : List LastList) (last : LastList) → last_list (with_list published last) last.path ≡ Some last
+pub last_newest : (published : List LastList) (last : LastList) → last_list (with_list published last) last.path ≡ Some last
 last_newest [] last = ap (λ b. cond b (Some last) None) (number_itself last.path)
 last_newest (x ∷ published) last = by_kept (is_number x.path last.path) refl (last_newest published last) where
   others : List LastList
@@ -277,14 +277,14 @@ fresh_many (suc n) s fresh = fresh_many n (assemble_first s).state (fresh_first 
 -- ---- messages
 
 -- what a step leaves: lists are fresh, but behind the end
-abbrev IsGood : Step → Type 0
+abbrev IsGood : Effect → Type 0
 IsGood step = is_ended step.state.stage ≡ false → AreFresh step.state
 
-good_cond : (b : Bool) (step other : Step) → IsGood step → IsGood other → IsGood (cond b step other)
+good_cond : (b : Bool) (step other : Effect) → IsGood step → IsGood other → IsGood (cond b step other)
 good_cond true step other good also = good
 good_cond false step other good also = also
 
-good_unless : (s : State) (why : Option Refused) (step : Step) → AreFresh s → IsGood step → IsGood (unless_refused s why step)
+good_unless : (s : State) (why : Option Refused) (step : Effect) → AreFresh s → IsGood step → IsGood (unless_refused s why step)
 good_unless s None step fresh good = good
 good_unless s (Some why) step fresh good = λ alive. fresh
 
@@ -322,8 +322,8 @@ good_received : (s : State) (value : Option Data) → AreFresh s → IsGood (rec
 good_received s None fresh = λ alive. fresh
 good_received s (Some value) fresh = good_cond (is_response value) (quiet s) (asked s (message_of value)) (λ alive. fresh) (good_asked s (message_of value) fresh)
 
-pub fresh_message : (s : State) (body : List ℕ) (calls : List LibraryCall) → AreFresh s → is_ended (message s body calls).state.stage ≡ false → AreFresh (message s body calls).state
-unfolding message
+pub fresh_message : (s : State) (body : List ℕ) (calls : List LibraryCall) → AreFresh s → LeavesFresh (message s body calls)
+unfolding event
 fresh_message s body calls fresh = good_cond (is_ended s.stage) (quiet s) (received s (reading body)) (λ alive. fresh) (good_received s (reading body) fresh)
 
 pub fresh_start : (budget : ℕ) → AreFresh (start budget)
@@ -332,22 +332,22 @@ fresh_start budget n document found program free = cc
 -- ---- changes
 
 -- the documents are as they were, or every program is queued
-abbrev KeepsOrQueues : State → Step → Type 0
-KeepsOrQueues s step = (step.state.store ≡ s.store) ⊎ AllQueued step.state
+abbrev KeepsThemOrQueues : State → Effect → Type 0
+KeepsThemOrQueues s effect = (effect.state.store ≡ s.store) ⊎ AllQueued effect.state
 
-keeps_cond : (s : State) (b : Bool) (step other : Step) → KeepsOrQueues s step → KeepsOrQueues s other → KeepsOrQueues s (cond b step other)
+keeps_cond : (s : State) (b : Bool) (step other : Effect) → KeepsThemOrQueues s step → KeepsThemOrQueues s other → KeepsThemOrQueues s (cond b step other)
 keeps_cond s true step other keeps also = keeps
 keeps_cond s false step other keeps also = also
 
-keeps_unless : (s : State) (why : Option Refused) (step : Step) → KeepsOrQueues s step → KeepsOrQueues s (unless_refused s why step)
+keeps_unless : (s : State) (why : Option Refused) (step : Effect) → KeepsThemOrQueues s step → KeepsThemOrQueues s (unless_refused s why step)
 keeps_unless s None step keeps = keeps
 keeps_unless s (Some why) step keeps = inl refl
 
-keeps_change : (s : State) (asked : Result Store StoreFault) → KeepsOrQueues s (after_change s asked)
+keeps_change : (s : State) (asked : Result Store StoreFault) → KeepsThemOrQueues s (after_change s asked)
 keeps_change s (Ok store) = inr (all_queued (record s { store = store }))
 keeps_change s (Err fault) = inl refl
 
-keeps_closing : (s : State) (n : Option PathId) (asked : Result Store StoreFault) → KeepsOrQueues s (after_closing s n asked)
+keeps_closing : (s : State) (n : Option PathId) (asked : Result Store StoreFault) → KeepsThemOrQueues s (after_closing s n asked)
 keeps_closing s n (Ok store) = inr (all_queued (left_behind s n store))
 keeps_closing s n (Err fault) = inl refl
 
@@ -370,7 +370,7 @@ store_of_many : (n : ℕ) (s : State) → (assemble_many n s).state.store ≡ s.
 store_of_many zero s = refl
 store_of_many (suc n) s = store_of_many n (assemble_first s).state ∙ store_of_first s
 
-keeps_effect : (s : State) (message : LspIn) → KeepsOrQueues s (effect s message)
+keeps_effect : (s : State) (message : LspIn) → KeepsThemOrQueues s (effect s message)
 keeps_effect s (Initialize id root) = inl refl
 keeps_effect s (Shutdown id) = inl (store_of_many (length s.queue) s)
 keeps_effect s Initialized = inl refl
@@ -381,17 +381,17 @@ keeps_effect s (DidClose uri) = keeps_closing s (number_named s.store uri) (clos
 keeps_effect s DidSave = inl refl
 keeps_effect s DidChangeConfiguration = inl refl
 
-keeps_of : (s : State) (told : Result LspIn Refusal) → KeepsOrQueues s (effect_of s told)
+keeps_of : (s : State) (told : Result LspIn Refusal) → KeepsThemOrQueues s (effect_of s told)
 keeps_of s (Ok message) = keeps_effect s message
 keeps_of s (Err refusal) = inl refl
 
-keeps_asked : (s : State) (told : Result LspIn Refusal) → KeepsOrQueues s (asked s told)
+keeps_asked : (s : State) (told : Result LspIn Refusal) → KeepsThemOrQueues s (asked s told)
 keeps_asked s told = keeps_cond s (is_passed_over s.stage told) (quiet s) _ (inl refl) (keeps_unless s (refusal s.stage s.store (Some told)) (effect_of s told) (keeps_of s told))
 
-keeps_received : (s : State) (value : Option Data) → KeepsOrQueues s (received s value)
+keeps_received : (s : State) (value : Option Data) → KeepsThemOrQueues s (received s value)
 keeps_received s None = inl refl
 keeps_received s (Some value) = keeps_cond s (is_response value) (quiet s) (asked s (message_of value)) (inl refl) (keeps_asked s (message_of value))
 
-pub change_queues : (s : State) (body : List ℕ) (calls : List LibraryCall) → ((message s body calls).state.store ≡ s.store) ⊎ AllQueued (message s body calls).state
-unfolding message
+pub change_queues : (s : State) (body : List ℕ) (calls : List LibraryCall) → KeepsOrQueues s (message s body calls)
+unfolding event
 change_queues s body calls = keeps_cond s (is_ended s.stage) (quiet s) (received s (reading body)) (inl refl) (keeps_received s (reading body))

@@ -2,6 +2,7 @@ pub mod DiagnosticLaws
 pub mod EventLaws
 pub mod FreshLaws
 pub mod ListLaws
+pub mod ListedLaws
 pub mod MessageLaws
 pub mod ProgramLaws
 pub mod StoreLaws

@@ -1,5 +1,5 @@
 -- What a message that is refused leaves, and what stands behind the end.
-use Rattle.std.proofs.Common.{◌≡◌, ℕ, Bool, true, false, not, cond, List, [], ◌∷◌, Option, Some, None, Result, Ok, Err, refl, arith, codes}
+use Rattle.std.proofs.Common.{◌≡◌, ℕ, Bool, true, false, not, cond, ◌≤◌, List, [], ◌∷◌, length, Option, Some, None, Result, Ok, Err, refl, ap, arith, codes}
 use Rattle.std.specs.Prelude.{is_err}
 use Rattle.serde_json.specs.Data.{Data}
 use Rattle.json_view.specs.Texts.{reading}
@@ -17,21 +17,25 @@ use Rattle.session_core.specs.declared.state.Stage.{Stage}
 use Rattle.session_core.specs.declared.state.Stage.TheVariants.{Fresh, Active, Closing, Ended}
 use Rattle.session_core.specs.Held.{phase_of}
 use Rattle.session_core.specs.Laws.{is_refused, is_refused_value, is_refused_body, Keeps}
-use Rattle.session_core.specs.Message.{message, received, asked, effect_of, is_passed_over, unless_refused}
+use Rattle.session_core.specs.Message.{message, event, received, asked, effect_of, is_passed_over, unless_refused}
 use Rattle.session_core.specs.Refusals.{Refused, OutOfPlace, TooEarly, where_so, first_of, refusal, log_fault, is_fresh, is_active, is_closed, is_ended}
 use Rattle.session_core.specs.State.{State}
-use Rattle.session_core.specs.Step.{Step, quiet}
+use Rattle.session_core.specs.Step.{Effect, quiet, Goes}
 
-keeps_quiet : (s : State) → Keeps (quiet s) s
+-- the state is left, and one body may be written
+abbrev LeavesState : Effect → State → Type 0
+LeavesState effect s = (effect.state ≡ s) × (length effect.bodies ≤ 1)
+
+keeps_quiet : (s : State) → LeavesState (quiet s) s
 keeps_quiet s = (refl, omega arith)
 
 -- what keeps the state in either case keeps it
-keeps_cond : (s : State) (b : Bool) (step other : Step) → Keeps step s → Keeps other s → Keeps (cond b step other) s
+keeps_cond : (s : State) (b : Bool) (step other : Effect) → LeavesState step s → LeavesState other s → LeavesState (cond b step other) s
 keeps_cond s true step other keeps also = keeps
 keeps_cond s false step other keeps also = also
 
 -- what is refused keeps it
-keeps_refused : (s : State) (why : Option Refused) (step : Step) → (why ≡ None → Keeps step s) → Keeps (unless_refused s why step) s
+keeps_refused : (s : State) (why : Option Refused) (step : Effect) → (why ≡ None → LeavesState step s) → LeavesState (unless_refused s why step) s
 keeps_refused s None step keeps = keeps refl
 keeps_refused s (Some why) step keeps = (refl, omega arith)
 
@@ -54,7 +58,7 @@ refused_by_fault method (Ok store) refused none = cc
 refused_by_fault method (Err fault) refused none = cc
 
 -- a message that is refused has a reason, or what was read in its place does nothing
-refused_keeps : (s : State) (told : Result LspIn Refusal) → is_refused s told ≡ true → refusal s.stage s.store (Some told) ≡ None → Keeps (effect_of s told) s
+refused_keeps : (s : State) (told : Result LspIn Refusal) → is_refused s told ≡ true → refusal s.stage s.store (Some told) ≡ None → LeavesState (effect_of s told) s
 refused_keeps s (Err refusal) refused none = keeps_quiet s
 refused_keeps s (Ok (Initialize id root)) refused none = absurd (refused_early s.stage id _ refused none)
 refused_keeps s (Ok (Shutdown id)) refused none = absurd (refused_late s.stage id _ refused none)
@@ -66,24 +70,30 @@ refused_keeps s (Ok Exit) refused none = cc
 refused_keeps s (Ok DidSave) refused none = cc
 refused_keeps s (Ok DidChangeConfiguration) refused none = cc
 
-asked_kept : (s : State) (told : Result LspIn Refusal) → is_refused s told ≡ true → Keeps (asked s told) s
+asked_kept : (s : State) (told : Result LspIn Refusal) → is_refused s told ≡ true → LeavesState (asked s told) s
 asked_kept s told refused =
     keeps_cond s (is_passed_over s.stage told) _ _ (keeps_quiet s)
     (keeps_refused s (refusal s.stage s.store (Some told)) (effect_of s told) (refused_keeps s told refused))
 
-received_kept : (s : State) (value : Option Data) → is_refused_value s value ≡ true → Keeps (received s value) s
+received_kept : (s : State) (value : Option Data) → is_refused_value s value ≡ true → LeavesState (received s value) s
 received_kept s None refused = (refl, omega arith)
 received_kept s (Some value) refused = keeps_cond s (is_response value) _ _ (keeps_quiet s) (asked_kept s (message_of value) refused)
 
-pub message_kept : (s : State) (body : List ℕ) (calls : List LibraryCall) → is_refused_body s body ≡ true → Keeps (message s body calls) s
-unfolding message
-message_kept s body calls refused = keeps_cond s (is_ended s.stage) _ _ (keeps_quiet s) (received_kept s (reading body) refused)
+event_kept : (s : State) (body : List ℕ) → is_refused_body s body ≡ true → LeavesState (event s body) s
+unfolding event
+event_kept s body refused = keeps_cond s (is_ended s.stage) _ _ (keeps_quiet s) (received_kept s (reading body) refused)
 
-pub message_ended : (s : State) (closed : Bool) (body : List ℕ) (calls : List LibraryCall) → phase_of s ≡ phases.Exit closed → message s body calls ≡ quiet s
-unfolding message
-message_ended s closed body calls ends = by_stage s.stage refl where
+pub message_kept : (s : State) (body : List ℕ) (calls : List LibraryCall) → is_refused_body s body ≡ true → Keeps (message s body calls) s calls
+message_kept s body calls refused = let kept = event_kept s body refused in (kept.0, kept.1, refl)
+
+event_ended : (s : State) (closed : Bool) (body : List ℕ) → phase_of s ≡ phases.Exit closed → event s body ≡ quiet s
+unfolding event
+event_ended s closed body ends = by_stage s.stage refl where
   by_stage : (stage : Stage) → s.stage ≡ stage → cond (is_ended stage) (quiet s) (received s (reading body)) ≡ quiet s
   by_stage Fresh e = let h = rw e at ends in cc
   by_stage Active e = let h = rw e at ends in cc
   by_stage Closing e = let h = rw e at ends in cc
   by_stage (Ended c) e = refl
+
+pub message_ended : (s : State) (closed : Bool) (body : List ℕ) (calls : List LibraryCall) → phase_of s ≡ phases.Exit closed → message s body calls ≡ Goes s [] calls
+message_ended s closed body calls ends = ap (λ (z : Effect). Goes z.state z.bodies calls) (event_ended s closed body ends)

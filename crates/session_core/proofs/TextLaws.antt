@@ -18,7 +18,7 @@ use Rattle.session_core.specs.declared.state.LastList.{LastList}
 use Rattle.session_core.specs.Replies.{list_body}
 use Rattle.session_core.specs.Diagnostics.{diagnostics_of}
 use Rattle.session_core.specs.State.{State, number_at, is_number, document_at, last_list, with_list}
-use Rattle.session_core.specs.Step.{quiet, says, IsStep}
+use Rattle.session_core.specs.Step.{quiet, says, IsEffect}
 use Rattle.session_core.specs.Turn.{turn_at, publish, is_published}
 use Rattle.session_core.proofs.ProgramLaws.{number_shown}
 
@@ -80,6 +80,9 @@ found_passes test (y ∷ xs) x found = by_test (test y) refl found (λ behind. f
 -- the Turn of a number publishes this list of this document
 pub record IsListed (s : State) (n : PathId) (shown : Document) (list : List Diagnostic) : Type 0 where
   pub document : OpenDocument
+  pub found : document_at s.store n ≡ Some document
+  pub number : number_of s.store.paths document.path ≡ Some n.0
+  pub made : list ≡ diagnostics_of s.budget n document.text
   pub turn : turn_at s n (document_at s.store n) ≡ publish s n document list
   pub uri : chars shown.uri.now ≡ document.uri
   pub version : shown.version ≡ document.version
@@ -101,6 +104,9 @@ listed s n shown text list is tells made = by_document (document_at s.store n) r
       let number : number_of s.store.paths document.path ≡ Some n.0 = shows.number ∙ ap (λ z. Some z) same in
       record {
         document = document;
+        found = e;
+        number = number;
+        made = made ∙ ap (diagnostics_of s.budget n) (tells document e path number);
         turn = ap (turn_at s n) e ∙ ap (publish s n document) (ap (diagnostics_of s.budget n) (sym (tells document e path number)) ∙ sym made);
         uri = shows.uri;
         version = shows.version;
@@ -108,7 +114,7 @@ listed s n shown text list is tells made = by_document (document_at s.store n) r
 
 -- it was published already
 pub publish_again : (s : State) (n : PathId) (shown : Document) (list : List Diagnostic) → IsListed s n shown list
-    → is_published (last_list s.published n) shown.version list ≡ true → IsStep (turn_at s n (document_at s.store n)) s []
+    → is_published (last_list s.published n) shown.version list ≡ true → IsEffect (turn_at s n (document_at s.store n)) s []
 publish_again s n shown list is old =
     let test : is_published (last_list s.published n) is.document.version list ≡ true = ap (λ v. is_published (last_list s.published n) v list) (sym is.version) ∙ old in
     is.turn ∙ ap (λ b. cond b (quiet s) (says
@@ -119,7 +125,7 @@ publish_again s n shown list is old =
 pub publish_new : (s : State) (n : PathId) (shown : Document) (list : List Diagnostic) (body : List ℕ) (published : List LastList) → IsListed s n shown list
     → is_published (last_list s.published n) shown.version list ≡ false → body ≡ list_body (chars shown.uri.now) (Some shown.version) list
     → published ≡ with_list s.published (record { path = n; version = shown.version; list = list })
-    → IsStep (turn_at s n (document_at s.store n)) (record s { published = published }) (body ∷ [])
+    → IsEffect (turn_at s n (document_at s.store n)) (record s { published = published }) (body ∷ [])
 publish_new s n shown list body published is fresh told kept =
     let test : is_published (last_list s.published n) is.document.version list ≡ false = ap (λ v. is_published (last_list s.published n) v list) (sym is.version) ∙ fresh in
     let step : turn_at s n (document_at s.store n) ≡ says

@@ -7,11 +7,11 @@ use Rattle.lsp_messages.specs.declared.outgoing.Diagnostic.{Diagnostic}
 use Rattle.session_core.specs.declared.state.LastList.{LastList}
 use Rattle.session_core.specs.Diagnostics.{diagnostics_of}
 use Rattle.session_core.specs.State.{State, document_at, last_list}
-use Rattle.session_core.specs.Step.{Step, quiet, says, and_then, IsStep}
+use Rattle.session_core.specs.Step.{Effect, quiet, says, and_then, IsEffect}
 use Rattle.session_core.specs.Turn.{assemble_first, turn_of, assemble_many, assemble_all, answer_waiting, turn, turn_at, publish, is_published, without_first}
 
 -- a step whose state has lost the first queued program
-abbrev without_first_of : Step → Step
+abbrev without_first_of : Effect → Effect
 without_first_of step = record step { state = without_first step.state }
 
 -- whether the first program has left the queue makes no difference to what is published
@@ -29,12 +29,12 @@ turn_at_first s n (Some document) = publish_first s n document (diagnostics_of s
 
 -- a program's list, and then it leaves the queue
 pub turn_first : (s now : State) (n : PathId) (bodies : List (List ℕ)) → slice_get s.queue 0 ≡ Some n
-    → IsStep (turn_at s n (document_at s.store n)) now bodies → IsStep (assemble_first s) (without_first now) bodies
+    → IsEffect (turn_at s n (document_at s.store n)) now bodies → IsEffect (assemble_first s) (without_first now) bodies
 unfolding assemble_first
 turn_first s now n bodies first step = ap (turn_of s) first ∙ turn_at_first s n (document_at s.store n) ∙ ap without_first_of step
 
 -- where none is queued
-pub turn_none : (s : State) → slice_get s.queue 0 ≡ None → IsStep (assemble_first s) s []
+pub turn_none : (s : State) → slice_get s.queue 0 ≡ None → IsEffect (assemble_first s) s []
 unfolding assemble_first
 turn_none s none = ap (turn_of s) none
 
@@ -74,33 +74,33 @@ turns_next s (n ∷ rest) e some =
 pub record IsTurning (first now : State) (done : List (List ℕ)) : Type 0 where
   pub rest : assemble_all first ≡ record (assemble_all now) { bodies = done ++ (assemble_all now).bodies }
 
-pub turning_goes_on : (first now next : State) (done bodies : List (List ℕ)) → IsTurning first now done → now.queue ≢ [] → IsStep (assemble_first now) next bodies → IsTurning first next (done ++ bodies)
+pub turning_goes_on : (first now next : State) (done bodies : List (List ℕ)) → IsTurning first now done → now.queue ≢ [] → IsEffect (assemble_first now) next bodies → IsTurning first next (done ++ bodies)
 turning_goes_on first now next done bodies turning some step =
     let more : assemble_all now ≡ record (assemble_all next) { bodies = bodies ++ (assemble_all next).bodies } =
-    turns_next now now.queue refl some ∙ ap (λ (z : Step). and_then z assemble_all) step in
+    turns_next now now.queue refl some ∙ ap (λ (z : Effect). and_then z assemble_all) step in
     record {
-      rest = turning.rest ∙ ap (λ (z : Step). record z { bodies = done ++ z.bodies }) more
+      rest = turning.rest ∙ ap (λ (z : Effect). record z { bodies = done ++ z.bodies }) more
           ∙ ap (λ z. record (assemble_all next) { bodies = z }) (sym (append_assoc done bodies (assemble_all next).bodies));
     }
 
 pub turning_told : (first now : State) (done others : List (List ℕ)) → others ≡ done → IsTurning first now done → IsTurning first now others
 turning_told first now done others same turning = subst (IsTurning first now) (sym same) turning
 
-pub turning_ends : (first now : State) (done : List (List ℕ)) → IsTurning first now done → now.queue ≡ [] → IsStep (assemble_all first) now done
+pub turning_ends : (first now : State) (done : List (List ℕ)) → IsTurning first now done → now.queue ≡ [] → IsEffect (assemble_all first) now done
 turning_ends first now done turning none =
     let left : assemble_all now ≡ quiet now = ap (λ (z : List PathId). assemble_many (length z) now) none in
-    turning.rest ∙ ap (λ (z : Step). record z { bodies = done ++ z.bodies }) left ∙ ap (λ z. record { state = now; bodies = z }) (append-nil done)
+    turning.rest ∙ ap (λ (z : Effect). record z { bodies = done ++ z.bodies }) left ∙ ap (λ z. record { state = now; bodies = z }) (append-nil done)
 
-pub turning_smaller : (now next : State) (bodies : List (List ℕ)) → now.queue ≢ [] → IsStep (assemble_first now) next bodies → length next.queue < length now.queue
+pub turning_smaller : (now next : State) (bodies : List (List ℕ)) → now.queue ≢ [] → IsEffect (assemble_first now) next bodies → length next.queue < length now.queue
 turning_smaller now next bodies some step =
-    let same : (assemble_first now).state ≡ next = ap (λ (z : Step). z.state) step in
+    let same : (assemble_first now).state ≡ next = ap (λ (z : Effect). z.state) step in
     let queue : length next.queue ≡ length (drop 1 now.queue) = ap (λ (s : State). length s.queue) (sym same) ∙ ap length (turn_queue now some) in
     let fewer = fewer_queued now.queue some in
     omega arith
 
 -- one Turn: a list, and then what is answered
-pub turn_whole : (s now next : State) (bodies answers all : List (List ℕ)) → IsStep (assemble_first s) now bodies → IsStep (answer_waiting now) next answers → all ≡ bodies ++ answers → IsStep (turn s) next all
+pub turn_whole : (s now next : State) (bodies answers all : List (List ℕ)) → IsEffect (assemble_first s) now bodies → IsEffect (answer_waiting now) next answers → all ≡ bodies ++ answers → IsEffect (turn s) next all
 turn_whole s now next bodies answers all list waited is =
-    ap (λ (z : Step). and_then z answer_waiting) list
-    ∙ ap (λ (z : Step). record { state = z.state; bodies = bodies ++ z.bodies }) waited
+    ap (λ (z : Effect). and_then z answer_waiting) list
+    ∙ ap (λ (z : Effect). record { state = z.state; bodies = bodies ++ z.bodies }) waited
     ∙ ap (λ z. record { state = next; bodies = z }) (sym is)

@@ -1,7 +1,8 @@
 -- Words of the laws of a session (this project).
-use Rattle.std.specs.Prelude.{◌≡◌, ℕ, ◌≤◌, Bool, true, false, not, List, length, Option, Some, None, Result, Ok, Err, is_err}
+use Rattle.std.specs.Prelude.{◌≡◌, ℕ, ◌≤◌, ◌⊎◌, Bool, true, false, not, List, length, Option, Some, None, Result, Ok, Err, is_err}
 use Rattle.serde_json.specs.Data.{Data}
 use Rattle.json_view.specs.Texts.{reading}
+use Rattle.io_edge.specs.LibraryCall.{LibraryCall}
 use Rattle.lsp_messages.specs.declared.incoming.LspIn.{LspIn}
 use Rattle.lsp_messages.specs.declared.incoming.LspIn.TheVariants.{Initialize, Shutdown, Initialized, Exit, DidOpen, DidChange, DidClose, DidSave, DidChangeConfiguration}
 use Rattle.lsp_messages.specs.declared.incoming.Refusal.{Refusal}
@@ -9,10 +10,10 @@ use Rattle.lsp_messages.specs.Messages.{message_of}
 use Rattle.hl_base.specs.declared.place.PathId.{PathId}
 use Rattle.document_store.specs.Store.{OpenDocument}
 use Rattle.document_store.specs.Changes.{opened, changed, closed}
-use Rattle.session_core.specs.Refusals.{is_fresh, is_active}
+use Rattle.session_core.specs.Refusals.{is_fresh, is_active, is_ended}
 use Rattle.session_core.specs.Diagnostics.{diagnostics_of}
 use Rattle.session_core.specs.State.{State, document_at, is_program, is_queued, last_list}
-use Rattle.session_core.specs.Step.{Step}
+use Rattle.session_core.specs.Step.{Step, Goes, Stopped, Other}
 use Rattle.session_core.specs.Turn.{is_published}
 
 -- a message is refused: it is none, its method is not known, a parameter is bad, it may not stand here, or the store
@@ -37,9 +38,11 @@ is_refused_value s (Some value) = is_refused s (message_of value)
 abbrev pub is_refused_body : State → List ℕ → Bool
 is_refused_body s body = is_refused_value s (reading body)
 
--- nothing has changed but that one body may be written
-abbrev pub Keeps : Step → State → Type 0
-Keeps step s = (step.state ≡ s) × (length step.bodies ≤ 1)
+-- nothing has changed but that one body may be written, and the library was asked nothing
+abbrev pub Keeps : Step → State → List LibraryCall → Type 0
+Keeps (Goes t bodies rest) s calls = (t ≡ s) × (length bodies ≤ 1) × (rest ≡ calls)
+Keeps (Stopped bodies) s calls = ⊥
+Keeps Other s calls = ⊥
 
 -- ---- lists
 
@@ -55,3 +58,15 @@ AreFresh s = (n : PathId) (document : OpenDocument) → document_at s.store n �
 -- every open program is queued
 abbrev pub AllQueued : State → Type 0
 AllQueued s = (n : PathId) (document : OpenDocument) → document_at s.store n ≡ Some document → is_program document ≡ true → is_queued s.queue n ≡ true
+
+-- where the session goes on and is not at its end, lists are fresh
+abbrev pub LeavesFresh : Step → Type 0
+LeavesFresh (Goes t bodies rest) = is_ended t.stage ≡ false → AreFresh t
+LeavesFresh (Stopped bodies) = Unit {0}
+LeavesFresh Other = Unit {0}
+
+-- where the session goes on, the documents are as they were, or every open program is queued
+abbrev pub KeepsOrQueues : State → Step → Type 0
+KeepsOrQueues s (Goes t bodies rest) = (t.store ≡ s.store) ⊎ AllQueued t
+KeepsOrQueues s (Stopped bodies) = Unit {0}
+KeepsOrQueues s Other = Unit {0}

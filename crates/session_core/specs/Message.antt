@@ -21,7 +21,7 @@ use Rattle.session_core.specs.declared.state.Stage.TheVariants.{Active, Closing,
 use Rattle.session_core.specs.Refusals.{Kind, Opens, Asks, Ends, Tells, Neither, kind_of, Refused, reply, refusal, is_active, is_closing, is_ended}
 use Rattle.session_core.specs.Replies.{initialize_reply, shutdown_reply, list_body}
 use Rattle.session_core.specs.State.{State, document_at, number_named, programs, with_programs, without, last_list, published_without, is_empty}
-use Rattle.session_core.specs.Step.{Step, quiet, says, and_then}
+use Rattle.session_core.specs.Step.{Effect, quiet, says, and_then, Step, asking_nothing}
 use Rattle.session_core.specs.Turn.{assemble_all}
 
 -- ---- what an accepted message does
@@ -31,7 +31,7 @@ abbrev pub queue_all : State → State
 queue_all s = record s { queue = with_programs s.queue (programs s.store) }
 
 -- the documents have changed; where they refuse, nothing more is done
-abbrev pub after_change : State → Result Store StoreFault → Step
+abbrev pub after_change : State → Result Store StoreFault → Effect
 after_change s (Ok store) = quiet (queue_all (record s { store = store }))
 after_change s (Err fault) = quiet s
 
@@ -47,19 +47,19 @@ farewell_at s None = []
 farewell_at s (Some n) = farewell (document_at s.store n) (last_list s.published n)
 
 -- the document of a number has left
-abbrev pub after_leaving : State → Option PathId → Store → Step
+abbrev pub after_leaving : State → Option PathId → Store → Effect
 after_leaving s n store = record {
   state = queue_all (record s { store = store; queue = without s.queue n; published = published_without s.published n });
   bodies = farewell_at s n;
 }
 
 -- a document was closed; where there is none, nothing more is done
-abbrev pub after_closing : State → Option PathId → Result Store StoreFault → Step
+abbrev pub after_closing : State → Option PathId → Result Store StoreFault → Effect
 after_closing s n (Ok store) = after_leaving s n store
 after_closing s n (Err fault) = quiet s
 
 -- the lists of all queued programs, and then the reply
-abbrev pub shut : State → Id → Step
+abbrev pub shut : State → Id → Effect
 shut s id = and_then (assemble_all s) (λ t. says (record t { stage = Closing }) (shutdown_reply id))
 
 -- the session is at its end: after shutdown was answered, or before
@@ -67,7 +67,7 @@ abbrev pub ended : State → State
 ended s = record s { stage = Ended (is_closing s.stage); queue = [] }
 
 -- each message has its line
-abbrev pub effect : State → LspIn → Step
+abbrev pub effect : State → LspIn → Effect
 effect s (Initialize id root) = says (record s { stage = Active; root = root }) (initialize_reply id)
 effect s (Shutdown id) = shut s id
 effect s Initialized = quiet (queue_all s)
@@ -79,7 +79,7 @@ effect s DidSave = quiet s
 effect s DidChangeConfiguration = quiet s
 
 -- what was read in place of a message does nothing
-abbrev pub effect_of : State → Result LspIn Refusal → Step
+abbrev pub effect_of : State → Result LspIn Refusal → Effect
 effect_of s (Ok message) = effect s message
 effect_of s (Err refusal) = quiet s
 
@@ -112,27 +112,30 @@ is_passed_over stage told = is_notice (kind_of told) && (not (is_active stage) |
 -- ---- messages
 
 -- what is refused is answered by that alone, and the state stays
-abbrev pub unless_refused : State → Option Refused → Step → Step
+abbrev pub unless_refused : State → Option Refused → Effect → Effect
 unless_refused s (Some why) step = says s (reply why)
 unless_refused s None step = step
 
 -- a message at a stage: its refusal, or its effect
-abbrev pub asked_at : Stage → State → Result LspIn Refusal → Step
+abbrev pub asked_at : Stage → State → Result LspIn Refusal → Effect
 asked_at stage s told = if is_passed_over stage told then quiet s else unless_refused s (refusal stage s.store (Some told)) (effect_of s told)
 
-abbrev pub asked : State → Result LspIn Refusal → Step
+abbrev pub asked : State → Result LspIn Refusal → Effect
 asked s told = asked_at s.stage s told
 
 -- a value: the answers of a client are passed over, since nothing was asked of it
-abbrev pub heard : State → Data → Step
+abbrev pub heard : State → Data → Effect
 heard s value = if is_response value then quiet s else asked s (message_of value)
 
 -- a body: its refusal where it is no JSON, or that of the message that it is
-abbrev pub received : State → Option Data → Step
+abbrev pub received : State → Option Data → Effect
 received s None = unless_refused s (refusal s.stage s.store None) (quiet s)
 received s (Some value) = heard s value
 
--- One message. The library's answers are those to the calls that it makes, of which there are none yet. Behind the end
--- nothing changes.
-unfoldable pub message : State → List ℕ → List LibraryCall → Step
-message s body calls = if is_ended s.stage then quiet s else received s (reading body)
+-- what a message does; behind the end nothing changes
+unfoldable pub event : State → List ℕ → Effect
+event s body = if is_ended s.stage then quiet s else received s (reading body)
+
+-- One message, where these are the calls of the library to come. No message asks the library yet.
+abbrev pub message : State → List ℕ → List LibraryCall → Step
+message s body calls = asking_nothing (event s body) calls

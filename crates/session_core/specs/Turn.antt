@@ -9,7 +9,7 @@ use Rattle.session_core.specs.declared.state.LastList.{LastList}
 use Rattle.session_core.specs.Diagnostics.{diagnostics_of}
 use Rattle.session_core.specs.Same.{is_same_list}
 use Rattle.session_core.specs.State.{State, document_at, last_list, with_list}
-use Rattle.session_core.specs.Step.{Step, quiet, says, and_then}
+use Rattle.session_core.specs.Step.{Effect, quiet, says, and_then}
 use Rattle.session_core.specs.Replies.{list_body}
 
 -- this version and this list were the last to be published; before the first list of a program none was
@@ -18,7 +18,7 @@ is_published None version list = false
 is_published (Some last) version list = int_eq last.version version && is_same_list last.list list
 
 -- a program's list is published, unless it was already
-abbrev pub publish : State → PathId → OpenDocument → List Diagnostic → Step
+abbrev pub publish : State → PathId → OpenDocument → List Diagnostic → Effect
 publish s n document list =
     if is_published (last_list s.published n) document.version list then quiet s
     else says
@@ -26,7 +26,7 @@ publish s n document list =
     (list_body document.uri (Some document.version) list)
 
 -- the list of the document of a number
-abbrev pub turn_at : State → PathId → Option OpenDocument → Step
+abbrev pub turn_at : State → PathId → Option OpenDocument → Effect
 turn_at s n None = quiet s
 turn_at s n (Some document) = publish s n document (diagnostics_of s.budget n document.text)
 
@@ -34,27 +34,27 @@ turn_at s n (Some document) = publish s n document (diagnostics_of s.budget n do
 abbrev pub without_first : State → State
 without_first s = record s { queue = drop 1 s.queue }
 
-abbrev pub turn_of : State → Option PathId → Step
+abbrev pub turn_of : State → Option PathId → Effect
 turn_of s None = quiet s
 turn_of s (Some n) = turn_at (without_first s) n (document_at s.store n)
 
 -- the first queued program leaves the queue, and its list is published; where no program is queued, nothing
-unfoldable pub assemble_first : State → Step
+unfoldable pub assemble_first : State → Effect
 assemble_first s = turn_of s (slice_get s.queue 0)
 
 -- so many programs, one after another
-abbrev pub assemble_many : ℕ → State → Step
+abbrev pub assemble_many : ℕ → State → Effect
 assemble_many zero s = quiet s
 assemble_many (suc n) s = and_then (assemble_first s) (assemble_many n)
 
 -- all queued programs; what waits is not answered between them
-abbrev pub assemble_all : State → Step
+abbrev pub assemble_all : State → Effect
 assemble_all s = assemble_many (length s.queue) s
 
 -- what is answered where no program is queued: nothing waits for that yet
-abbrev pub answer_waiting : State → Step
+abbrev pub answer_waiting : State → Effect
 answer_waiting s = quiet s
 
 -- one Turn
-abbrev pub turn : State → Step
+abbrev pub turn : State → Effect
 turn s = and_then (assemble_first s) answer_waiting

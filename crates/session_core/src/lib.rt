@@ -9,13 +9,12 @@
 //!
 //! Within the crate, `receiving` goes from a body to what it does: `lifecycle` begins and ends the session, `requests` and
 //! `notifications` take the others, `replies` has the bodies written. `standing` has the state and its Turns, `programs`
-//! the queue and the documents by number, `kept` the last list of a program, `diagnostics` the list of a program, `same` when two lists are the same.
+//! the queue, the documents by number and what was published, `diagnostics` the list of a program, `same` when two lists are the same.
 #![tactic(auto)]
 
 mod bodies;
 mod diagnostics;
 mod fault;
-mod kept;
 pub mod laws;
 mod lifecycle;
 mod notifications;

@@ -3,7 +3,7 @@ ghost use Rattle.std.specs.Prelude.{◌≡◌, Ok, IfOk};
 ghost use Rattle.lsp_messages.specs.declared.incoming.LspIn.TheVariants as said;
 ghost use Rattle.session_core.specs.Message as messages;
 ghost use Rattle.session_core.specs.Refusals.{is_active};
-ghost use Rattle.session_core.specs.Step.{IsStep};
+ghost use Rattle.session_core.specs.Step.{IsEffect};
 
 use crate::bodies::Bodies;
 use crate::replies;
@@ -34,7 +34,7 @@ impl Standing {
         id: Id,
         root: Option<Text>,
     ) -> Result<Bodies, OutOfMemory>
-        ensures { IfOk result (λ bodies. IsStep (messages.asked self.old (Ok (said.Initialize id root))) self.new bodies) }
+        ensures { IfOk result (λ bodies. IsEffect (messages.asked self.old (Ok (said.Initialize id root))) self.new bodies) }
     {
         match self.stage {
             Stage::Fresh => self.begin(alloc, id, root),
@@ -46,7 +46,7 @@ impl Standing {
 
     /// The session begins.
     fn begin(&mut self, alloc: Global, id: Id, root: Option<Text>) -> Result<Bodies, OutOfMemory>
-        ensures { IfOk result (λ bodies. IsStep (messages.effect self.old (said.Initialize id root)) self.new bodies) }
+        ensures { IfOk result (λ bodies. IsEffect (messages.effect self.old (said.Initialize id root)) self.new bodies) }
     {
         let reply = replies::initialize_reply(alloc, id)?;
         let bodies = Bodies::one(alloc, reply)?;
@@ -62,7 +62,7 @@ impl Standing {
         id: Id,
         steps: &mut Steps<L>,
     ) -> Result<Bodies, OutOfMemory>
-        ensures { IfOk result (λ bodies. IsStep (messages.asked self.old (Ok (said.Shutdown id))) self.new bodies) }
+        ensures { IfOk result (λ bodies. IsEffect (messages.asked self.old (Ok (said.Shutdown id))) self.new bodies) }
     {
         match self.stage {
             Stage::Fresh => too_early(alloc, id),
@@ -79,7 +79,7 @@ impl Standing {
         id: Id,
         steps: &mut Steps<L>,
     ) -> Result<Bodies, OutOfMemory>
-        ensures { IfOk result (λ bodies. IsStep (messages.shut self.old id) self.new bodies) }
+        ensures { IfOk result (λ bodies. IsEffect (messages.shut self.old id) self.new bodies) }
     {
         let mut bodies = self.assemble_all(alloc, steps)?;
         let reply = replies::shutdown_reply(alloc, id)?;
@@ -90,7 +90,7 @@ impl Standing {
 
     /// `exit`, at every stage.
     pub(crate) fn exit(&mut self, alloc: Global) -> Bodies
-        ensures { IsStep (messages.asked self.old (Ok said.Exit)) self.new result }
+        ensures { IsEffect (messages.asked self.old (Ok said.Exit)) self.new result }
     {
         let closed = self.stage == Stage::Closing;
         self.stage = Stage::Ended { closed };

@@ -7,10 +7,10 @@ ghost use Rattle.session_core.specs.Inside.{unknown_asked, wrong_asked, change_a
 ghost use Rattle.session_core.specs.Message as messages;
 ghost use Rattle.session_core.specs.Replies.{log_line, refusal_of};
 ghost use Rattle.session_core.specs.State.{number_named};
-ghost use Rattle.session_core.specs.Step.{IsStep};
+ghost use Rattle.session_core.specs.Step.{IsEffect};
 
 use crate::bodies::Bodies;
-use crate::programs::{forget, number_named, queue_programs};
+use crate::programs::{drop_named, forget, number_named, queue_programs};
 use crate::replies;
 use crate::standing::Standing;
 use document_store::{MOST_DOCUMENTS, StoreFault};
@@ -47,7 +47,7 @@ impl Standing {
         alloc: Global,
         method: &Text,
     ) -> Result<Bodies, OutOfMemory>
-        ensures { IfOk result (λ bodies. IsStep (unknown_asked self.old None method.now) self.new bodies) }
+        ensures { IfOk result (λ bodies. IsEffect (unknown_asked self.old None method.now) self.new bodies) }
     {
         if !self.is_active() {
             return Ok(Bodies::none(alloc));
@@ -64,7 +64,7 @@ impl Standing {
         method: &Text,
         name: &Text,
     ) -> Result<Bodies, OutOfMemory>
-        ensures { IfOk result (λ bodies. IsStep (wrong_asked self.old None method.now name.now) self.new bodies) }
+        ensures { IfOk result (λ bodies. IsEffect (wrong_asked self.old None method.now name.now) self.new bodies) }
     {
         if !self.is_active() {
             return Ok(Bodies::none(alloc));
@@ -75,7 +75,7 @@ impl Standing {
 
     /// `initialized`.
     pub(crate) fn initialized(&mut self, alloc: Global) -> Result<Bodies, OutOfMemory>
-        ensures { IfOk result (λ bodies. IsStep (messages.asked self.old (Ok said.Initialized)) self.new bodies) }
+        ensures { IfOk result (λ bodies. IsEffect (messages.asked self.old (Ok said.Initialized)) self.new bodies) }
     {
         if !self.is_active() {
             return Ok(Bodies::none(alloc));
@@ -93,7 +93,7 @@ impl Standing {
         version: i32,
         text: &Text,
     ) -> Result<Bodies, OutOfMemory>
-        ensures { IfOk result (λ bodies. IsStep (messages.asked self.old (Ok (said.DidOpen uri.now language.now version text.now))) self.new bodies) }
+        ensures { IfOk result (λ bodies. IsEffect (messages.asked self.old (Ok (said.DidOpen uri.now language.now version text.now))) self.new bodies) }
     {
         if !self.is_active() {
             return Ok(Bodies::none(alloc));
@@ -109,12 +109,14 @@ impl Standing {
         version: i32,
         text: &Text,
     ) -> Result<Bodies, OutOfMemory>
-        ensures { IfOk result (λ bodies. IsStep (change_asked self.old (codes "textDocument/didOpen") (opened self.old.store uri.now language.now version text.now)) self.new bodies) }
+        ensures { IfOk result (λ bodies. IsEffect (change_asked self.old (codes "textDocument/didOpen") (opened self.old.store uri.now language.now version text.now)) self.new bodies) }
     {
-        self.queue.reserve(MOST_DOCUMENTS)?;
         let (uri, language, text) = (uri.as_str(), language.as_str(), text.as_str());
+        let path = number_named(alloc, &self.store, uri)?;
+        self.queue.reserve(MOST_DOCUMENTS)?;
         match self.store.open_text(alloc, uri, language, version, text) {
             Ok(()) => {
+                drop_named(&mut self.listed, path);
                 queue_programs(&self.store, &mut self.queue)?;
                 Ok(Bodies::none(alloc))
             }
@@ -130,7 +132,7 @@ impl Standing {
         version: i32,
         edits: &[Edit],
     ) -> Result<Bodies, OutOfMemory>
-        ensures { IfOk result (λ bodies. IsStep (messages.asked self.old (Ok (said.DidChange uri.now version edits.now))) self.new bodies) }
+        ensures { IfOk result (λ bodies. IsEffect (messages.asked self.old (Ok (said.DidChange uri.now version edits.now))) self.new bodies) }
     {
         if !self.is_active() {
             return Ok(Bodies::none(alloc));
@@ -145,11 +147,13 @@ impl Standing {
         version: i32,
         edits: &[Edit],
     ) -> Result<Bodies, OutOfMemory>
-        ensures { IfOk result (λ bodies. IsStep (change_asked self.old (codes "textDocument/didChange") (changed self.old.store uri.now version edits.now)) self.new bodies) }
+        ensures { IfOk result (λ bodies. IsEffect (change_asked self.old (codes "textDocument/didChange") (changed self.old.store uri.now version edits.now)) self.new bodies) }
     {
+        let path = number_named(alloc, &self.store, uri.as_str())?;
         self.queue.reserve(MOST_DOCUMENTS)?;
         match self.store.change(alloc, uri.as_str(), version, edits) {
             Ok(()) => {
+                drop_named(&mut self.listed, path);
                 queue_programs(&self.store, &mut self.queue)?;
                 Ok(Bodies::none(alloc))
             }
@@ -159,7 +163,7 @@ impl Standing {
 
     /// `textDocument/didClose`.
     pub(crate) fn closed(&mut self, alloc: Global, uri: &Text) -> Result<Bodies, OutOfMemory>
-        ensures { IfOk result (λ bodies. IsStep (messages.asked self.old (Ok (said.DidClose uri.now))) self.new bodies) }
+        ensures { IfOk result (λ bodies. IsEffect (messages.asked self.old (Ok (said.DidClose uri.now))) self.new bodies) }
     {
         if !self.is_active() {
             return Ok(Bodies::none(alloc));
@@ -168,7 +172,7 @@ impl Standing {
     }
 
     fn close(&mut self, alloc: Global, uri: &Text) -> Result<Bodies, OutOfMemory>
-        ensures { IfOk result (λ bodies. IsStep (closing_asked self.old (codes "textDocument/didClose") (number_named self.old.store uri.now) (closed self.old.store uri.now)) self.new bodies) }
+        ensures { IfOk result (λ bodies. IsEffect (closing_asked self.old (codes "textDocument/didClose") (number_named self.old.store uri.now) (closed self.old.store uri.now)) self.new bodies) }
     {
         let path = number_named(alloc, &self.store, uri.as_str())?;
         let farewell = self.farewell_at(alloc, path)?;
@@ -176,6 +180,7 @@ impl Standing {
         match self.store.close(alloc, uri.as_str()) {
             Ok(()) => {
                 forget(&mut self.queue, &mut self.published, path);
+                drop_named(&mut self.listed, path);
                 queue_programs(&self.store, &mut self.queue)?;
                 Ok(farewell)
             }

@@ -1,19 +1,18 @@
 //! The open documents, by the numbers of their paths, and the queue of programs.
-ghost use Rattle.std.specs.Prelude.{◌≡◌, ◌≤◌, ◌++◌, true, length, map, filter, not, Some, IsTrue, OnOk, IfOk, IfErr, Option, option_map, slice_get, take};
+ghost use Rattle.std.specs.Prelude.{◌≡◌, ◌≤◌, ◌++◌, length, map, filter, not, Some, OnOk, OnErr, IfOk, Option, option_map, slice_get, take};
 ghost use Rattle.std.specs.Rc.{rc_str_bytes};
 ghost use Rattle.std.specs.Borrow.{Bor};
 ghost use Rattle.std.specs.List.{list_any};
 ghost use Rattle.std.specs.Str.{chars};
+ghost use Rattle.std.specs.Vec.{vec_len, vec_capacity};
 ghost use Rattle.file_uri.specs.Paths.{path_of};
 ghost use Rattle.document_store.specs.Store.{OpenDocument, number_of};
 ghost use Rattle.document_store.specs.Shown.{IsShown, Shows};
 ghost use Rattle.session_core.specs.State.{is_number, number_named, document_at, is_program, programs, is_queued, with_programs, without, last_list, without_list, published_without, with_list};
 ghost use Rattle.session_core.specs.Inside.{wanted_of};
-ghost use Rattle.session_core.specs.Diagnostics.{diagnostics_of};
-ghost use Rattle.session_core.specs.Turn.{is_published};
-ghost use Rattle.session_core.specs.declared.state.LastList.{LastList};
+ghost use Rattle.session_core.specs.declared.state.LastList.{LastList as Last};
 
-use crate::kept::KeptList;
+use crate::state::LastList;
 use document_store::{Document, DocumentStore, MOST_DOCUMENTS, MemberText};
 use file_uri::{UriFault, file_path};
 use hl_base::{OutOfMemory, PathId};
@@ -83,7 +82,8 @@ fn is_program(language: &str) -> bool
     language == PROGRAM_LANGUAGE
 }
 
-fn is_queued(queue: &[PathId], path: PathId) -> bool
+/// Whether a program is among these.
+pub(crate) fn is_queued(queue: &[PathId], path: PathId) -> bool
     ensures { result ≡ is_queued queue.now path }
 {
     queue.iter().any(|queued| path == *queued)
@@ -124,59 +124,55 @@ pub(crate) fn queue_programs(
 }
 
 /// What was last published of a program.
-pub(crate) fn last_list(published: &[KeptList], path: PathId) -> Option<&KeptList>
-    ensures { option_map (λ (last : Bor LastList). last.now) result ≡ last_list published.now path }
+pub(crate) fn last_list(published: &[LastList], path: PathId) -> Option<&LastList>
+    ensures { option_map (λ (last : Bor Last). last.now) result ≡ last_list published.now path }
 {
-    published.iter().find(|kept| kept.last().path == path)
+    published.iter().find(|last| last.path == path)
 }
 
-/// Whether the last list of a program is of the version that it has now and was made of this text under
-/// this budget.
-pub(crate) fn is_kept(
-    published: &[KeptList],
-    path: PathId,
-    document: &Document<'_>,
-    text: &str,
-    budget: u32,
-) -> bool
-    ensures { IsTrue result → is_published (last_list published.now path) document.now.version (diagnostics_of budget path (chars text.now)) ≡ true }
+/// Drops a program from these.
+pub(crate) fn drop_program(programs: &mut Vec<PathId>, path: PathId)
+    ensures { programs.new.items ≡ without programs.old.items (Some path) }
 {
-    match last_list(published, path) {
-        Some(kept) => kept.is_of(document, text, budget),
-        None => false,
+    programs.retain(|other| *other != path);
+}
+
+/// Drops a program from these, if there is one of the number.
+pub(crate) fn drop_named(programs: &mut Vec<PathId>, path: Option<PathId>)
+    ensures { programs.new.items ≡ without programs.old.items path }
+{
+    if let Some(path) = path {
+        drop_program(programs, path);
     }
 }
 
-/// Drops a program from the queue.
-fn drop_queued(queue: &mut Vec<PathId>, path: PathId)
-    ensures { queue.new.items ≡ without queue.old.items (Some path) }
-{
-    queue.retain(|queued| *queued != path);
-}
-
 /// Drops what was published of a program.
-fn drop_list(published: &mut Vec<KeptList>, path: PathId)
-    ensures { published.new.items ≡ without_list published.old.items path }
+fn drop_list(published: &mut Vec<LastList>, path: PathId)
+    ensures items { published.new.items ≡ without_list published.old.items path }
+    ensures bound { vec_len published.new ≤ vec_len published.old }
+    ensures capacity { vec_capacity published.new ≡ vec_capacity published.old }
 {
-    published.retain(|kept| kept.last().path != path);
+    published.retain(|last| last.path != path);
 }
 
 /// Drops a program from the queue, and what was published of it.
-pub(crate) fn forget(queue: &mut Vec<PathId>, published: &mut Vec<KeptList>, path: Option<PathId>)
+pub(crate) fn forget(queue: &mut Vec<PathId>, published: &mut Vec<LastList>, path: Option<PathId>)
     ensures queue { queue.new.items ≡ without queue.old.items path }
     ensures published { published.new.items ≡ published_without published.old.items path }
 {
     if let Some(path) = path {
-        drop_queued(queue, path);
+        drop_program(queue, path);
         drop_list(published, path);
     }
 }
 
-/// Keeps this as the last list of its program.
-pub(crate) fn keep_list(published: &mut Vec<KeptList>, list: KeptList) -> Result<(), OutOfMemory>
-    ensures { OnOk result (published.new.items ≡ with_list published.old.items list) }
+/// Keeps this as the last list of its program. An `Err` changes nothing.
+pub(crate) fn keep_list(published: &mut Vec<LastList>, last: LastList) -> Result<(), OutOfMemory>
+    ensures ok { OnOk result (published.new.items ≡ with_list published.old.items last) }
+    ensures err { OnErr result (published.new.items ≡ published.old.items) }
 {
-    drop_list(published, list.last().path);
-    published.push(list)?;
+    published.reserve(1)?;
+    drop_list(published, last.path);
+    published.push_reserved(last);
     Ok(())
 }

@@ -7,7 +7,7 @@ ghost use Rattle.lsp_messages.specs.declared.incoming.LspIn.{LspIn};
 ghost use Rattle.lsp_messages.specs.declared.incoming.Refusal.{Refusal};
 ghost use Rattle.session_core.specs.Message as messages;
 ghost use Rattle.session_core.specs.Refusals.{is_ended};
-ghost use Rattle.session_core.specs.Step.{IsStep};
+ghost use Rattle.session_core.specs.Step.{IsEffect};
 
 use crate::bodies::Bodies;
 use crate::replies;
@@ -21,20 +21,20 @@ use std::alloc::Global;
 
 impl Standing {
     /// Takes one message, and answers what is written for it.
-    #[tactic(auto, unfolding(crate::specs::Message::message))]
+    #[tactic(auto, unfolding(crate::specs::Message::event))]
     pub(crate) fn message<L: Ledger>(
         &mut self,
         alloc: Global,
         body: &[u8],
         steps: &mut Steps<L>,
     ) -> Result<Bodies, OutOfMemory>
-        ensures { IfOk result (λ bodies. IsStep (messages.message self.old body.now []) self.new bodies) }
+        ensures { IfOk result (λ bodies. IsEffect (messages.event self.old body.now) self.new bodies) }
     {
         if self.is_ended() {
             return Ok(Bodies::none(alloc));
         }
         match parse(alloc, body) {
-            Ok(value) => self.hear(alloc, &value, steps),
+            Ok(value) => self.take_value(alloc, &value, steps),
             Err(ParseFault::NotJson) => {
                 let refusal = replies::parse_error(alloc)?;
                 Bodies::one(alloc, refusal)
@@ -56,13 +56,13 @@ impl Standing {
     }
 
     /// Takes a value; the answers of a client are passed over, since nothing was asked of it.
-    fn hear<L: Ledger>(
+    fn take_value<L: Ledger>(
         &mut self,
         alloc: Global,
         value: &Value,
         steps: &mut Steps<L>,
     ) -> Result<Bodies, OutOfMemory>
-        ensures { IfOk result (λ bodies. IsStep (messages.heard self.old (view value.now)) self.new bodies) }
+        ensures { IfOk result (λ bodies. IsEffect (messages.heard self.old (view value.now)) self.new bodies) }
     {
         if is_response(value) {
             return Ok(Bodies::none(alloc));
@@ -79,7 +79,7 @@ impl Standing {
         steps: &mut Steps<L>,
     ) -> Result<Bodies, OutOfMemory>
         ensures { IfOk result (λ bodies. (wanted : Result LspIn Refusal) → IsReading told wanted
-            → IsStep (messages.asked self.old wanted) self.new bodies) }
+            → IsEffect (messages.asked self.old wanted) self.new bodies) }
     {
         match told {
             Ok(message) => self.take(alloc, message, steps),
@@ -94,7 +94,7 @@ impl Standing {
         message: LspIn,
         steps: &mut Steps<L>,
     ) -> Result<Bodies, OutOfMemory>
-        ensures { IfOk result (λ bodies. IsStep (messages.asked self.old (Ok message)) self.new bodies) }
+        ensures { IfOk result (λ bodies. IsEffect (messages.asked self.old (Ok message)) self.new bodies) }
     {
         match message {
             LspIn::Initialize { id, root } => self.initialize(alloc, id, root),
@@ -120,7 +120,7 @@ impl Standing {
 
     /// Takes what is no message that is understood.
     fn refuse(&mut self, alloc: Global, refusal: Refusal) -> Result<Bodies, OutOfMemory>
-        ensures { IfOk result (λ bodies. (refusal ≢ Refusal.OutOfMemory) × IsStep (messages.asked self.old (Err refusal)) self.new bodies) }
+        ensures { IfOk result (λ bodies. (refusal ≢ Refusal.OutOfMemory) × IsEffect (messages.asked self.old (Err refusal)) self.new bodies) }
     {
         match refusal {
             Refusal::NotRequest => {

@@ -1,8 +1,9 @@
 //! The session, as `run` drives it.
 ghost use Rattle.std.specs.Prelude.{◌≡◌, ◌≢◌, [], IfOk, OnOk, OnErr, MatchBool};
-ghost use Rattle.session_core.specs.Held.{beginning, phase_of, Comes};
+ghost use Rattle.session_core.specs.Held.{beginning, phase_of, Comes, ComesOver};
 ghost use Rattle.session_core.specs.Inside.{Adds, KeepsOutput};
-ghost use Rattle.session_core.specs.Message.{message};
+ghost use Rattle.session_core.specs.Message.{event, message};
+ghost use Rattle.session_core.specs.Step.{asking_nothing};
 ghost use Rattle.session_core.specs.Turn.{turn};
 
 use crate::standing::Standing;
@@ -60,13 +61,13 @@ impl Session {
     }
 
     /// Takes a message, and adds what is written for it to the output last.
-    fn hear<L: Ledger>(
+    fn add_message<L: Ledger>(
         &mut self,
         alloc: Global,
         body: &[u8],
         steps: &mut Steps<L>,
     ) -> Result<(), OutOfMemory>
-        ensures ok { OnOk result (Adds (message self.old.state body.now []) self.old self.new) }
+        ensures ok { OnOk result (Adds (event self.old.state body.now) self.old self.new) }
         ensures err { OnErr result (KeepsOutput self.old self.new) }
     {
         let bodies = self.standing.message(alloc, body, steps)?;
@@ -74,7 +75,11 @@ impl Session {
     }
 
     /// Makes a Turn, and adds what it publishes to the output last.
-    fn publish<L: Ledger>(&mut self, alloc: Global, steps: &mut Steps<L>) -> Result<(), OutOfMemory>
+    fn add_turn<L: Ledger>(
+        &mut self,
+        alloc: Global,
+        steps: &mut Steps<L>,
+    ) -> Result<(), OutOfMemory>
         ensures ok { OnOk result (Adds (turn self.old.state) self.old self.new) }
         ensures err { OnErr result (KeepsOutput self.old self.new) }
     {
@@ -82,7 +87,8 @@ impl Session {
         bodies.write_to(alloc, &mut self.output)
     }
 
-    /// Takes the body of one message (LSP 3.17, "Base Protocol"). Nothing is asked of the library yet.
+    /// Takes the body of one message (LSP 3.17, "Base Protocol"): the step is that of the calls of the library that it makes,
+    /// with their answers. Nothing is asked of the library yet.
     pub fn message<B: Library, L: Ledger>(
         &mut self,
         alloc: Global,
@@ -90,7 +96,7 @@ impl Session {
         library: &mut B,
         steps: &mut Steps<L>,
     ) -> Result<Phase, SessionFault>
-        ensures comes { Comes result (message self.old.state body.now []) self.old self.new }
+        ensures comes { ComesOver result (message self.old.state body.now) (B.calls library.old) (B.calls library.new) self.old self.new }
         ensures phase { IfOk result (λ phase. phase ≡ phase_of self.new.state) }
         ensures library { (B.calls library.new ≡ B.calls library.old) × (B.faults library.new ≡ B.faults library.old) }
     {
@@ -98,7 +104,7 @@ impl Session {
         if self.spent {
             return Err(SessionFault::Spent);
         }
-        match self.hear(alloc, body, steps) {
+        match self.add_message(alloc, body, steps) {
             Ok(()) => Ok(phase_of(&self.standing)),
             Err(_) => {
                 self.spent = true;
@@ -121,12 +127,12 @@ impl Session {
         steps: &mut Steps<L>,
     ) -> Result<(), SessionFault>
         requires work { self.old.state.queue ≢ [] }
-        ensures comes { Comes result (turn self.old.state) self.old self.new }
+        ensures comes { Comes result (asking_nothing (turn self.old.state) []) self.old self.new }
     {
         if self.spent {
             return Err(SessionFault::Spent);
         }
-        match self.publish(alloc, steps) {
+        match self.add_turn(alloc, steps) {
             Ok(()) => Ok(()),
             Err(_) => {
                 self.spent = true;

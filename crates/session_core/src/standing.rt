@@ -4,24 +4,23 @@ ghost use Rattle.std.specs.Str.{chars};
 ghost use Rattle.session_core.specs.Replies.{list_body};
 ghost use Rattle.session_core.specs.Message.{farewell_at};
 ghost use Rattle.session_core.specs.State.{start, document_at, last_list};
-ghost use Rattle.session_core.specs.Step.{IsStep};
+ghost use Rattle.session_core.specs.Step.{IsEffect};
 ghost use Rattle.session_core.specs.Turn.{turn, turn_at, assemble_first, assemble_all, answer_waiting, is_published};
 
 use crate::bodies::Bodies;
 use crate::diagnostics::diagnostics_of;
-use crate::kept::KeptList;
-use crate::programs::{document_at, is_kept, keep_list, last_list, text_at};
+use crate::programs::{document_at, is_queued, keep_list, last_list, text_at};
 use crate::replies;
 use crate::same::is_same_list;
-use crate::state::Stage;
+use crate::state::{LastList, Stage};
 use document_store::{Document, DocumentStore};
 use hl_base::{Ledger, OutOfMemory, PathId, Steps, Text};
 use lsp_messages::{Diagnostic, Diagnostics};
 use std::alloc::Global;
 use std::marker::Model;
 
-/// How far the session has come, the folder of the client, the budget of a program, the documents, the queue and what was
-/// published. Contracts see the state.
+/// How far the session has come, the folder of the client, the budget of a program, the documents, the queue, what was
+/// published, and of which programs that is the list as it is now. Contracts see the state.
 #[derive(Drop)]
 pub(crate) struct Standing {
     pub(crate) stage: Stage,
@@ -29,12 +28,14 @@ pub(crate) struct Standing {
     budget: u32,
     pub(crate) store: DocumentStore,
     pub(crate) queue: Vec<PathId>,
-    pub(crate) published: Vec<KeptList>,
+    pub(crate) published: Vec<LastList>,
+    // The programs whose last list is that of their version and their text as they are: their Turns make none.
+    pub(crate) listed: Vec<PathId>,
 }
 
 impl Model for Standing {
-    ghost use Rattle.std.specs.Prelude.{◌≤◌, length};
     ghost use Rattle.session_core.specs.Codes.{state_code};
+    ghost use Rattle.session_core.specs.Inside.{IsSound};
     ghost use Rattle.session_core.specs.State.{State};
 
     ghost Value = { State };
@@ -43,12 +44,12 @@ impl Model for Standing {
 
     ghost view = { λ s. record { stage = s.stage; root = s.root; budget = s.budget; store = s.store.store; queue = s.queue.items; published = s.published.items } };
 
-    ghost invariant = { λ s. length s.store.store.documents ≤ 64 };
+    ghost invariant = { λ s. IsSound s.listed.items s.budget s.store.store s.published.items };
 }
 
 /// Whether this version and this list of a program were the last to be published.
 fn is_published(
-    published: &[KeptList],
+    published: &[LastList],
     path: PathId,
     document: &Document<'_>,
     list: &[Diagnostic],
@@ -56,8 +57,7 @@ fn is_published(
     ensures { result ≡ is_published (last_list published.now path) document.now.version list.now }
 {
     match last_list(published, path) {
-        Some(kept) => {
-            let last = kept.last();
+        Some(last) => {
             last.version == document.version && is_same_list(last.list.as_slice(), list)
         }
         None => false,
@@ -76,6 +76,17 @@ fn listed_body(
     replies::list_body(alloc, document.uri, Some(document.version), list)
 }
 
+/// This list as the last of a program, of the version that it has now.
+fn listed_as(path: PathId, document: &Document<'_>, list: Diagnostics) -> LastList
+    ensures { result ≡ record { path = path; version = document.now.version; list = list } }
+{
+    LastList {
+        path,
+        version: document.version,
+        list,
+    }
+}
+
 impl Standing {
     /// Before the first message, where a program may be given so many statements.
     pub(crate) fn new(alloc: Global, budget: u32) -> Standing
@@ -88,6 +99,7 @@ impl Standing {
             store: DocumentStore::new(alloc),
             queue: Vec::new(alloc),
             published: Vec::new(alloc),
+            listed: Vec::new(alloc),
         }
     }
 
@@ -111,7 +123,7 @@ impl Standing {
         alloc: Global,
         steps: &mut Steps<L>,
     ) -> Result<Bodies, OutOfMemory>
-        ensures { IfOk result (λ bodies. IsStep (turn self.old) self.new bodies) }
+        ensures { IfOk result (λ bodies. IsEffect (turn self.old) self.new bodies) }
     {
         let mut bodies = self.assemble_first(alloc, steps)?;
         let answers = self.answer_waiting(alloc);
@@ -121,7 +133,7 @@ impl Standing {
 
     /// Answers what waits for an empty queue. Nothing does yet.
     fn answer_waiting(&mut self, alloc: Global) -> Bodies
-        ensures { IsStep (answer_waiting self.old) self.new result }
+        ensures { IsEffect (answer_waiting self.old) self.new result }
     {
         Bodies::none(alloc)
     }
@@ -132,7 +144,7 @@ impl Standing {
         alloc: Global,
         steps: &mut Steps<L>,
     ) -> Result<Bodies, OutOfMemory>
-        ensures { IfOk result (λ bodies. IsStep (assemble_first self.old) self.new bodies) }
+        ensures { IfOk result (λ bodies. IsEffect (assemble_first self.old) self.new bodies) }
     {
         let Some(path) = self.queue.first().copied() else {
             return Ok(Bodies::none(alloc));
@@ -142,31 +154,34 @@ impl Standing {
         Ok(bodies)
     }
 
-    /// Publishes the list of a program, unless it was already. Where its last list is of this version and was made of this
-    /// text, none is made.
+    /// Publishes the list of a program, unless it was already. Where its last list is that of its version and its text as
+    /// they are, none is made, and the text is not read.
     fn publish<L: Ledger>(
         &mut self,
         alloc: Global,
         path: PathId,
         steps: &mut Steps<L>,
     ) -> Result<Bodies, OutOfMemory>
-        ensures { IfOk result (λ bodies. IsStep (turn_at self.old path (document_at self.old.store path)) self.new bodies) }
+        ensures { IfOk result (λ bodies. IsEffect (turn_at self.old path (document_at self.old.store path)) self.new bodies) }
     {
         let Some(document) = document_at(&self.store, path) else {
             return Ok(Bodies::none(alloc));
         };
-        let text = text_at(alloc, &self.store, path)?;
-        if is_kept(&self.published, path, &document, text.as_str(), self.budget) {
+        if is_queued(&self.listed, path) {
             return Ok(Bodies::none(alloc));
         }
+        let text = text_at(alloc, &self.store, path)?;
         let list = diagnostics_of(alloc, self.budget, path, &text, steps)?;
+        self.listed.reserve(1)?;
         if is_published(&self.published, path, &document, list.as_slice()) {
+            self.listed.push_reserved(path);
             return Ok(Bodies::none(alloc));
         }
         let (body, list) = listed_body(alloc, &document, list)?;
-        let kept = KeptList::new(path, &document, list, text, self.budget);
-        keep_list(&mut self.published, kept)?;
-        Bodies::one(alloc, body)
+        let bodies = Bodies::one(alloc, body)?;
+        keep_list(&mut self.published, listed_as(path, &document, list))?;
+        self.listed.push_reserved(path);
+        Ok(bodies)
     }
 
     /// What is written where the document of a number leaves.
@@ -183,10 +198,10 @@ impl Standing {
         let Some(document) = document_at(&self.store, path) else {
             return Ok(Bodies::none(alloc));
         };
-        let Some(kept) = last_list(&self.published, path) else {
+        let Some(last) = last_list(&self.published, path) else {
             return Ok(Bodies::none(alloc));
         };
-        if kept.last().list.as_slice().is_empty() {
+        if last.list.as_slice().is_empty() {
             return Ok(Bodies::none(alloc));
         }
         let (body, _) = replies::list_body(alloc, document.uri, None, Diagnostics::new(alloc))?;
@@ -199,7 +214,7 @@ impl Standing {
         alloc: Global,
         steps: &mut Steps<L>,
     ) -> Result<Bodies, OutOfMemory>
-        ensures { IfOk result (λ bodies. IsStep (assemble_all self.old) self.new bodies) }
+        ensures { IfOk result (λ bodies. IsEffect (assemble_all self.old) self.new bodies) }
     {
         let mut bodies = Bodies::none(alloc);
         'queue: while self.has_work() {

@@ -1,10 +1,12 @@
-//! Compares tables of cases with what `conditional_fields` and `conditional_asm` answer: `statement_cases TABLE` reads the
-//! cases of one table from standard input, prints each whose answer differs, and at the end `N passed, M failed`.
+//! Compares tables of cases with what `conditional_fields`, `conditional_asm` and `macro_operands` answer:
+//! `statement_cases TABLE` reads the cases of one table from standard input, prints each whose answer differs, and at the
+//! end `N passed, M failed`.
 //!
 //! tests/cases/README.md says what each table reads. What the crates promise stands on their own functions; here is only
 //! how an answer is written down.
 #![tactic(auto)]
 
+mod calls;
 mod fields;
 mod statements;
 mod tables;

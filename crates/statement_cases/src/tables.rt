@@ -1,5 +1,5 @@
 //! The tables by their words.
-use crate::{fields, statements};
+use crate::{calls, fields, statements};
 use case_lines::CaseTable;
 use case_words::Surroundings;
 use hl_base::OutOfMemory;
@@ -25,6 +25,9 @@ pub enum Table {
 
     /// What a statement does.
     Effects,
+
+    /// What a statement comes to as a macro call.
+    Calls,
 }
 
 /// What is answered where the fields are not those of the table.
@@ -40,6 +43,7 @@ fn answer_of_text(alloc: Global, table: Table, text: &str) -> Result<String, Out
         Table::Templates => fields::pieces(alloc, text),
         Table::FieldEnds => fields::ending(alloc, text),
         Table::Effects => statements::first_effect(alloc, text, &mut Surroundings::nothing()),
+        Table::Calls => calls::first_call(alloc, text, &mut Surroundings::nothing()),
         Table::Operations => other_fields(alloc),
     }
 }
@@ -53,6 +57,7 @@ fn answer_among(
 ) -> Result<String, OutOfMemory> {
     match (table, Surroundings::read(alloc, words)?) {
         (Table::Effects, Some(mut among)) => statements::first_effect(alloc, text, &mut among),
+        (Table::Calls, Some(mut among)) => calls::first_call(alloc, text, &mut among),
         _ => other_fields(alloc),
     }
 }
@@ -80,6 +85,7 @@ impl CaseTable for Table {
             "field_ends" => Some(Table::FieldEnds),
             "operations" => Some(Table::Operations),
             "effects" => Some(Table::Effects),
+            "calls" => Some(Table::Calls),
             _ => None,
         }
     }

@@ -1,2 +1,3 @@
 pub mod ListingLaws
+pub mod NumberingLaws
 pub mod IndexLaws

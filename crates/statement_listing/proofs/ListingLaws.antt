@@ -7,8 +7,8 @@ use Rattle.std.proofs.Math.Seq.{drop-cons}
 use Rattle.std.specs.Str.{bytes_eq}
 use Rattle.std.proofs.lemmas.Option.{slice_get-map}
 use Rattle.statement_reading.specs.Readings.{Instruction, Reading}
-use Rattle.statement_listing.specs.Listings.{Listed, Element, Lent, is_plain, processed, begins, ends, begun_behind, elements, elements_from, found_label, is_labelled, lent, listed, place_of}
-use Rattle.statement_listing.specs.Sources.{listed_at, noted, noted_found, plain_lines, unwritten}
+use Rattle.statement_listing.specs.Listings.{Listed, Element, Lent, is_plain, processed, begins, ends, begun_behind, elements, elements_from, found_label, is_labelled, lent, listed, place_of, plain_lines}
+use Rattle.statement_listing.specs.Sources.{listed_at, noted, noted_found, unwritten}
 use Rattle.statement_listing.specs.declared.source.Source.{Source}
 use Rattle.statement_listing.specs.Views.{lent_line}
 

@@ -1,6 +1,6 @@
 -- Lists of statements, what of them is processed, and where a branch goes (HLASM Language Reference SC26-4940, "Sequence
 -- symbols", "Macro definition header", "Macro definition trailer").
-use Rattle.std.specs.Prelude.{ℕ, ◌+◌, ◌-◌, ◌==◌, Bool, true, false, List, [], ◌∷◌, map, codes, Option, Some, None, option_map, if◌then◌else◌}
+use Rattle.std.specs.Prelude.{ℕ, ◌+◌, ◌-◌, ◌==◌, Bool, true, false, List, [], ◌∷◌, map, take, length, slice_get, codes, Option, Some, None, option_map, if◌then◌else◌}
 use Rattle.std.specs.Str.{bytes_eq}
 use Rattle.hl_base.specs.declared.place.Origin.{Origin}
 use Rattle.hl_base.specs.declared.place.PathId.{PathId}
@@ -30,6 +30,25 @@ is_plain other = false
 -- how a statement is read, if it is processed
 abbrev pub processed : Statement → Option Reading
 processed statement = if is_plain statement.shape then Some (read_statement statement) else None
+
+-- the lines that are processed
+abbrev pub plain_lines : List Listed → List Listed
+plain_lines [] = []
+plain_lines (one ∷ rest) = if is_plain one.statement.shape then one ∷ plain_lines rest else plain_lines rest
+
+-- their numbers in the list, where the first line has this number
+abbrev pub plain_numbers : (first : ℕ) → List Listed → List ℕ
+plain_numbers first [] = []
+plain_numbers first (one ∷ rest) =
+    if is_plain one.statement.shape then first ∷ plain_numbers (first + 1) rest else plain_numbers (first + 1) rest
+
+-- the number of the line that is processed at a place
+abbrev pub line_number : List Listed → (place : ℕ) → Option ℕ
+line_number list place = slice_get (plain_numbers 0 list) place
+
+-- the place at which processing goes on at the line of a number: as many lines before it are processed
+abbrev pub place_at : List Listed → (line : ℕ) → ℕ
+place_at list line = length (plain_lines (take line list))
 
 -- a statement that is processed: where it stands, how it is read, and the sequence symbol by which a branch finds it
 pub record Element : Type 0 where

@@ -1,13 +1,14 @@
 -- Lines as they are held: texts that were read, and places in them; and the index of labels. No public clause cites this
 -- file. This project.
-use Rattle.std.specs.Prelude.{◌≡◌, ℕ, Bool, List, [], ◌∷◌, slice_index_or, Option, Some, None, string_bytes, if◌then◌else◌}
+use Rattle.std.specs.Prelude.{◌≡◌, ℕ, ◌+◌, Bool, List, [], ◌∷◌, slice_index_or, Option, Some, None, string_bytes, if◌then◌else◌}
 use Rattle.std.specs.Map.{lookup}
 use Rattle.std.specs.Str.{bytes_eq}
 use Rattle.std.specs.declared.string.String.{String}
 use Rattle.std.specs.declared.alloc.Global.{Global}
 use Rattle.hlasm_statements.specs.declared.statement.Shape.TheVariants.{Blank}
 use Rattle.hlasm_statements.specs.declared.statement.Statement.{Statement}
-use Rattle.statement_listing.specs.Listings.{Listed, Element, listed, is_plain, place_of}
+use Rattle.statement_listing.specs.Listings.{Listed, Element, listed, is_plain, place_of, plain_numbers}
+use Rattle.statement_listing.specs.declared.numbering.Numbering.{Numbering}
 use Rattle.statement_listing.specs.declared.source.Source.{Source}
 
 -- what stands past the end of a text
@@ -32,10 +33,10 @@ statement_at source at = slice_index_or source.statements at unwritten
 abbrev pub listed_at : Source → ℕ → Listed
 listed_at source at = listed source.path (statement_at source at)
 
--- the lines that are processed
-abbrev pub plain_lines : List Listed → List Listed
-plain_lines [] = []
-plain_lines (one ∷ rest) = if is_plain one.statement.shape then one ∷ plain_lines rest else plain_lines rest
+-- of each line, how many before it are processed, and so many before the first
+abbrev pub places_before : (place : ℕ) → List Listed → List ℕ
+places_before place [] = []
+places_before place (one ∷ rest) = place ∷ places_before (if is_plain one.statement.shape then place + 1 else place) rest
 
 -- whether a key spells a name
 abbrev pub spells : List ℕ → String Global → Bool
@@ -54,3 +55,8 @@ noted None name label place = if bytes_eq name label then Some place else None
 abbrev pub noted_found : Option ℕ → (name : List ℕ) (label : Option (List ℕ)) (place : ℕ) → Option ℕ
 noted_found before name None place = before
 noted_found before name (Some label) place = noted before name label place
+
+-- the numbers of the lines that are processed, and how many are before each line
+pub record IsNumbering (numbering : Numbering) (list : List Listed) : Type 0 where
+  pub numbers : numbering.numbers.items ≡ plain_numbers 0 list
+  pub before : numbering.before.items ≡ places_before 0 list

@@ -9,7 +9,7 @@ use indexmap::IndexMap;
 use std::alloc::Global;
 
 /// A place in 32 bits.
-fn number_of(place: usize) -> Result<u32, OutOfMemory>
+pub(crate) fn number_of(place: usize) -> Result<u32, OutOfMemory>
     ensures { IfOk result (λ n. n ≡ place) }
 {
     match u32::try_from(place) {

@@ -13,6 +13,7 @@ mod definition;
 mod index;
 mod line;
 mod listing;
+mod numbering;
 mod source;
 
 pub use definition::{begins_definition, begun_behind, ends_definition};

@@ -34,7 +34,7 @@ impl Model for Line {
 }
 
 /// Whether statements of a shape are processed.
-fn is_plain(shape: Shape) -> bool
+pub(crate) fn is_plain(shape: Shape) -> bool
     ensures { result ≡ is_plain shape }
 {
     match shape {

@@ -1,10 +1,10 @@
 //! Lists of statements.
 ghost use Rattle.std.specs.Prelude.{◌≡◌, IfOk, is_some, option_copied, option_map, slice_get};
-ghost use Rattle.statement_listing.specs.Listings.{elements, lent, listing_of, place_of};
-ghost use Rattle.statement_listing.specs.Sources.{plain_lines};
+ghost use Rattle.statement_listing.specs.Listings.{elements, lent, line_number, listing_of, place_at, place_of, plain_lines};
 ghost use Rattle.statement_listing.specs.Views.{lent_line, lent_of};
 
-use crate::index::{found_label, note_found};
+use crate::index::{found_label, note_found, number_of};
+use crate::numbering::Numbering;
 use crate::{Line, begun_behind, lines_of};
 use hl_base::{Name, Origin, OutOfMemory, PathId};
 use hlasm_statements::Statements;
@@ -14,12 +14,13 @@ use std::alloc::Global;
 use std::marker::Model;
 use std::rc::Rc;
 
-/// What a list holds: its lines, those that are processed, and the places among these of their labels.
+/// What a list holds: its lines, those that are processed, the places among these of their labels, and which lines these are.
 #[derive(Drop)]
 struct Body {
     lines: Vec<Line>,
     points: Vec<Line>,
     places: IndexMap<String, u32>,
+    numbering: Numbering,
 }
 
 /// A list of statements. Contracts see the list of them with the places where they stand. It is shared: `share` takes no
@@ -31,14 +32,16 @@ pub struct Listing {
 
 impl Model for Listing {
     ghost use Rattle.std.specs.Prelude.{◌≡◌, List};
-    ghost use Rattle.statement_listing.specs.Listings.{Listed, elements};
-    ghost use Rattle.statement_listing.specs.Sources.{IsIndex, plain_lines};
+    ghost use Rattle.statement_listing.specs.Listings.{Listed, elements, plain_lines};
+    ghost use Rattle.statement_listing.specs.Sources.{IsIndex, IsNumbering};
 
     ghost Value = { List Listed };
 
     ghost view = { λ l. l.body.value.lines.items };
 
-    ghost invariant = { λ l. (l.body.value.points.items ≡ plain_lines l.body.value.lines.items) × IsIndex l.body.value.places.entries (elements l.body.value.lines.items) };
+    ghost invariant = { λ l. (l.body.value.points.items ≡ plain_lines l.body.value.lines.items)
+        × IsIndex l.body.value.places.entries (elements l.body.value.lines.items)
+        × IsNumbering l.body.value.numbering l.body.value.lines.items };
 }
 
 /// A statement that is processed: where it stands, and how it is read.
@@ -87,10 +90,12 @@ impl Listing {
             let point = line.share()?;
             points.push(point)?;
         }
+        let numbering = Numbering::of(alloc, lines.as_slice())?;
         let body = Body {
             lines,
             points,
             places,
+            numbering,
         };
         Ok(Listing {
             body: Rc::new(alloc, body)?,
@@ -114,7 +119,7 @@ impl Listing {
     }
 
     /// The line that is processed at this place.
-    fn point(&self, place: u32) -> Option<&Line>
+    pub fn point(&self, place: u32) -> Option<&Line>
         ensures { option_copied result ≡ slice_get (plain_lines self.now) place }
     {
         match self.body.points.get(place as usize) {
@@ -137,6 +142,24 @@ impl Listing {
         match self.point(place) {
             Some(line) => lend(line),
             None => None,
+        }
+    }
+
+    /// The number, from 0, of the line that is processed at this place.
+    pub fn line_number(&self, place: u32) -> Option<u32>
+        ensures { result ≡ line_number self.now place }
+    {
+        self.body.numbering.number(place)
+    }
+
+    /// The place at which processing goes on at the line of this number: as many lines before it are processed.
+    /// `OutOfMemory` where a `u32` does not count them.
+    pub fn place_at(&self, line: u32) -> Result<u32, OutOfMemory>
+        ensures { IfOk result (λ place. place ≡ place_at self.now line) }
+    {
+        match self.body.numbering.place(line) {
+            Some(place) => Ok(place),
+            None => number_of(self.body.points.as_slice().len()),
         }
     }
 

@@ -7,10 +7,9 @@ use Rattle.instruction_table.specs.Formats.{operands_of}
 use Rattle.instruction_table.specs.declared.meaning.Operation.{Operation}
 use Rattle.instruction_table.specs.declared.meaning.Operation.TheVariants.{Conditional, Ordinary, Both, Silent, LeftOut, Machine, Unknown}
 use Rattle.statement_reading.specs.declared.task.Task.{Task}
-use Rattle.statement_reading.specs.declared.task.Task.TheVariants.{LimitBranches, Go, GoIf, Declare, Assign, Say, Nothing, Generate, GenerateAlone, End, LeaveOut, Call}
+use Rattle.statement_reading.specs.declared.task.Task.TheVariants.{LimitBranches, Go, GoIf, Declare, Assign, Define, Leave, Copy, Say, Nothing, Generate, GenerateAlone, End, LeaveOut, Call}
 
--- The operations of conditional assembly; ANOP is the one that does nothing. MACRO, MEND and MEXIT are left out until macros are
--- called; the tasks `Define` and `Leave` are theirs then.
+-- the operations of conditional assembly; ANOP is the one that does nothing
 abbrev pub conditional : List ℕ → Task
 conditional name =
     if bytes_eq name (codes "ACTR") then LimitBranches else
@@ -22,9 +21,9 @@ conditional name =
     (if bytes_eq name (codes "LCLA") then Declare A false else
     (if bytes_eq name (codes "LCLB") then Declare B false else
     (if bytes_eq name (codes "LCLC") then Declare C false else
-    (if bytes_eq name (codes "MACRO") then LeaveOut else
-    (if bytes_eq name (codes "MEND") then LeaveOut else
-    (if bytes_eq name (codes "MEXIT") then LeaveOut else
+    (if bytes_eq name (codes "MACRO") then Define else
+    (if bytes_eq name (codes "MEND") then Leave else
+    (if bytes_eq name (codes "MEXIT") then Leave else
     (if bytes_eq name (codes "SETA") then Assign A else
     (if bytes_eq name (codes "SETB") then Assign B else
     (if bytes_eq name (codes "SETC") then Assign C else
@@ -34,9 +33,9 @@ conditional name =
 abbrev pub ordinary : List ℕ → Task
 ordinary name = if bytes_eq name (codes "END") then End else Generate
 
--- COPY, which is left out until macros are called and has the task `Copy` then, and MNOTE
+-- COPY and MNOTE
 abbrev pub both : List ℕ → Task
-both name = if bytes_eq name (codes "COPY") then LeaveOut else Say
+both name = if bytes_eq name (codes "COPY") then Copy else Say
 
 -- a machine instruction with these operands: what follows one without operands are remarks
 abbrev pub machine : {K : Type 0} → List K → Task

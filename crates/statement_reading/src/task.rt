@@ -6,8 +6,7 @@ ghost use Rattle.statement_reading.specs.Tasks as tasks;
 use hl_base::{Name, SetKind};
 use instruction_table::{Format, Operation, operands};
 
-/// What a statement does where no macro definition has the name of its operation. `Define`, `Leave` and `Copy` are what MACRO, MEND,
-/// MEXIT and COPY do once macros are called; until then they are left out, and no statement has these tasks.
+/// What a statement does where no macro definition has the name of its operation.
 #[derive(Clone, Copy, Debug, PartialEq, Eq)]
 pub enum Task {
     LimitBranches,
@@ -29,8 +28,7 @@ pub enum Task {
     Call,
 }
 
-/// What an operation of conditional assembly does. Those of macro definitions are left out until macros are called: then MACRO is
-/// `Define`, and MEND and MEXIT are `Leave`.
+/// What an operation of conditional assembly does.
 fn conditional(name: &str) -> Task
     ensures { result ≡ tasks.conditional name.now }
 {
@@ -44,9 +42,9 @@ fn conditional(name: &str) -> Task
         "LCLA" => Task::Declare(SetKind::A, false),
         "LCLB" => Task::Declare(SetKind::B, false),
         "LCLC" => Task::Declare(SetKind::C, false),
-        "MACRO" => Task::LeaveOut,
-        "MEND" => Task::LeaveOut,
-        "MEXIT" => Task::LeaveOut,
+        "MACRO" => Task::Define,
+        "MEND" => Task::Leave,
+        "MEXIT" => Task::Leave,
         "SETA" => Task::Assign(SetKind::A),
         "SETB" => Task::Assign(SetKind::B),
         "SETC" => Task::Assign(SetKind::C),
@@ -90,12 +88,12 @@ fn ordinary(name: &str) -> Task
     }
 }
 
-/// What COPY or MNOTE does. COPY is left out until macros are called: then it is `Copy`.
+/// What COPY or MNOTE does.
 fn both(name: &str) -> Task
     ensures { result ≡ tasks.both name.now }
 {
     match name {
-        "COPY" => Task::LeaveOut,
+        "COPY" => Task::Copy,
         _ => Task::Say,
     }
 }

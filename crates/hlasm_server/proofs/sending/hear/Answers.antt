@@ -1,6 +1,6 @@
-use Rattle.std.proofs.Common.{[], sym, ◌∙◌, subst}
+use Rattle.std.proofs.Common.{sym, ◌∙◌, subst}
 use Rattle.std.proofs.lemmas.Result.{err_from_is_err_and}
-use Rattle.session_core.specs.Message.{message}
+use Rattle.session_core.specs.Message.{event}
 use Rattle.hlasm_server.specs.Sending.{StopsFollowing, Follows}
 use Rattle.hlasm_server.proofs.SendingLaws.{came, stopped_before, broken_before_turns, broken_in_turns, heard_whole, heard_end}
 use Rattle.hlasm_server.proofs.sending.hear.Goals as goal
@@ -12,14 +12,14 @@ returns-in_err-message-clause-hears g c =
 
 pub returns-in_err-put_output-in-Running-clause-hears : goal.returns-in_err-put_output-in-Running-clause-hears
 returns-in_err-put_output-in-Running-clause-hears g c =
-    let here = came (message c.args.session.now.state c.args.body.now []) c.args.session.now c.message.new.self c.requires.ready c.in_ok-message.ensures.comes in
+    let here = came (event c.args.session.now.state c.args.body.now) c.args.session.now c.message.new.self c.requires.ready c.in_ok-message.ensures.comes.comes.0 in
     let p = err_from_is_err_and c.from_residual-in_err-put_output-in-Running.result c.from_residual-in_err-put_output-in-Running.ensures.1 in
     rw (p.1, p.2) (broken_before_turns _ _ c.args.body.now c.message.new.self _ _ _ here
     (sym c.in-Running.is ∙ c.in_ok-message.ensures.phase) c.in_err-put_output-in-Running.ensures.err)
 
 pub returns-in_err-make_turns-in-Running-clause-hears : goal.returns-in_err-make_turns-in-Running-clause-hears
 returns-in_err-make_turns-in-Running-clause-hears g c =
-    let here = came (message c.args.session.now.state c.args.body.now []) c.args.session.now c.message.new.self c.requires.ready c.in_ok-message.ensures.comes in
+    let here = came (event c.args.session.now.state c.args.body.now) c.args.session.now c.message.new.self c.requires.ready c.in_ok-message.ensures.comes.comes.0 in
     let p = err_from_is_err_and c.from_residual-in_err-make_turns-in-Running.result c.from_residual-in_err-make_turns-in-Running.ensures.1 in
     let made = subst (λ n. StopsFollowing (c.in_err-make_turns-in-Running.field-0).0 c.put_output.new.session.state n (g.S.Source.waits c.args.source.now) (g.S.Source.waits c.make_turns.new.source)
     (g.K.Sink.held c.put_output.new.sink) (g.K.Sink.held c.make_turns.new.sink)) c.one_more.ensures c.in_err-make_turns-in-Running.ensures.makes in
@@ -28,7 +28,7 @@ returns-in_err-make_turns-in-Running-clause-hears g c =
 
 pub returns-in_ok-make_turns-in-Running-clause-hears : goal.returns-in_ok-make_turns-in-Running-clause-hears
 returns-in_ok-make_turns-in-Running-clause-hears g c =
-    let here = came (message c.args.session.now.state c.args.body.now []) c.args.session.now c.message.new.self c.requires.ready c.in_ok-message.ensures.comes in
+    let here = came (event c.args.session.now.state c.args.body.now) c.args.session.now c.message.new.self c.requires.ready c.in_ok-message.ensures.comes.comes.0 in
     let made = subst (λ n. Follows c.put_output.new.session.state n c.make_turns.new.session.state c.make_turns.new.since (g.S.Source.waits c.args.source.now) (g.S.Source.waits c.make_turns.new.source)
     (g.K.Sink.held c.put_output.new.sink) (g.K.Sink.held c.make_turns.new.sink)) c.one_more.ensures c.in_ok-make_turns-in-Running.ensures.makes in
     heard_whole _ c.make_turns.new.session.state _ _ c.args.body.now c.message.new.self c.put_output.new.session _ _ _ _ _ here
@@ -36,5 +36,5 @@ returns-in_ok-make_turns-in-Running-clause-hears g c =
 
 pub returns-in-Exit-clause-hears : goal.returns-in-Exit-clause-hears
 returns-in-Exit-clause-hears g c =
-    let here = came (message c.args.session.now.state c.args.body.now []) c.args.session.now c.message.new.self c.requires.ready c.in_ok-message.ensures.comes in
+    let here = came (event c.args.session.now.state c.args.body.now) c.args.session.now c.message.new.self c.requires.ready c.in_ok-message.ensures.comes.comes.0 in
     heard_end _ _ c.args.body.now c.in-Exit.closed c.message.new.self _ _ here (sym c.in-Exit.is ∙ c.in_ok-message.ensures.phase)

@@ -1,19 +1,26 @@
-use Rattle.std.proofs.Common.{ap, codes}
+use Rattle.std.proofs.Common.{ap, codes, sym, ◌∙◌}
 use Rattle.document_store.specs.Holdings.{Holdings}
 use Rattle.session_core.specs.State.{State, number_named}
 use Rattle.session_core.proofs.EventLaws.{closing_refused, closed_same, state_kept}
 use Rattle.session_core.proofs.ListLaws.{if_ok}
+use Rattle.session_core.proofs.ListedLaws.{sound_closed_told}
 use Rattle.session_core.proofs.StoreLaws.{few_closed}
 use Rattle.session_core.proofs.standing.Standing.close.Goals as goal
 
 pub queue_programs-requires : goal.queue_programs-requires
-queue_programs-requires c = record { few = few_closed _ _ _ c.in-Ok.ensures.answer c.self.invariant }
+queue_programs-requires c = record { few = few_closed _ _ _ c.in-Ok.ensures.answer c.self.invariant.few }
 
 pub invariant_of-self-in_err-queue_programs-in-Ok : goal.invariant_of-self-in_err-queue_programs-in-Ok
-invariant_of-self-in_err-queue_programs-in-Ok c = few_closed _ _ _ c.in-Ok.ensures.answer c.self.invariant
+invariant_of-self-in_err-queue_programs-in-Ok c =
+    let fields = c.self.inside in
+    let path = c.in_ok-path.ensures ∙ ap (number_named fields.store.store) (c.as_str.ensures.characters ∙ sym c.as_str-2.ensures.characters) in
+    sound_closed_told fields.listed.items _ fields.budget fields.store.store c.close.new.self.store fields.published.items _ _ _ path c.drop_named.ensures c.forget.ensures.published c.in-Ok.ensures.answer c.self.invariant
 
 pub invariant_of-self-in-Ok : goal.invariant_of-self-in-Ok
-invariant_of-self-in-Ok c = few_closed _ _ _ c.in-Ok.ensures.answer c.self.invariant
+invariant_of-self-in-Ok c =
+    let fields = c.self.inside in
+    let path = c.in_ok-path.ensures ∙ ap (number_named fields.store.store) (c.as_str.ensures.characters ∙ sym c.as_str-2.ensures.characters) in
+    sound_closed_told fields.listed.items _ fields.budget fields.store.store c.close.new.self.store fields.published.items _ _ _ path c.drop_named.ensures c.forget.ensures.published c.in-Ok.ensures.answer c.self.invariant
 
 pub returns-in-Err : goal.returns-in-Err
 returns-in-Err c =

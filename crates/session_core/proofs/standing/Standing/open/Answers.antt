@@ -1,10 +1,31 @@
-use Rattle.std.proofs.Common.{ap, codes, w32}
+use Rattle.std.proofs.Common.{ap, codes, sym, ◌∙◌, subst, w32}
 use Rattle.std.proofs.lemmas.Int.{to_z-of_z}
+use Rattle.std.specs.Str.{chars}
 use Rattle.document_store.specs.Holdings.{Holdings}
-use Rattle.session_core.specs.State.{State}
+use Rattle.session_core.specs.Inside.{IsSound}
+use Rattle.session_core.specs.State.{State, without}
 use Rattle.session_core.proofs.EventLaws.{change_refused, opened_same, state_kept}
 use Rattle.session_core.proofs.ListLaws.{if_ok}
+use Rattle.session_core.proofs.ListedLaws.{sound_opened}
+use Rattle.session_core.proofs.StoreLaws.{few_opened}
 use Rattle.session_core.proofs.standing.Standing.open.Goals as goal
+
+pub queue_programs-requires : goal.queue_programs-requires
+queue_programs-requires c = record { few = few_opened c.self.inside.store.store c.open_text.new.self.store (chars c.as_str-uri.result.now) (chars c.as_str-language.result.now) _ (chars c.as_str-text.result.now) c.in-Ok.ensures.answer }
+
+pub invariant_of-self-in_err-queue_programs-in-Ok : goal.invariant_of-self-in_err-queue_programs-in-Ok
+invariant_of-self-in_err-queue_programs-in-Ok c =
+    let fields = c.self.inside in
+    let path = c.in_ok-path.ensures in
+    subst (λ l. IsSound l fields.budget c.open_text.new.self.store fields.published.items) (sym (c.drop_named.ensures ∙ ap (without fields.listed.items) path))
+    (sound_opened fields.listed.items fields.budget fields.store.store c.open_text.new.self.store fields.published.items _ _ _ _ c.in-Ok.ensures.answer c.self.invariant)
+
+pub invariant_of-self-in-Ok : goal.invariant_of-self-in-Ok
+invariant_of-self-in-Ok c =
+    let fields = c.self.inside in
+    let path = c.in_ok-path.ensures in
+    subst (λ l. IsSound l fields.budget c.open_text.new.self.store fields.published.items) (sym (c.drop_named.ensures ∙ ap (without fields.listed.items) path))
+    (sound_opened fields.listed.items fields.budget fields.store.store c.open_text.new.self.store fields.published.items _ _ _ _ c.in-Ok.ensures.answer c.self.invariant)
 
 pub returns-in-Err : goal.returns-in-Err
 returns-in-Err c =

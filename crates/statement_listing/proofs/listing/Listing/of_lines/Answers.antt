@@ -2,9 +2,9 @@ use Rattle.std.proofs.Common.{◌≡◌, ◌∙◌, ◌+◌, ◌++◌, ◌≤◌
 use Rattle.std.specs.Option.{option_copied}
 use Rattle.std.specs.Map.{lookup}
 use Rattle.statement_reading.specs.Views.{instruction_of, reading_of}
-use Rattle.statement_listing.specs.Listings.{Listed, elements, elements_from, place_of}
+use Rattle.statement_listing.specs.Listings.{Listed, elements, elements_from, place_of, plain_lines}
 use Rattle.std.proofs.lemmas.List.{length_push}
-use Rattle.statement_listing.specs.Sources.{IsIndex, noted_found, plain_lines, spells}
+use Rattle.statement_listing.specs.Sources.{IsIndex, IsNumbering, noted_found, spells}
 use Rattle.statement_listing.specs.declared.listing.Body.{Body}
 use Rattle.statement_listing.proofs.ListingLaws.{begun-most, elements-idle, line-in, line-noted, line-shown, place_behind, place_behind-end, place_behind-start, plain_lines-idle}
 use Rattle.statement_listing.proofs.listing.Listing.of_lines.Goals as goal
@@ -61,7 +61,7 @@ loop-line-preserved c =
 
 -- what a list's body holds of itself
 abbrev Holds : Body → Type 0
-Holds b = (b.points.items ≡ plain_lines b.lines.items) × IsIndex b.places.entries (elements b.lines.items)
+Holds b = (b.points.items ≡ plain_lines b.lines.items) × IsIndex b.places.entries (elements b.lines.items) × IsNumbering b.numbering b.lines.items
 
 pub invariant_of-result : goal.invariant_of-result
 invariant_of-result c =
@@ -77,4 +77,5 @@ invariant_of-result c =
           c.loop-line.invariant.1 name
           ∙ ap (λ ls. place_behind known (length points) (place_of name (elements_from c.loop-line.begun ls))) none
           ∙ place_behind-end known (length points)),
+      subst (λ (ls : List Listed). IsNumbering c.in_ok-numbering.numbering ls) c.as_slice.ensures.value c.in_ok-numbering.ensures,
     )

@@ -1,7 +1,7 @@
 use Rattle.std.proofs.Common.{◌≡◌, ◌≤◌, ℕ, List, ◌++◌, length, drop}
 use Rattle.std.specs.Map.{lookup}
-use Rattle.statement_listing.specs.Listings.{elements, elements_from, place_of}
-use Rattle.statement_listing.specs.Sources.{plain_lines, spells}
+use Rattle.statement_listing.specs.Listings.{elements, elements_from, place_of, plain_lines}
+use Rattle.statement_listing.specs.Sources.{spells}
 use Rattle.statement_listing.proofs.ListingLaws.{place_behind}
 use Rattle.statement_listing.proofs.listing.Listing.of_lines.Given as goal
 

@@ -1,7 +1,7 @@
 use Rattle.std.proofs.Common.{◌≡◌, ◌∙◌, length, refl, sym, ap}
 use Rattle.std.specs.List.{slice_get}
 use Rattle.std.proofs.lemmas.Option.{slice_get_read, slice_get_past}
-use Rattle.statement_listing.specs.Sources.{plain_lines}
+use Rattle.statement_listing.specs.Listings.{plain_lines}
 use Rattle.statement_listing.specs.declared.listing.Body.{Body}
 use Rattle.statement_listing.proofs.listing.Listing.point.Goals as goal
 

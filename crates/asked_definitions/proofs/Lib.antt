@@ -1,0 +1,4 @@
+pub mod AnswerLaws
+pub mod MemberLaws
+pub mod WrittenLaws
+pub mod DefiningLaws

@@ -1,0 +1,91 @@
+//! What a statement does, as far as the answers lead.
+ghost use Rattle.std.specs.Prelude.{◌≡◌, Some, IfOk};
+ghost use Rattle.question_trees.specs.Bridge.{answers_in, led_as};
+ghost use Rattle.conditional_asm.specs.Effects as effects;
+ghost use Rattle.statement_reading.specs.Views.{reading_of};
+ghost use Rattle.statement_listing.specs.Listings.{Element};
+ghost use Rattle.expansion_step.specs.Meaning.{performed_by};
+ghost use Rattle.call_knowledge.specs.Standing as standing;
+ghost use Rattle.macro_expand.specs.Codes.{led_to, means, passage_by, placed_by, told_by};
+ghost use Rattle.macro_expand.specs.Language.{led_on_act};
+ghost use Rattle.macro_expand.specs.Passages.{label_at, operands_at};
+
+use crate::Passage;
+use crate::acting::{Done, branching_to, done_by, ending, generating, going_on, leaving, quiet};
+use crate::calls::calling;
+use crate::copies::copying;
+use crate::definitions::defining;
+use asking_core::Noted;
+use call_knowledge::{Knowledge, Surroundings, counting};
+use call_sites::Known;
+use conditional_asm::{Act, ReadStatement, perform};
+use expansion_step::{Level, Performed};
+use hl_base::{Key, Notes, OutOfMemory};
+use hlasm_statements::Statement;
+use std::alloc::Global;
+
+/// What comes of an act of the statement here in a call that knows so much, behind these notes, as far as the answers lead.
+fn acting(
+    alloc: Global,
+    here: &Level<Passage>,
+    statement: &Statement,
+    known: &Knowledge,
+    answers: &[Noted<Key, Known>],
+    act: Act,
+    notes: Notes,
+) -> Result<Done, OutOfMemory>
+    requires label { label_at (passage_by here.now.listing) here.now.position ≡ statement.now.label }
+    requires operands { operands_at (passage_by here.now.listing) here.now.position ≡ statement.now.operands }
+    ensures { IfOk result (λ p. (e : Element) → performed_by means known.now p ≡ Some (led_to (told_by answers.now) (placed_by here.now e) known.now act notes)) }
+{
+    match act {
+        Act::Ask(key) => Ok(Performed::Wants(key)),
+        Act::Branch(label) => Ok(branching_to(alloc, known, label, notes)),
+        Act::Actr(count) => done_by(alloc, counting(alloc, count), notes),
+        Act::Set(name, element, value) => {
+            let deed = known.setting(alloc, name, element, value)?;
+            done_by(alloc, deed, notes)
+        }
+        Act::Declare(list) => {
+            let deed = known.declaring(alloc, &list)?;
+            done_by(alloc, deed, notes)
+        }
+        Act::Define => defining(alloc, here, answers, notes),
+        Act::Call(name) => calling(alloc, statement, known, answers, &name, notes),
+        Act::Copy(name) => copying(alloc, here, answers, &name, notes),
+        Act::Generate(line) => generating(alloc, line, notes),
+        Act::Leave(name) => leaving(alloc, known, name, notes),
+        Act::End(line) => Ok(ending(alloc, line, notes)),
+        Act::Next => Ok(going_on(alloc, quiet(alloc, notes))),
+    }
+}
+
+/// What the statement here that was read does in a call that knows so much, as far as the answers lead.
+pub(crate) fn performed(
+    alloc: Global,
+    here: &Level<Passage>,
+    statement: &Statement,
+    read: &ReadStatement,
+    known: &Knowledge,
+    answers: &[Noted<Key, Known>],
+) -> Result<Done, OutOfMemory>
+    requires label { label_at (passage_by here.now.listing) here.now.position ≡ statement.now.label }
+    requires operands { operands_at (passage_by here.now.listing) here.now.position ≡ statement.now.operands }
+    ensures { IfOk result (λ p. (e : Element) → performed_by means known.now p ≡ Some (led_on_act (told_by answers.now) (placed_by here.now e) known.now
+        (led_as (λ noted. noted) (effects.effect_of (reading_of read.now) (standing.told_by known.now (answers_in (told_by answers.now))))))) }
+{
+    let mut around = Surroundings {
+        knowledge: known,
+        answers,
+    };
+    let effect = perform(alloc, read, &mut around)?;
+    acting(
+        alloc,
+        here,
+        statement,
+        known,
+        answers,
+        effect.act,
+        effect.notes,
+    )
+}
