@@ -3,12 +3,8 @@
 # beside GNU as with the same macro where it is installed (binutils-s390x-linux-gnu); how much memory a point takes; and calls at the
 # depths 1 and 100.
 set -eu
-top=$(cd "$(dirname "$0")/.." && pwd)
-work=$(mktemp -d)
-trap 'rm -rf "$work"' EXIT
-cd "$top/crates/hlasm_ls"
-rt run -- serve < stdin > "$work/built" || { cat "$work/built" >&2; exit 1; }
-python3 - "$top/crates/hlasm_ls/out/hlasm_ls" "$work" "$top/bench" <<'RUNS'
+. "$(dirname "$0")/served.sh"
+python3 - "$server" "$work" "$bench" <<'RUNS'
 import shutil, sys
 server, work, bench = sys.argv[1:]
 sys.path.insert(0, bench)

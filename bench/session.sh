@@ -2,11 +2,7 @@
 # A session of an editor, replayed at once: 500 keystrokes in a text of 10,000 lines, beside a program that only splits the
 # frames and reads their JSON; how many instructions a message takes; and the most memory that 1,000 edits need.
 set -eu
-top=$(cd "$(dirname "$0")/.." && pwd)
-work=$(mktemp -d)
-trap 'rm -rf "$work"' EXIT
-cd "$top/crates/hlasm_ls"
-rt run -- serve < stdin > "$work/built" || { cat "$work/built" >&2; exit 1; }
+. "$(dirname "$0")/served.sh"
 cat > "$work/plain.py" <<'PLAIN'
 # Splits the frames of standard input and reads the JSON of each.
 import json, sys
@@ -18,7 +14,7 @@ while at < len(data):
     at, count = head + 4 + length, count + 1
 print(count)
 PLAIN
-python3 - "$top/crates/hlasm_ls/out/hlasm_ls" "$work" "$top/bench" <<'RUNS'
+python3 - "$server" "$work" "$bench" <<'RUNS'
 import os, re, subprocess, sys, time
 server, work, bench = sys.argv[1:]
 sys.path.insert(0, bench)
