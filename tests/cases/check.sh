@@ -8,6 +8,7 @@ program_of() {
     case $1 in
         json | json_bytes | members | messages | parameters | responses | ids | bodies) echo message_cases ;;
         sources | sinks | libraries) echo io_cases ;;
+        readings) echo reading_cases ;;
         debug_requests | debug_arguments | debug_bodies) echo message_cases ;;
         config_groups | config_programs | config_choices) echo message_cases ;;
         nodes | chains) echo trace_cases ;;

@@ -15,7 +15,6 @@ use crate::member::{known_at, member_of};
 use asking_core::Noted;
 use call_sites::Known;
 use hl_base::{Key, Name, OutOfMemory};
-use hlasm_statements::read_statements;
 use kept_definitions::KeptDefinition;
 use kept_values::Kept;
 use macro_library::{DefFault, Member, MemberFile, defining_at};
@@ -83,9 +82,7 @@ fn in_file(
     ensures { IfOk result (λ found. operation_led found
         ≡ led_by (look_up (pairs_of key_tree known_tree answers.now)) (asked.in_member name.now (File file.now))) }
 {
-    let statements = read_statements(alloc, file.text())?;
-    let list = Listing::of(alloc, file.path(), statements)?;
-    in_list(alloc, &list, name, answers)
+    in_list(alloc, file.list(), name, answers)
 }
 
 /// The macro of this name in the member of that name.

@@ -62,14 +62,14 @@ pub fn read_placed(alloc: Global, written: &str) -> Result<Placed, OutOfMemory> 
 }
 
 /// A member of which this is said: `absent`, `unreadable`, or its text behind an equals sign, at the path of a number.
-fn member(alloc: Global, path: u32, said: &str) -> Result<Member, AllocError> {
+fn member(alloc: Global, path: u32, said: &str) -> Result<Member, OutOfMemory> {
     match said {
         "absent" => Ok(Member::Absent),
         "unreadable" => Ok(Member::Unreadable),
         said => {
             let text = text_of(alloc, said.strip_prefix("= ").unwrap_or(said))?;
             let text = RcStr::from_str(alloc, text.as_str())?;
-            Ok(Member::File(MemberFile::of(PathId(path), text)))
+            Ok(Member::File(MemberFile::of(alloc, PathId(path), text)?))
         }
     }
 }

@@ -1,5 +1,5 @@
 -- A change of a text that is split before a line: of its second part alone.
-use Rattle.std.proofs.Common.{◌≡◌, ◌∙◌, ℕ, ◌+◌, ◌-◌, ◌<◌, ◌≤◌, false, List, ◌++◌, length, take, drop, refl, sym, ap, arith, length-append}
+use Rattle.std.proofs.Common.{◌≡◌, ◌∙◌, ℕ, ◌+◌, ◌-◌, ◌≤◌, false, List, ◌++◌, length, take, drop, refl, sym, ap, arith, length-append}
 use Rattle.std.proofs.lemmas.Str.{chars-append, encodes-append, encodes-chars, IsUtf8-append, IsUtf8-take, IsUtf8-drop}
 use Rattle.std.specs.Option.{option_map}
 use Rattle.std.specs.Prelude.{chars, IsUtf8, IsCharBoundary, encode_utf8_all}

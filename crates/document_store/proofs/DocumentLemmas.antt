@@ -13,7 +13,7 @@ use Rattle.std.proofs.lemmas.Option.{slice_get-get_or, slice_get_past, slice_get
 use Rattle.std.proofs.lemmas.Slice.Eq.{bytes_eq-Decides}
 use Rattle.std.proofs.lemmas.Str.{encodes-chars}
 use Rattle.document_store.specs.Store.{number_of}
-use Rattle.document_store.specs.Changes.{with_path}
+use Rattle.document_store.specs.Changes.{with_path, beside_path}
 
 -- ---- the first that passes
 
@@ -207,6 +207,12 @@ with_path-known paths path n found =
 pub with_path-new : (paths : List (List ℕ)) (path : List ℕ) → number_of paths path ≡ None → with_path paths path ≡ paths ++ path ∷ []
 with_path-new paths path none =
     ap (λ b. cond b paths (paths ++ path ∷ [])) (any-none (bytes_eq path) paths (find-None (bytes_eq path) paths none))
+
+-- what stands beside it goes last too
+pub beside_path-new : {X : Type 0} (paths : List (List ℕ)) (path : List ℕ) → number_of paths path ≡ None → (xs : List X) (x : X) →
+    beside_path paths path xs x ≡ xs ++ x ∷ []
+beside_path-new paths path none xs x =
+    ap (λ b. cond b xs (xs ++ x ∷ [])) (any-none (bytes_eq path) paths (find-None (bytes_eq path) paths none))
 
 -- and has the number after theirs
 pub number_of-last : (paths : List (List ℕ)) (path : List ℕ) → number_of paths path ≡ None → number_of (paths ++ path ∷ []) path ≡ Some (length paths)

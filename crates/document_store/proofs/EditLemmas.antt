@@ -9,7 +9,7 @@ use Rattle.text_pool.specs.declared.pool.TheConstants.{LONGEST_TEXT}
 use Rattle.document_store.specs.Edits.{edited, start_of, stop_of, is_backward, after_edit, after_edits, and_then}
 use Rattle.document_store.specs.Places.{bytes_before, GivesText}
 use Rattle.document_store.specs.declared.fault.StoreFault.{StoreFault}
-use Rattle.document_store.specs.declared.fault.StoreFault.TheVariants.{BadUri, AlreadyOpen, TooMany, TextTooLong, NotOpen, BadRange, OutOfMemory}
+use Rattle.document_store.specs.declared.fault.StoreFault.TheVariants.{BadUri, AlreadyOpen, TooMany, TextTooLong, NotOpen, BadRange, LibraryTooLarge, OutOfMemory}
 use Rattle.document_store.proofs.PlaceLemmas.{take-bytes_before, drop-bytes_before, IsCharBoundary-bytes_before}
 
 -- the text after a change, in bytes
@@ -77,6 +77,7 @@ GivesText-refused asked all TooMany h g = h TooMany g
 GivesText-refused asked all TextTooLong h g = h TextTooLong g
 GivesText-refused asked all NotOpen h g = h NotOpen g
 GivesText-refused asked all (BadRange i) h g = h (BadRange i) g
+GivesText-refused asked all LibraryTooLarge h g = h LibraryTooLarge g
 GivesText-refused asked all OutOfMemory h g = g
 
 -- the changes from one on

@@ -6,9 +6,13 @@ pub mod EditLemmas
 pub mod InverseLaws
 pub mod OwnerLemmas
 pub mod DocumentLemmas
+pub mod PathLemmas
+pub mod FileLemmas
 pub mod StoreLemmas
+pub mod MemberLemmas
 pub mod CallLemmas
 pub mod ShowLemmas
+pub mod OpenLemmas
 pub mod HoldLemmas
 pub mod BlockLemmas
 pub mod PartLemmas

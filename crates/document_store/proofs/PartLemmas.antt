@@ -2,7 +2,7 @@
 use Rattle.std.proofs.Common.{◌≡◌, ◌∙◌, ℕ, zero, suc, ◌+◌, ◌-◌, ◌<◌, ◌≤◌, Bool, true, false, cond, List, [], ◌∷◌, ◌++◌, length, take, drop, get_or, map, refl, sym, inl, inr, ap, arith, length-append, length-drop, append_assoc, get_or-drop, zero-add, Option, Some, None}
 use Rattle.std.proofs.Math.Nat.{suc-add}
 use Rattle.std.proofs.Math.Seq.{take-add, take-append-add, drop-append-add, drop-append_seam}
-use Rattle.std.proofs.lemmas.Bool.{cases_Bool, cases_lt, le-ltb, or_parts}
+use Rattle.std.proofs.lemmas.Bool.{cases_Bool, cases_lt, le-ltb}
 use Rattle.std.proofs.lemmas.List.{drop-drop, drop-map}
 use Rattle.std.proofs.lemmas.List.Folds.{concat-append}
 use Rattle.std.specs.List.{concat, onto_first}
@@ -17,7 +17,7 @@ use Rattle.document_store.specs.Places.{line_ends}
 use Rattle.document_store.specs.Positions.{ends_line, whole_lines, line_of, line_start, place_of, characters_before}
 use Rattle.document_store.proofs.BlockLemmas.{drop-one}
 use Rattle.document_store.proofs.DocumentLemmas.{bit}
-use Rattle.document_store.proofs.FromLemmas.{IsFrom, length-lines_whole, split_at_line}
+use Rattle.document_store.proofs.FromLemmas.{length-lines_whole, split_at_line}
 use Rattle.document_store.proofs.LineLemmas.{IsCons, without_end, lines-whole, whole_lines-some, concat-whole_lines}
 use Rattle.document_store.proofs.OrderLemmas.{units_in_order}
 use Rattle.document_store.proofs.PlaceLemmas.{place_of-there, place_of-past, lines_in_order, whole_lines-positive, eqb-false_from}

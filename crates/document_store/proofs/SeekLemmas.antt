@@ -1,12 +1,12 @@
 -- The two parts of a text that is split before a line, in bytes: forward, back, and where a line begins between them.
 use Rattle.std.proofs.Common.{◌≡◌, ◌∙◌, ℕ, ◌+◌, ◌-◌, ◌<◌, ◌≤◌, Bool, true, false, List, [], ◌∷◌, ◌++◌, length, take, drop, get_or, refl, sym, inl, inr, ap, subst, arith, length-append, length-drop, append_assoc, take-append-drop}
 use Rattle.std.proofs.Math.Seq.{drop-append_seam}
-use Rattle.std.proofs.lemmas.Bool.{and_parts, and_cases, or_cases, eqb-true, cases_Bool, true≢false}
+use Rattle.std.proofs.lemmas.Bool.{and_parts, and_cases, or_cases, eqb-true, true≢false}
 use Rattle.std.proofs.lemmas.List.{drop-drop, drop_more, drop_all}
-use Rattle.std.proofs.lemmas.Str.{chars-append, chars-nil, encodes-chars, encodes-append, IsUtf8-take, IsUtf8-drop, IsUtf8-from_ascii, IsCharBoundary-at_seam, IsCharBoundary-before_ascii, IsCharBoundary-after_ascii}
+use Rattle.std.proofs.lemmas.Str.{chars-append, chars-nil, encodes-chars, encodes-append, IsUtf8-take, IsUtf8-drop, IsCharBoundary-at_seam, IsCharBoundary-before_ascii, IsCharBoundary-after_ascii}
 use Rattle.std.specs.List.{concat}
 use Rattle.std.specs.Prelude.{◌==◌, ◌||◌, ◌&&◌, not, chars, IsUtf8, IsCharBoundary, encode_utf8_all, slice_index}
-use Rattle.hl_base.proofs.LineLaws.{chars-ascii, first_char, utf8_tail}
+use Rattle.hl_base.proofs.LineLaws.{chars-ascii, first_char}
 use Rattle.document_store.specs.Parts.{BeginsLine, parted, ends_behind}
 use Rattle.document_store.specs.Places.{line_ends}
 use Rattle.document_store.specs.Positions.{whole_lines, ends_line}

@@ -1,9 +1,9 @@
 -- The two parts of a buffer after bytes were moved in it.
-use Rattle.std.proofs.Common.{◌≡◌, ◌∙◌, ℕ, ◌+◌, ◌-◌, ◌≤◌, List, [], ◌++◌, length, take, drop, refl, sym, ap, subst, arith, length-append, length-drop, append_assoc}
-use Rattle.std.proofs.Math.Seq.{paste, take-length, take-append_seam, drop-append_seam}
+use Rattle.std.proofs.Common.{◌≡◌, ◌∙◌, ℕ, ◌+◌, ◌-◌, ◌≤◌, List, ◌++◌, length, take, drop, sym, ap, subst, arith, length-append, length-drop, append_assoc}
+use Rattle.std.proofs.Math.Seq.{paste, take-length, drop-append_seam}
 use Rattle.std.proofs.lemmas.List.{length-take, take-take, take-append-le, drop-drop, drop-take}
 use Rattle.std.proofs.lemmas.List.Edits.{take-paste, drop-paste, length-paste}
-use Rattle.std.proofs.lemmas.Str.{IsUtf8-append, IsUtf8-take, IsUtf8-drop, IsUtf8-nil}
+use Rattle.std.proofs.lemmas.Str.{IsUtf8-append, IsUtf8-take, IsUtf8-drop}
 use Rattle.std.specs.List.{copy_within}
 use Rattle.std.specs.Prelude.{IsUtf8, IsCharBoundary}
 use Rattle.document_store.specs.Parts.{Parts}

@@ -5,6 +5,8 @@ use Rattle.std.specs.List.{remove}
 use Rattle.std.specs.Option.{option_map}
 use Rattle.std.specs.Str.{bytes_eq}
 use Rattle.std.specs.FinMap as finite
+use Rattle.std.specs.declared.string.String.{String}
+use Rattle.std.specs.declared.alloc.Global.{Global}
 use Rattle.std.proofs.lemmas.Bool.{cases_Bool, le-leb, lt-leb}
 use Rattle.std.proofs.lemmas.List.{map-append, length-map}
 use Rattle.std.proofs.lemmas.List.Elements.{filter-append}
@@ -17,15 +19,20 @@ use Rattle.text_pool.specs.Pool.{Pool, text_of, owners_of, IsInterned}
 use Rattle.text_pool.proofs.CallerLemmas.{IsInterned-text}
 use Rattle.document_store.specs.Store.{Store, OpenDocument, number_of, is_at, document_of}
 use Rattle.document_store.specs.Holdings.{Holdings}
-use Rattle.document_store.specs.Changes.{with_path, MayOpen}
+use Rattle.document_store.specs.Changes.{with_path, beside_path, MayOpen}
 use Rattle.document_store.specs.Edits.{is_too_long}
 use Rattle.document_store.specs.declared.limits.TheConstants.{MOST_DOCUMENTS}
 use Rattle.document_store.specs.declared.fault.StoreFault.{StoreFault}
 use Rattle.document_store.specs.declared.fault.StoreFault.TheVariants.{AlreadyOpen, TextTooLong, TooMany}
-use Rattle.document_store.specs.Inside.{document_in, holdings_of, is_kept_at, has_text, AreNumbered, AreApart, AreOwned, IsKept}
+use Rattle.document_store.specs.Shown.{PathsDiffer}
+use Rattle.document_store.specs.Inside.{document_in, file_in, paths_in, holdings_of, is_kept_at, has_text, reads_text, AreNumbered, AreApart, AreOwned, AreWithin, IsKept, TextsStay}
+use Rattle.document_store.specs.declared.document.MemberText.{MemberText}
+use Rattle.document_store.specs.declared.members.Totals.{Totals}
 use Rattle.document_store.specs.declared.kept.KeptDocument.{KeptDocument}
 use Rattle.document_store.proofs.OwnerLemmas.{one_at, one_at-same, IsReleased, owners_of-interned, owners_of-released, text_of-interned, text_of-released, owners_of-none}
 use Rattle.document_store.proofs.DocumentLemmas.{bit, is_some-find, position-first, position_alike, count-none, filter-none, map-none, cut_at, set_at, parts-none, number_of-behind}
+use Rattle.document_store.proofs.PathLemmas.{PathsDiffer-with_path, length-beside_path, length-paths_in}
+use Rattle.document_store.proofs.FileLemmas.{reads-beside, files_stay, AreWithin-same, AreWithin-beside}
 
 -- ---- numbers
 
@@ -45,7 +52,7 @@ AreNumbered-behind : (paths more : List (List ℕ)) (xs : List KeptDocument) →
 AreNumbered-behind paths more [] all = tt
 AreNumbered-behind paths more (x ∷ xs) all = (number_of-behind paths more x.path x.number.0 all.0, AreNumbered-behind paths more xs all.1)
 
-with_path-numbered : (b : Bool) (paths : List (List ℕ)) (path : List ℕ) (xs : List KeptDocument) → AreNumbered paths xs →
+pub with_path-numbered : (b : Bool) (paths : List (List ℕ)) (path : List ℕ) (xs : List KeptDocument) → AreNumbered paths xs →
     AreNumbered (cond b paths (paths ++ path ∷ [])) xs
 with_path-numbered true paths path xs all = all
 with_path-numbered false paths path xs all = AreNumbered-behind paths (path ∷ []) xs all
@@ -63,8 +70,12 @@ number-at paths (x ∷ xs) (suc i) kept all found = number-at paths xs i kept al
 same_document : (p q : Pool) (kept : KeptDocument) → text_of q kept.text.0 ≡ text_of p kept.text.0 → document_in q kept ≡ document_in p kept
 same_document p q kept same = λ i. record { path = kept.path; uri = kept.uri; language = kept.language; version = kept.version; text = same i }
 
-pub record TextsStay (p q : Pool) (documents : List KeptDocument) : Type 0 where
-  pub stay : (id : ℕ) → 0 < count_by (has_text id) documents → text_of q id ≡ text_of p id
+-- the texts of documents, and of files, are what they were
+abbrev pub DocumentTextsStay : Pool → Pool → List KeptDocument → Type 0
+DocumentTextsStay p q documents = TextsStay p q (λ id. count_by (has_text id) documents)
+
+abbrev pub FileTextsStay : Pool → Pool → List (Option MemberText) → Type 0
+FileTextsStay p q files = TextsStay p q (λ id. count_by (reads_text id) files)
 
 has_own : (kept : KeptDocument) (xs : List KeptDocument) → 0 < count_by (has_text kept.text.0) (kept ∷ xs)
 has_own kept xs =
@@ -78,7 +89,7 @@ has_more id kept xs some =
     omega arith
 
 -- documents whose texts stay are what they were
-pub documents_stay : (p q : Pool) (xs : List KeptDocument) → TextsStay p q xs → map (document_in q) xs ≡ map (document_in p) xs
+pub documents_stay : (p q : Pool) (xs : List KeptDocument) → DocumentTextsStay p q xs → map (document_in q) xs ≡ map (document_in p) xs
 documents_stay p q [] texts = refl
 documents_stay p q (x ∷ xs) texts =
     let head : document_in q x ≡ document_in p x = same_document p q x (texts.stay x.text.0 (has_own x xs)) in
@@ -123,10 +134,15 @@ document_to path pool xs at kept found here =
 
 -- ---- opening
 
+map-beside : {X Y : Type 0} (f : X → Y) (b : Bool) (xs : List X) (x : X) → map f (cond b xs (xs ++ x ∷ [])) ≡ cond b (map f xs) (map f xs ++ f x ∷ [])
+map-beside f true xs x = refl
+map-beside f false xs x = map-append f xs (x ∷ [])
+
 -- the parts of a store after a document was put behind
-module _ (paths later : List (List ℕ)) (xs : List KeptDocument) (kept : KeptDocument) (pool new : Pool) (text : List ℕ)
-    (old : IsKept paths xs pool) (entered : later ≡ with_path paths kept.path) (absent : find (is_kept_at kept.path) xs ≡ None)
-    (number : number_of later kept.path ≡ Some kept.number.0) (few : length later ≤ 2 ^ 32)
+module _ (keys later : List (String Global)) (files after : List (Option MemberText)) (xs : List KeptDocument) (kept : KeptDocument) (pool new : Pool) (text : List ℕ)
+    (old : IsKept keys files xs pool) (entered : paths_in later ≡ with_path (paths_in keys) kept.path)
+    (beside : after ≡ beside_path (paths_in keys) kept.path files None) (absent : find (is_kept_at kept.path) xs ≡ None)
+    (number : number_of (paths_in later) kept.path ≡ Some kept.number.0) (few : length later ≤ 2 ^ 32)
     (interned : IsInterned pool new text kept.text.0) where
   opened_count : (path : List ℕ) → count_by (is_kept_at path) (xs ++ kept ∷ []) ≡ count_by (is_kept_at path) xs + bit (bytes_eq kept.path path)
   opened_count path = sum_by_push (λ y. cond (is_kept_at path y) 1 0) xs kept
@@ -144,28 +160,41 @@ module _ (paths later : List (List ℕ)) (xs : List KeptDocument) (kept : KeptDo
         omega (arith, opened_count path, old.apart path)
   ]
 
-  opened_owned : AreOwned new (xs ++ kept ∷ [])
+  opened_reads : (id : ℕ) → count_by (reads_text id) after ≡ count_by (reads_text id) files
+  opened_reads id = ap (count_by (reads_text id)) beside ∙ reads-beside id _ files
+
+  opened_owned : AreOwned new after (xs ++ kept ∷ [])
   opened_owned id =
       let count : count_by (has_text id) (xs ++ kept ∷ []) ≡ count_by (has_text id) xs + one_at kept.text.0 id = sum_by_push (λ y. cond (has_text id y) 1 0) xs kept in
       let owners : owners_of new id ≡ owners_of pool id + one_at kept.text.0 id = owners_of-interned pool new text kept.text.0 interned id in
-      let before : owners_of pool id ≡ count_by (has_text id) xs = old.owned id in
-      owners ∙ ap (λ n. n + one_at kept.text.0 id) before ∙ sym count
+      let before : owners_of pool id ≡ count_by (has_text id) xs + count_by (reads_text id) files = old.owned id in
+      let reads : count_by (reads_text id) after ≡ count_by (reads_text id) files = opened_reads id in
+      omega arith
 
-  pub IsKept-opened : IsKept later (xs ++ kept ∷ []) new
+  opened_filed : length after ≡ length later
+  opened_filed =
+      ap length beside
+      ∙ length-beside_path (paths_in keys) kept.path files None (old.filed ∙ sym (length-paths_in keys))
+      ∙ ap length (sym entered)
+      ∙ length-paths_in later
+
+  pub IsKept-opened : IsKept later after (xs ++ kept ∷ []) new
   IsKept-opened = record {
-    numbered = AreNumbered-append later xs (kept ∷ [])
-        (subst (λ (ps : List (List ℕ)). AreNumbered ps xs) (sym entered) (with_path-numbered _ paths kept.path xs old.numbered))
+    numbered = AreNumbered-append (paths_in later) xs (kept ∷ [])
+        (subst (λ (ps : List (List ℕ)). AreNumbered ps xs) (sym entered) (with_path-numbered _ (paths_in keys) kept.path xs old.numbered))
         (number, tt);
     apart = opened_apart;
     owned = opened_owned;
     few = few;
+    differ = subst PathsDiffer (sym entered) (PathsDiffer-with_path (paths_in keys) kept.path old.differ);
+    filed = opened_filed;
   }
 
   pub opened_documents : map (document_in new) (xs ++ kept ∷ []) ≡ map (document_in pool) xs ++ (record { path = kept.path; uri = kept.uri; language = kept.language; version = kept.version; text = text }) ∷ []
   opened_documents =
-      let stay : TextsStay pool new xs = record {
+      let stay : DocumentTextsStay pool new xs = record {
         stay = λ id some.
-            let before : owners_of pool id ≡ count_by (has_text id) xs = old.owned id in
+            let before : owners_of pool id ≡ count_by (has_text id) xs + count_by (reads_text id) files = old.owned id in
             text_of-interned pool new text kept.text.0 interned id (omega arith);
       } in
       let here : text_of new kept.text.0 ≡ text = IsInterned-text pool new text kept.text.0 interned in
@@ -174,6 +203,20 @@ module _ (paths later : List (List ℕ)) (xs : List KeptDocument) (kept : KeptDo
       map-append (document_in new) xs (kept ∷ [])
       ∙ ap (λ ds. ds ++ document_in new kept ∷ []) (documents_stay pool new xs stay)
       ∙ ap (λ d. map (document_in pool) xs ++ d ∷ []) is
+
+  pub opened_files : map (file_in new) after ≡ beside_path (paths_in keys) kept.path (map (file_in pool) files) None
+  opened_files =
+      let stay : FileTextsStay pool new files = record {
+        stay = λ id some.
+            let before : owners_of pool id ≡ count_by (has_text id) xs + count_by (reads_text id) files = old.owned id in
+            text_of-interned pool new text kept.text.0 interned id (omega arith);
+      } in
+      ap (map (file_in new)) beside
+      ∙ map-beside (file_in new) _ files None
+      ∙ ap (λ fs. beside_path (paths_in keys) kept.path fs None) (files_stay pool new files stay)
+
+  pub opened_within : (totals : Totals) → AreWithin totals (map (file_in pool) files) → AreWithin totals (map (file_in new) after)
+  opened_within totals within = AreWithin-same totals _ _ opened_files (AreWithin-beside totals _ (map (file_in pool) files) within)
 
 -- ---- closing
 
@@ -189,8 +232,8 @@ IsFound-from_position path xs at kept found here =
     let first = position-Some (is_kept_at path) xs at kept found in
     record { within = first.0; here = here; passes = ap (is_kept_at path) here ∙ first.1 }
 
-module _ (path : List ℕ) (paths : List (List ℕ)) (xs : List KeptDocument) (at : ℕ) (kept : KeptDocument) (pool : Pool)
-    (old : IsKept paths xs pool) (found : IsFound path xs at kept) where
+module _ (path : List ℕ) (keys : List (String Global)) (files : List (Option MemberText)) (xs : List KeptDocument) (at : ℕ) (kept : KeptDocument) (pool : Pool)
+    (old : IsKept keys files xs pool) (found : IsFound path xs at kept) where
   cut : xs ≡ take at xs ++ (kept ∷ drop (suc at) xs)
   cut = cut_at xs at kept found.within ∙ ap (λ k. take at xs ++ (k ∷ drop (suc at) xs)) (sym found.here)
 
@@ -200,7 +243,7 @@ module _ (path : List ℕ) (paths : List (List ℕ)) (xs : List KeptDocument) (a
   -- the text of an open document has an owner
   pub owned_text : 0 < owners_of pool kept.text.0
   owned_text =
-      let before : owners_of pool kept.text.0 ≡ count_by (has_text kept.text.0) xs = old.owned kept.text.0 in
+      let before : owners_of pool kept.text.0 ≡ count_by (has_text kept.text.0) xs + count_by (reads_text kept.text.0) files = old.owned kept.text.0 in
       let whole : count_by (has_text kept.text.0) xs ≡ count_by (has_text kept.text.0) (take at xs) + count_by (has_text kept.text.0) (kept ∷ drop (suc at) xs) =
       ap (count_by (has_text kept.text.0)) cut ∙ sum_by-append (λ y. cond (has_text kept.text.0 y) 1 0) (take at xs) (kept ∷ drop (suc at) xs) in
       let own : 0 < count_by (has_text kept.text.0) (kept ∷ drop (suc at) xs) = has_own kept (drop (suc at) xs) in
@@ -216,31 +259,40 @@ module _ (path : List ℕ) (paths : List (List ℕ)) (xs : List KeptDocument) (a
         ap (λ k. count_by p (remove xs at) + bit (p k)) found.here
         ∙ sum_by-remove (λ y. cond (p y) 1 0) xs at kept found.within
 
-    closed_owned : AreOwned new (remove xs at)
+    closed_owned : AreOwned new files (remove xs at)
     closed_owned id =
         let left : owners_of new id + one_at kept.text.0 id ≡ owners_of pool id = owners_of-released pool new kept.text.0 released owned_text id in
         let count : count_by (has_text id) (remove xs at) + one_at kept.text.0 id ≡ count_by (has_text id) xs = removed_count (has_text id) in
-        let before : owners_of pool id ≡ count_by (has_text id) xs = old.owned id in
+        let before : owners_of pool id ≡ count_by (has_text id) xs + count_by (reads_text id) files = old.owned id in
         omega arith
 
-    pub IsKept-closed : IsKept paths (remove xs at) new
+    pub IsKept-closed : IsKept keys files (remove xs at) new
     IsKept-closed = record {
       numbered =
-          let all = subst (λ (ks : List KeptDocument). AreNumbered paths ks) cut old.numbered in
-          AreNumbered-append paths (take at xs) (drop (suc at) xs)
-          (AreNumbered-front paths (take at xs) (kept ∷ drop (suc at) xs) all)
-          (AreNumbered-back paths (take at xs) (kept ∷ drop (suc at) xs) all).1;
+          let all = subst (λ (ks : List KeptDocument). AreNumbered (paths_in keys) ks) cut old.numbered in
+          AreNumbered-append (paths_in keys) (take at xs) (drop (suc at) xs)
+          (AreNumbered-front (paths_in keys) (take at xs) (kept ∷ drop (suc at) xs) all)
+          (AreNumbered-back (paths_in keys) (take at xs) (kept ∷ drop (suc at) xs) all).1;
       apart = λ p. omega (arith, removed_count (is_kept_at p), old.apart p);
       owned = closed_owned;
       few = old.few;
+      differ = old.differ;
+      filed = old.filed;
     }
 
-    closed_stay : TextsStay pool new (remove xs at)
+    closed_stay : DocumentTextsStay pool new (remove xs at)
     closed_stay = record {
       stay = λ id some.
-          let left : owners_of new id ≡ count_by (has_text id) (remove xs at) = closed_owned id in
+          let left : owners_of new id ≡ count_by (has_text id) (remove xs at) + count_by (reads_text id) files = closed_owned id in
           text_of-released pool new kept.text.0 released owned_text id (omega arith);
     }
+
+    pub closed_files : map (file_in new) files ≡ map (file_in pool) files
+    closed_files = files_stay pool new files (record {
+      stay = λ id some.
+          let left : owners_of new id ≡ count_by (has_text id) (remove xs at) + count_by (reads_text id) files = closed_owned id in
+          text_of-released pool new kept.text.0 released owned_text id (omega arith);
+    })
 
     pub closed_documents : map (document_in new) (remove xs at) ≡ filter (λ d. not (is_at path d)) (map (document_in pool) xs)
     closed_documents =
@@ -264,12 +316,12 @@ module _ (path : List ℕ) (paths : List (List ℕ)) (xs : List KeptDocument) (a
     middle_owned : 0 < owners_of middle kept.text.0
     middle_owned = omega (arith, owned_text, owners_of-interned pool middle text written.text.0 interned kept.text.0)
 
-    changed_owned : AreOwned new (set xs at written)
+    changed_owned : AreOwned new files (set xs at written)
     changed_owned id =
         let more : owners_of middle id ≡ owners_of pool id + one_at written.text.0 id = owners_of-interned pool middle text written.text.0 interned id in
         let left : owners_of new id + one_at kept.text.0 id ≡ owners_of middle id = owners_of-released middle new kept.text.0 released middle_owned id in
         let count : count_by (has_text id) (set xs at written) + one_at kept.text.0 id ≡ count_by (has_text id) xs + one_at written.text.0 id = written_count (has_text id) in
-        let before : owners_of pool id ≡ count_by (has_text id) xs = old.owned id in
+        let before : owners_of pool id ≡ count_by (has_text id) xs + count_by (reads_text id) files = old.owned id in
         omega arith
 
     changed_apart : AreApart (set xs at written)
@@ -277,19 +329,21 @@ module _ (path : List ℕ) (paths : List (List ℕ)) (xs : List KeptDocument) (a
         let same : bit (is_kept_at p written) ≡ bit (is_kept_at p kept) = ap (λ q. bit (bytes_eq q p)) path_same in
         omega (arith, written_count (is_kept_at p), old.apart p)
 
-    pub IsKept-changed : IsKept paths (set xs at written) new
+    pub IsKept-changed : IsKept keys files (set xs at written) new
     IsKept-changed = record {
       numbered =
-          let all = subst (λ (ks : List KeptDocument). AreNumbered paths ks) cut old.numbered in
-          let back = AreNumbered-back paths (take at xs) (kept ∷ drop (suc at) xs) all in
-          let here : number_of paths written.path ≡ Some written.number.0 = ap (number_of paths) path_same ∙ back.0 ∙ ap (λ n. Some n.0) (sym number_same) in
-          subst (λ (ks : List KeptDocument). AreNumbered paths ks) (sym (set_at xs at written found.within))
-          (AreNumbered-append paths (take at xs) (written ∷ drop (suc at) xs)
-          (AreNumbered-front paths (take at xs) (kept ∷ drop (suc at) xs) all)
+          let all = subst (λ (ks : List KeptDocument). AreNumbered (paths_in keys) ks) cut old.numbered in
+          let back = AreNumbered-back (paths_in keys) (take at xs) (kept ∷ drop (suc at) xs) all in
+          let here : number_of (paths_in keys) written.path ≡ Some written.number.0 = ap (number_of (paths_in keys)) path_same ∙ back.0 ∙ ap (λ n. Some n.0) (sym number_same) in
+          subst (λ (ks : List KeptDocument). AreNumbered (paths_in keys) ks) (sym (set_at xs at written found.within))
+          (AreNumbered-append (paths_in keys) (take at xs) (written ∷ drop (suc at) xs)
+          (AreNumbered-front (paths_in keys) (take at xs) (kept ∷ drop (suc at) xs) all)
           (here, back.1));
       apart = changed_apart;
       owned = changed_owned;
       few = old.few;
+      differ = old.differ;
+      filed = old.filed;
     }
 
     -- a text of an old document that has an owner now is what it was
@@ -299,19 +353,27 @@ module _ (path : List ℕ) (paths : List (List ℕ)) (xs : List KeptDocument) (a
         ∙ text_of-interned pool middle text written.text.0 interned id before
 
     parts_stay : (ys : List KeptDocument) → ((id : ℕ) → count_by (has_text id) ys ≤ count_by (has_text id) xs) →
-        ((id : ℕ) → count_by (has_text id) ys ≤ count_by (has_text id) (set xs at written)) → TextsStay pool new ys
+        ((id : ℕ) → count_by (has_text id) ys ≤ count_by (has_text id) (set xs at written)) → DocumentTextsStay pool new ys
     parts_stay ys before now = record {
       stay = λ id some.
-          let was : owners_of pool id ≡ count_by (has_text id) xs = old.owned id in
-          let is : owners_of new id ≡ count_by (has_text id) (set xs at written) = changed_owned id in
+          let was : owners_of pool id ≡ count_by (has_text id) xs + count_by (reads_text id) files = old.owned id in
+          let is : owners_of new id ≡ count_by (has_text id) (set xs at written) + count_by (reads_text id) files = changed_owned id in
           let below_was : count_by (has_text id) ys ≤ count_by (has_text id) xs = before id in
           let below_is : count_by (has_text id) ys ≤ count_by (has_text id) (set xs at written) = now id in
           stays id (omega arith) (omega arith);
     }
 
+    pub changed_files : map (file_in new) files ≡ map (file_in pool) files
+    changed_files = files_stay pool new files (record {
+      stay = λ id some.
+          let was : owners_of pool id ≡ count_by (has_text id) xs + count_by (reads_text id) files = old.owned id in
+          let is : owners_of new id ≡ count_by (has_text id) (set xs at written) + count_by (reads_text id) files = changed_owned id in
+          stays id (omega arith) (omega arith);
+    })
+
     new_text : text_of new written.text.0 ≡ text
     new_text =
-        let is : owners_of new written.text.0 ≡ count_by (has_text written.text.0) (set xs at written) = changed_owned written.text.0 in
+        let is : owners_of new written.text.0 ≡ count_by (has_text written.text.0) (set xs at written) + count_by (reads_text written.text.0) files = changed_owned written.text.0 in
         let whole : count_by (has_text written.text.0) (set xs at written) ≡ count_by (has_text written.text.0) (take at xs) + count_by (has_text written.text.0) (written ∷ drop (suc at) xs) =
         ap (count_by (has_text written.text.0)) (set_at xs at written found.within) ∙ sum_by-append (λ y. cond (has_text written.text.0 y) 1 0) (take at xs) (written ∷ drop (suc at) xs) in
         let own : 0 < count_by (has_text written.text.0) (written ∷ drop (suc at) xs) = has_own written (drop (suc at) xs) in
@@ -328,10 +390,10 @@ module _ (path : List ℕ) (paths : List (List ℕ)) (xs : List KeptDocument) (a
         let change : OpenDocument → OpenDocument = λ d. cond (is_at path d) (write d) d in
         let is : document_in new written ≡ write (document_in pool kept) =
         λ i. record { path = path_same i; uri = uri_same i; language = language_same i; version = version_is i; text = new_text i } in
-        let first : TextsStay pool new front = parts_stay front
+        let first : DocumentTextsStay pool new front = parts_stay front
         (λ id. omega (arith, ap (count_by (has_text id)) cut ∙ sum_by-append (λ y. cond (has_text id y) 1 0) front (kept ∷ back)))
         (λ id. omega (arith, ap (count_by (has_text id)) (set_at xs at written found.within) ∙ sum_by-append (λ y. cond (has_text id y) 1 0) front (written ∷ back))) in
-        let last : TextsStay pool new back = parts_stay back
+        let last : DocumentTextsStay pool new back = parts_stay back
         (λ id. omega (arith, ap (count_by (has_text id)) cut ∙ sum_by-append (λ y. cond (has_text id y) 1 0) front (kept ∷ back), sum_by-cons (λ y. cond (has_text id y) 1 0) kept back))
         (λ id. omega (arith, ap (count_by (has_text id)) (set_at xs at written found.within) ∙ sum_by-append (λ y. cond (has_text id y) 1 0) front (written ∷ back), sum_by-cons (λ y. cond (has_text id y) 1 0) written back)) in
         ap (map (document_in new)) (set_at xs at written found.within)
@@ -357,16 +419,29 @@ may_open_is store path text is_open full long open_is full_is long_is =
     ∙ ap (λ b. verdict (is_some (document_of store path)) b long) (sym full_is)
     ∙ ap (λ b. verdict (is_some (document_of store path)) (nat_le MOST_DOCUMENTS (length store.documents)) b) (sym long_is)
 
-pub IsKept-empty : (paths : List (List ℕ)) (xs : List KeptDocument) (pool : Pool) → paths ≡ [] → xs ≡ [] → pool ≡ finite.empty → IsKept paths xs pool
-IsKept-empty paths xs pool no_path no_document no_text = record {
-  numbered = subst (λ (ks : List KeptDocument). AreNumbered paths ks) (sym no_document) tt;
+pub IsKept-empty : (keys : List (String Global)) (files : List (Option MemberText)) (xs : List KeptDocument) (pool : Pool) → keys ≡ [] → files ≡ [] → xs ≡ [] →
+    pool ≡ finite.empty → IsKept keys files xs pool
+IsKept-empty keys files xs pool no_key no_file no_document no_text = record {
+  numbered = subst (λ (ks : List KeptDocument). AreNumbered (paths_in keys) ks) (sym no_document) tt;
   apart = λ path. subst (λ (ks : List KeptDocument). count_by (is_kept_at path) ks ≤ 1) (sym no_document) (omega arith);
-  owned = λ id. owners_of-none pool id no_text ∙ ap (count_by (has_text id)) (sym no_document);
-  few = subst (λ (ps : List (List ℕ)). length ps ≤ 2 ^ 32) (sym no_path) (lit≤ tt);
+  owned = λ id.
+      owners_of-none pool id no_text
+      ∙ ap (λ n. n + count_by (reads_text id) []) (ap (count_by (has_text id)) (sym no_document))
+      ∙ ap (λ fs. count_by (has_text id) xs + count_by (reads_text id) fs) (sym no_file);
+  few = subst (λ (ks : List (String Global)). length ks ≤ 2 ^ 32) (sym no_key) (lit≤ tt);
+  differ = subst (λ (ks : List (String Global)). PathsDiffer (paths_in ks)) (sym no_key) (λ number path at. absurd cc);
+  filed = ap length no_file ∙ sym (ap length no_key);
 }
 
+pub AreWithin-empty : (files : List (Option MemberText)) (pool : Pool) (totals : Totals) → files ≡ [] → totals ≡ record { files = 0; bytes = 0 } →
+    AreWithin totals (map (file_in pool) files)
+AreWithin-empty files pool totals no_file none =
+    subst (λ (t : Totals). AreWithin t (map (file_in pool) files)) (sym none)
+    (subst (λ (fs : List (Option MemberText)). AreWithin (record { files = 0; bytes = 0 }) (map (file_in pool) fs)) (sym no_file)
+    (record { counted = record { files_are = refl; bytes_are = refl }; fit = refl }))
+
 -- how many documents are open
-module _ (h : Holdings) (paths : List (List ℕ)) (xs : List KeptDocument) (pool : Pool) (view : holdings_of paths xs pool ≡ h)
+module _ (h : Holdings) (keys : List (String Global)) (files : List (Option MemberText)) (xs : List KeptDocument) (pool : Pool) (view : holdings_of keys files xs pool ≡ h)
     (slice : List KeptDocument) (slice_is : slice ≡ xs) where
   open_count : length h.store.documents ≡ length slice
   open_count = ap (λ (g : Holdings). length g.store.documents) (sym view) ∙ length-map xs (document_in pool) ∙ ap length (sym slice_is)

@@ -15,10 +15,17 @@ use Rattle.document_store.specs.declared.limits.TheConstants.{MOST_DOCUMENTS}
 abbrev pub with_path : List (List ℕ) → List ℕ → List (List ℕ)
 with_path paths path = if list_any (bytes_eq path) paths then paths else paths ++ path ∷ []
 
+-- what stands beside the paths, one for each, once this path has a number: beside a path that had none it goes last
+abbrev pub beside_path : {X : Type 0} → List (List ℕ) → List ℕ → List X → X → List X
+beside_path paths path others own = if list_any (bytes_eq path) paths then others else others ++ own ∷ []
+
 -- the store with one document more, the last
 abbrev pub with_document : Store → OpenDocument → Store
-with_document store document =
-    record store { documents = store.documents ++ document ∷ []; paths = with_path store.paths document.path }
+with_document store document = record {
+  documents = store.documents ++ document ∷ [];
+  files = beside_path store.paths document.path store.files None;
+  paths = with_path store.paths document.path;
+}
 
 abbrev opened_at : Store → Option (List ℕ) → (uri language : List ℕ) → ℤ → List ℕ → Result Store StoreFault
 opened_at store None uri language version text = Err BadUri
@@ -64,8 +71,8 @@ closed store uri = closed_at store (path_of uri)
 
 -- A call answers as asked: the new store stands where the call is taken, and otherwise its refusal is given. Want of memory
 -- may come in place of either.
-abbrev pub Answers : Result Store StoreFault → Result (Unit {0}) StoreFault → Store → Type 0
-Answers asked (Ok _) new = asked ≡ Ok new
+abbrev pub Answers : {T : Type 0} → Result Store StoreFault → Result T StoreFault → Store → Type 0
+Answers asked (Ok done) new = asked ≡ Ok new
 Answers asked (Err OutOfMemory) new = Unit {0}
 Answers asked (Err fault) new = asked ≡ Err fault
 

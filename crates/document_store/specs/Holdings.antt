@@ -1,8 +1,5 @@
 -- What a `DocumentStore` holds, as contracts see it: the store, and the pool that has the texts (this project).
 use Rattle.std.specs.Prelude.{◌≡◌, ℕ, ℤ, List, Option, None, Some, refl}
-use Rattle.std.specs.Cmp.Lexicographic.{slice_cmp}
-use Rattle.std.specs.Ordering.{nat_cmp}
-use Rattle.std.specs.FinMap as map
 use Rattle.std.specs.Coded.{Coded, code_by, coded×, coded_ℕ, coded_ℤ, coded_list, coded_option}
 use Rattle.text_pool.specs.Pool.{Pool, pool_code}
 use Rattle.document_store.specs.Store.{Store, OpenDocument, File, Readable, Unreadable, present_at}
@@ -39,13 +36,13 @@ file_again Unreadable = refl
 abbrev pub file_code : Coded File
 file_code = code_by (Option (List ℕ)) (coded_option coded_text) text_of_file file_of_text file_again
 
-abbrev files_code : Coded (map.FinMap (slice_cmp nat_cmp) File)
-files_code = map.code coded_text file_code
+abbrev files_code : Coded (List (Option File))
+files_code = coded_list (coded_option file_code)
 
 abbrev pub store_code : Coded Store
 store_code =
     code_by
-    (List OpenDocument × (map.FinMap (slice_cmp nat_cmp) File × List (List ℕ)))
+    (List OpenDocument × (List (Option File) × List (List ℕ)))
     (coded× (coded_list document_code) (coded× files_code (coded_list coded_text)))
     (λ s. (s.documents, (s.files, s.paths)))
     (λ t. record { documents = t.0; files = t.1.0; paths = t.1.1 })

@@ -4,6 +4,7 @@ pub mod Faults
 pub mod Holdings
 pub mod Inside
 pub mod Laws
+pub mod Members
 pub mod Parts
 pub mod Places
 pub mod Positions

@@ -1,6 +1,6 @@
 -- A text in two parts while it is being changed: what stands before a place, and what stands from it on. No public clause
 -- cites this file. This project.
-use Rattle.std.specs.Prelude.{◌≡◌, ◌≤◌, ℕ, ◌-◌, Bool, true, List, [], ◌∷◌, ◌++◌, Option, None, Some, Result, Ok, Err, drop, chars, refl}
+use Rattle.std.specs.Prelude.{◌≡◌, ℕ, ◌-◌, Bool, true, List, [], ◌∷◌, ◌++◌, Option, None, Some, Result, Ok, Err, drop, chars, refl}
 use Rattle.std.specs.Coded.{Coded, code_by, coded×, coded_ℕ, coded_list}
 use Rattle.std.specs.Option.{option_map}
 use Rattle.hl_base.specs.declared.edit.Position.{Position}

@@ -1,8 +1,8 @@
 -- What the store shows of what it holds (this project).
-use Rattle.std.specs.Prelude.{◌≡◌, ℕ, ◌<◌, List, Option, None, Some, Contains, count_by, slice_get, chars}
+use Rattle.std.specs.Prelude.{◌≡◌, ℕ, ◌+◌, ◌<◌, Bool, false, List, Option, None, Some, Contains, count_by, slice_get, chars}
 use Rattle.std.specs.Str.{bytes_eq}
 use Rattle.text_pool.specs.Pool.{Pool, IsLive, text_of, owners_of, HasText}
-use Rattle.document_store.specs.Store.{OpenDocument, File, Readable, Unreadable, number_of}
+use Rattle.document_store.specs.Store.{Store, OpenDocument, File, Readable, Unreadable, number_of}
 use Rattle.document_store.specs.Holdings.{Holdings}
 use Rattle.document_store.specs.declared.document.Document.{Document}
 use Rattle.document_store.specs.declared.document.MemberText.{MemberText}
@@ -30,17 +30,38 @@ IsPresent pool (Some (Readable text)) (Some (member.File id)) = HasText pool tex
 IsPresent pool (Some Unreadable) (Some member.Unreadable) = Unit {0}
 IsPresent pool asked shown = ⊥
 
+-- the path of each open document has a number
+abbrev pub HaveNumbers : Store → Type 0
+HaveNumbers store = (document : OpenDocument) → Contains store.documents document → (n : ℕ) × (number_of store.paths document.path ≡ Some n)
+
 -- each open document's text is in the pool
 abbrev pub HasTexts : Holdings → Type 0
 HasTexts holdings = (document : OpenDocument) → Contains holdings.store.documents document →
     (id : ℕ) × HasText holdings.pool document.text id
 
--- each text of the pool has an owner for each open document of it
-abbrev pub IsOwnedByDocuments : Holdings → Type 0
-IsOwnedByDocuments holdings = (id : ℕ) → IsLive holdings.pool id →
-    owners_of holdings.pool id ≡ count_by (λ (d : OpenDocument). bytes_eq d.text (text_of holdings.pool id)) holdings.store.documents
+-- and so is that of each file that was read
+abbrev pub HasFileTexts : Holdings → Type 0
+HasFileTexts holdings = (text : List ℕ) → Contains holdings.store.files (Some (Readable text)) → (id : ℕ) × HasText holdings.pool text id
 
--- each text of the pool is that of an open document: it is gone with the last of them
+-- whether a file has this text
+abbrev pub reads : List ℕ → Option File → Bool
+reads text (Some (Readable other)) = bytes_eq other text
+reads text (Some Unreadable) = false
+reads text None = false
+
+-- how many open documents and files have a text
+abbrev pub holders_of : Store → List ℕ → ℕ
+holders_of store text = count_by (λ (d : OpenDocument). bytes_eq d.text text) store.documents + count_by (reads text) store.files
+
+-- each text of the pool has an owner for each open document and each file of it
+abbrev pub IsOwnedByHolders : Holdings → Type 0
+IsOwnedByHolders holdings = (id : ℕ) → IsLive holdings.pool id →
+    owners_of holdings.pool id ≡ holders_of holdings.store (text_of holdings.pool id)
+
+-- each text of the pool is that of an open document or of a file: it is gone with the last of them
 abbrev pub HasNoOtherTexts : Holdings → Type 0
-HasNoOtherTexts holdings = (id : ℕ) → IsLive holdings.pool id →
-    0 < count_by (λ (d : OpenDocument). bytes_eq d.text (text_of holdings.pool id)) holdings.store.documents
+HasNoOtherTexts holdings = (id : ℕ) → IsLive holdings.pool id → 0 < holders_of holdings.store (text_of holdings.pool id)
+
+-- no two numbers have one path
+abbrev pub PathsDiffer : List (List ℕ) → Type 0
+PathsDiffer paths = (number : ℕ) (path : List ℕ) → slice_get paths number ≡ Some path → number_of paths path ≡ Some number

@@ -1,11 +1,8 @@
 -- The open documents, the files of members and the numbers of paths (this project). A document is named by the path of
 -- its URI (Language Server Protocol 3.17, "TextDocumentItem").
-use Rattle.std.specs.Prelude.{ℕ, ℤ, Bool, List, [], Option, None, Some, position, find, slice_get}
+use Rattle.std.specs.Prelude.{ℕ, ℤ, Bool, List, [], Option, None, Some, position, find, slice_get, slice_index_or}
 use Rattle.std.specs.Option.{option_and_then}
-use Rattle.std.specs.Ordering.{nat_cmp}
-use Rattle.std.specs.Cmp.Lexicographic.{slice_cmp}
 use Rattle.std.specs.Str.{bytes_eq}
-use Rattle.std.specs.FinMap as map
 
 -- an open document: the path of its URI, the URI as it was opened, its language, version and text
 pub record OpenDocument : Type 0 where
@@ -20,16 +17,16 @@ pub data File : Type 0 where
   Readable : List ℕ → File
   Unreadable : File
 
--- The open documents in order of opening, the files by their paths, and the paths that have a number, in the order of
--- their numbers from 0. No file is kept yet.
+-- The open documents in order of opening, the paths that have a number, in the order of their numbers from 0, and what is
+-- kept of the file of each path, in the same order: what was last read of it, if anything.
 pub record Store : Type 0 where
   pub documents : List OpenDocument
-  pub files : map.FinMap (slice_cmp nat_cmp) File
+  pub files : List (Option File)
   pub paths : List (List ℕ)
 
 -- the store of which nothing was asked
 abbrev pub empty_store : Store
-empty_store = record { documents = []; files = map.empty; paths = [] }
+empty_store = record { documents = []; files = []; paths = [] }
 
 -- whether a document is the one of a path
 abbrev pub is_at : List ℕ → OpenDocument → Bool
@@ -43,9 +40,17 @@ document_of store path = find (is_at path) store.documents
 abbrev pub number_of : List (List ℕ) → List ℕ → Option ℕ
 number_of paths path = position (bytes_eq path) paths
 
+-- what is kept of the file of the path of a number
+abbrev pub file_at : Store → ℕ → Option File
+file_at store number = slice_index_or store.files number None
+
+-- what is kept of the file of a path
+abbrev pub file_of : Store → List ℕ → Option File
+file_of store path = option_and_then (file_at store) (number_of store.paths path)
+
 abbrev pub present_in : Store → List ℕ → Option OpenDocument → Option File
 present_in store path (Some document) = Some (Readable document.text)
-present_in store path None = map.get store.files path
+present_in store path None = file_of store path
 
 -- what is present at a path: the text of the open document, else the file
 abbrev pub present : Store → List ℕ → Option File

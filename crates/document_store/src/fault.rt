@@ -35,6 +35,10 @@ pub enum StoreFault {
     #[error("BadRange({0})")]
     BadRange(u32),
 
+    /// With this file there would be more than 16,000 files of members, or more than 64 MiB of them in UTF-8.
+    #[error("LibraryTooLarge")]
+    LibraryTooLarge,
+
     /// There was no memory, or no number of 32 bits is left.
     #[error("out of memory")]
     OutOfMemory,

@@ -1,4 +1,4 @@
-//! The path that the URI of a file names: the one place where a URI is read.
+//! The path that the URI of a file names, and the URI of a path: the one place where URIs are read and made.
 //!
 //! Editors name documents by URI (Language Server Protocol 3.17, "URI"), and two spellings may name one file; the
 //! session names it by its path. `file_path` reads a URI as the URL Standard does (RFC 3986, RFC 8089) and decodes
@@ -12,7 +12,9 @@ ghost use Rattle.url.specs.Parser.{IsOutOfRoom};
 ghost use Rattle.file_uri.specs.Paths as paths;
 
 use hl_base::{OutOfMemory, Text};
-use percent_encoding::percent_decode;
+use percent_encoding::{
+    AsciiSet, NON_ALPHANUMERIC, ascii_set, percent_decode, utf8_percent_encode,
+};
 use std::alloc::{AllocError, Global};
 use std::str;
 use thiserror::Error;
@@ -100,4 +102,23 @@ fn decoded(alloc: Global, path: &str) -> Result<Text, UriFault>
         Ok(text) => Ok(Text::of(alloc, text)?),
         Err(_) => Err(UriFault::BadUri),
     }
+}
+
+/// The bytes of a path that are escaped, of those of ASCII.
+const ESCAPED: AsciiSet = ascii_set!(
+    NON_ALPHANUMERIC
+        .remove(b'-')
+        .remove(b'.')
+        .remove(b'_')
+        .remove(b'~')
+        .remove(b'/')
+);
+
+/// The URI of the file of a path: `file://` and the path, with every byte escaped but letters, digits and `- . _ ~ /`.
+pub fn uri_of(alloc: Global, path: &str) -> Result<Text, OutOfMemory>
+    ensures { IfOk result (λ uri. uri ≡ paths.uri_of (chars path.now)) }
+{
+    let mut uri = String::from_str(alloc, "file://")?;
+    utf8_percent_encode(path, ESCAPED).append_to(&mut uri)?;
+    Text::of(alloc, &uri)
 }

@@ -1,4 +1,4 @@
-use crate::{UriFault, file_path};
+use crate::{UriFault, file_path, uri_of};
 use std::test::Fail;
 
 /// Values worked out by hand from the URL Standard.
@@ -31,6 +31,22 @@ fn uris_name_paths(rt: HostRuntime) -> Result<(), Fail> {
             matches!(file_path(rt.alloc(), uri), Err(UriFault::BadUri)),
             "{uri}"
         );
+    }
+    Ok(())
+}
+
+/// Values worked out by hand: of each byte the two hexadecimal digits, in capitals.
+#[test]
+fn paths_have_uris(rt: HostRuntime) -> Result<(), Fail> {
+    for (path, uri) in [
+        ("/w/a.hlasm", "file:///w/a.hlasm"),
+        ("/w/A b-c_d~e", "file:///w/A%20b-c_d~e"),
+        ("/w/100%", "file:///w/100%25"),
+        ("/w/é#?", "file:///w/%C3%A9%23%3F"),
+        ("", "file://"),
+    ] {
+        let written = uri_of(rt.alloc(), path)?;
+        assert!(rt; written.as_str() == uri, "{path}");
     }
     Ok(())
 }

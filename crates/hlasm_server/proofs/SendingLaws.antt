@@ -1,23 +1,27 @@
 -- How what is sent piece by piece adds up.
-use Rattle.std.proofs.Common.{◌≡◌, ◌≢◌, ℕ, suc, ◌<◌, ◌≤◌, Bool, true, false, List, [], ◌∷◌, ◌++◌, length, take, drop, slice_get, Option, Some, None, if◌then◌else◌, refl, sym, ap, ◌∙◌, subst, arith, append_assoc}
+use Rattle.std.proofs.Common.{◌≡◌, ◌≢◌, ℕ, suc, ◌<◌, ◌≤◌, Bool, true, false, List, [], ◌∷◌, ◌++◌, length, take, drop, Option, Err, if◌then◌else◌, refl, sym, ap, ◌∙◌, subst, arith, append_assoc}
 use Rattle.std.proofs.lemmas.Grind.{flat_map-append}
 use Rattle.std.proofs.lemmas.List.{append-nil, take-append-drop}
 use Rattle.io_edge.specs.Told.{Gains}
+use Rattle.io_edge.specs.LibraryCall.{LibraryCall}
 use Rattle.io_edge.proofs.ToldLaws.{Gains-append, Gains-nil}
 use Rattle.rpc_framing.specs.Frames.{frame}
 use Rattle.hl_base.specs.declared.place.PathId.{PathId}
-use Rattle.document_store.specs.Store.{OpenDocument}
 use Rattle.session_core.specs.declared.phase.Phase.{Phase}
 use Rattle.session_core.specs.declared.phase.Phase.TheVariants.{Running as StillRunning, Exit}
-use Rattle.session_core.specs.Diagnostics.{diagnostics_of}
-use Rattle.session_core.specs.State.{State, document_at, last_list}
-use Rattle.session_core.specs.Step.{Effect, quiet, says, written}
-use Rattle.session_core.specs.Turn.{is_published, turn_at, without_first, turn_of, assemble_first, turn}
-use Rattle.session_core.specs.Message.{event}
-use Rattle.session_core.specs.Held.{Held, phase_of, Moves}
-use Rattle.hlasm_server.specs.Hearing.{Running, at_rest, Made, none_made, behind, turns, following, Heard, Ends, goes_on, heard_in, hear, said}
+use Rattle.session_core.specs.State.{State}
+use Rattle.session_core.specs.Step.{Effect, written}
+use Rattle.session_core.specs.Step as step
+use Rattle.session_core.specs.Turn.{turn}
+use Rattle.session_core.proofs.TurnLaws.{turn_queue}
+use Rattle.session_core.specs.Message.{message}
+use Rattle.session_core.specs.Held.{Held, phase_of, Moves, GoesThrough, ComesOver}
+use Rattle.session_core.specs.declared.fault.SessionFault.{SessionFault}
+use Rattle.session_core.specs.declared.fault.SessionFault.TheVariants.{Spent, OutOfMemory}
+use Rattle.hlasm_server.specs.Hearing.{Running, in_state, Made, none_made, behind, turns, following, Heard, Ends, goes_on, heard_in, heard_of, hear, said, MakesEach}
 use Rattle.hlasm_server.specs.Sending.{PutsFront, PutsFirst, PutsUntil, IsReady, Follows, StopsFollowing, GoesOn, Closes, StopsHearing}
 use Rattle.hlasm_server.specs.Waiting.{one_more, is_held, unasked, Asked, Asks}
+use Rattle.hlasm_server.proofs.OutputLaws.{heard_makes}
 use Rattle.hlasm_server.proofs.WaitingLaws.{Asked-append}
 use Rattle.hlasm_server.specs.declared.sending.Stop.{Stop}
 use Rattle.hlasm_server.specs.declared.sending.Stop.TheVariants as stop
@@ -60,73 +64,60 @@ PutsFirst-behind bodies more h0 h1 h2 before (first, others, cut, gains) = (
 
 -- ---- one Turn
 
--- what is published leaves the queue as it is
-choice_keeps_queue : (b : Bool) (s t : State) (body : List ℕ) → t.queue ≡ s.queue → (if b then quiet s else says t body).state.queue ≡ s.queue
-choice_keeps_queue true s t body same = refl
-choice_keeps_queue false s t body same = same
-
-turn_at_keeps_queue : (s : State) (n : PathId) (document : Option OpenDocument) → (turn_at s n document).state.queue ≡ s.queue
-turn_at_keeps_queue s n None = refl
-turn_at_keeps_queue s n (Some document) = choice_keeps_queue (is_published (last_list s.published n) document.version (diagnostics_of s.budget n document.text)) s _ _ refl
-
 -- a Turn leaves one program fewer
-turn_of_leaves : (s : State) (queue : List PathId) → s.queue ≡ queue → queue ≢ [] → suc (length (turn_of s (slice_get queue 0)).state.queue) ≡ length queue
-turn_of_leaves s [] is some = absurd (some refl)
-turn_of_leaves s (n ∷ others) is some =
-    ap (λ (q : List PathId). suc (length q)) (turn_at_keeps_queue (without_first s) n (document_at s.store n) ∙ ap (drop 1) is)
-
 pub turn_leaves : (s : State) → s.queue ≢ [] → suc (length (turn s).state.queue) ≡ length s.queue
-unfolding assemble_first
-turn_leaves s some = turn_of_leaves s s.queue refl some
+turn_leaves s some = ap (λ (q : List PathId). suc (length q)) (turn_queue s some) ∙ one_fewer s.queue some where
+  one_fewer : (queue : List PathId) → queue ≢ [] → suc (length (drop 1 queue)) ≡ length queue
+  one_fewer [] none = absurd (none refl)
+  one_fewer (n ∷ others) some = refl
 
 -- ---- an event
 
--- an event that came to a step, of a session whose output was taken
-pub record Came (step : Effect) (now : Held) : Type 0 where
-  pub state : now.state ≡ step.state
-  pub output : now.output ≡ written step.bodies
+-- an event went to this state with these bodies, of a session whose output was taken
+pub record Came (state : State) (bodies : List (List ℕ)) (now : Held) : Type 0 where
+  pub state_is : now.state ≡ state
+  pub output : now.output ≡ written bodies
   pub sound : now.spent ≡ false
 
-pub came : (step : Effect) (before now : Held) → IsReady before
-    → Moves step.state step.bodies before now → Came step now
-came step before now ready moves = record {
-  state = moves.state_is;
-  output = moves.output_is ∙ ap (λ z. z ++ written step.bodies) ready.empty;
+pub came : (state : State) (bodies : List (List ℕ)) (before now : Held) → IsReady before → Moves state bodies before now → Came state bodies now
+came state bodies before now ready moves = record {
+  state_is = moves.state_is;
+  output = moves.output_is ∙ ap (λ z. z ++ written bodies) ready.empty;
   sound = moves.sound_still;
 }
 
 -- its output is taken
-pub ready_again : (step : Effect) (s t : Held) → Came step s → t ≡ record s { output = [] } → IsReady t × (t.state ≡ step.state)
-ready_again step s t came is = (
+pub ready_again : (state : State) (bodies : List (List ℕ)) (s t : Held) → Came state bodies s → t ≡ record s { output = [] } → IsReady t × (t.state ≡ state)
+ready_again state bodies s t came is = (
   record { sound = ap (λ (h : Held). h.spent) is ∙ came.sound; empty = ap (λ (h : Held). h.output) is },
-  ap (λ (h : Held). h.state) is ∙ came.state,
+  ap (λ (h : Held). h.state) is ∙ came.state_is,
 )
 
 -- ---- Turns, one after another
 
 -- the first Turn, if it is not held back, and the others
-following-first : (s : State) (w : List Bool) (n : ℕ) → s.queue ≢ [] → following (at_rest s w n) ≡
-    (if is_held n w then none_made (at_rest s (unasked n w) n) else behind (turn s).bodies (following (at_rest (turn s).state (unasked n w) 0)))
-following-first s w n some = ap (λ k. turns k (at_rest s w n)) (sym (turn_leaves s some))
+following-first : (s : State) (w : List Bool) (c : List LibraryCall) (n : ℕ) → s.queue ≢ [] → following (in_state s w c n) ≡
+    (if is_held n w then none_made (in_state s (unasked n w) c n) else behind (turn s).bodies (following (in_state (turn s).state (unasked n w) c 0)))
+following-first s w c n some = ap (λ k. turns k (in_state s w c n)) (sym (turn_leaves s some))
 
 -- no Turn is made of no program
-following-none : (s : State) (w : List Bool) (n : ℕ) → s.queue ≡ [] → following (at_rest s w n) ≡ none_made (at_rest s w n)
-following-none s w n none = ap (λ (q : List PathId). turns (length q) (at_rest s w n)) none
+following-none : (s : State) (w : List Bool) (c : List LibraryCall) (n : ℕ) → s.queue ≡ [] → following (in_state s w c n) ≡ none_made (in_state s w c n)
+following-none s w c n none = ap (λ (q : List PathId). turns (length q) (in_state s w c n)) none
 
 -- a Turn that is not held back
-following-turn : (s : State) (w more : List Bool) (n : ℕ) → s.queue ≢ [] → is_held n w ≡ false → unasked n w ≡ more
-    → following (at_rest s w n) ≡ behind (turn s).bodies (following (at_rest (turn s).state more 0))
-following-turn s w more n some held left =
-    following-first s w n some
-    ∙ ap (λ b. if b then none_made (at_rest s (unasked n w) n) else behind (turn s).bodies (following (at_rest (turn s).state (unasked n w) 0))) held
-    ∙ ap (λ z. behind (turn s).bodies (following (at_rest (turn s).state z 0))) left
+following-turn : (s : State) (w more : List Bool) (c : List LibraryCall) (n : ℕ) → s.queue ≢ [] → is_held n w ≡ false → unasked n w ≡ more
+    → following (in_state s w c n) ≡ behind (turn s).bodies (following (in_state (turn s).state more c 0))
+following-turn s w more c n some held left =
+    following-first s w c n some
+    ∙ ap (λ b. if b then none_made (in_state s (unasked n w) c n) else behind (turn s).bodies (following (in_state (turn s).state (unasked n w) c 0))) held
+    ∙ ap (λ z. behind (turn s).bodies (following (in_state (turn s).state z c 0))) left
 
 -- a Turn that is held back
-following-held : (s : State) (w more : List Bool) (n : ℕ) → s.queue ≢ [] → is_held n w ≡ true → unasked n w ≡ more → following (at_rest s w n) ≡ none_made (at_rest s more n)
-following-held s w more n some held left =
-    following-first s w n some
-    ∙ ap (λ b. if b then none_made (at_rest s (unasked n w) n) else behind (turn s).bodies (following (at_rest (turn s).state (unasked n w) 0))) held
-    ∙ ap (λ z. none_made (at_rest s z n)) left
+following-held : (s : State) (w more : List Bool) (c : List LibraryCall) (n : ℕ) → s.queue ≢ [] → is_held n w ≡ true → unasked n w ≡ more → following (in_state s w c n) ≡ none_made (in_state s more c n)
+following-held s w more c n some held left =
+    following-first s w c n some
+    ∙ ap (λ b. if b then none_made (in_state s (unasked n w) c n) else behind (turn s).bodies (following (in_state (turn s).state (unasked n w) c 0))) held
+    ∙ ap (λ z. none_made (in_state s z c n)) left
 
 behind-behind : (first others : List (List ℕ)) (made : Made) → behind first (behind others made) ≡ behind (first ++ others) made
 behind-behind first others made = ap (λ z. record { next = made.next; bodies = z }) (sym (append_assoc first others made.bodies))
@@ -140,44 +131,44 @@ pub record IsTurning (first now : Held) (since_first since : ℕ) (waits_before 
   pub answers : List Bool
   pub asked : Asked waits_before answers waits_now
   pub done : List (List ℕ)
-  pub made : (more : List Bool) → following (at_rest first.state (answers ++ more) since_first) ≡ behind done (following (at_rest now.state more since))
+  pub made : (more : List Bool) (calls : List LibraryCall) → following (in_state first.state (answers ++ more) calls since_first) ≡ behind done (following (in_state now.state more calls since))
   pub sent : Gains held_before (written done) held_now
   pub later : faults_before ≤ faults_now
 
 pub turning_begins : (s : Held) (n : ℕ) (waits : Option (List Bool)) (held : Option (List ℕ)) (faults : ℕ) → IsReady s → IsTurning s s n n waits waits held held faults faults
-turning_begins s n waits held faults ready = record { ready = ready; answers = []; asked = refl; done = []; made = λ more. refl; sent = Gains-nil held; later = omega arith }
+turning_begins s n waits held faults ready = record { ready = ready; answers = []; asked = refl; done = []; made = λ more calls. refl; sent = Gains-nil held; later = omega arith }
 
 -- it was asked whether the next Turn is held back
 pub asked_next : (s0 s1 : Held) (n0 n1 : ℕ) (w0 w1 w2 : Option (List Bool)) (h0 h1 : Option (List ℕ)) (f0 f1 : ℕ) (held : Bool) (turning : IsTurning s0 s1 n0 n1 w0 w1 h0 h1 f0 f1)
-    (asks : Asks n1 held w1 w2) (more : List Bool)
-    → following (at_rest s0.state ((turning.answers ++ asks.answers) ++ more) n0) ≡ behind turning.done (following (at_rest s1.state (asks.answers ++ more) n1))
-asked_next s0 s1 n0 n1 w0 w1 w2 h0 h1 f0 f1 held turning asks more =
-    ap (λ z. following (at_rest s0.state z n0)) (append_assoc turning.answers asks.answers more) ∙ turning.made (asks.answers ++ more)
+    (asks : Asks n1 held w1 w2) (more : List Bool) (calls : List LibraryCall)
+    → following (in_state s0.state ((turning.answers ++ asks.answers) ++ more) calls n0) ≡ behind turning.done (following (in_state s1.state (asks.answers ++ more) calls n1))
+asked_next s0 s1 n0 n1 w0 w1 w2 h0 h1 f0 f1 held turning asks more calls =
+    ap (λ z. following (in_state s0.state z calls n0)) (append_assoc turning.answers asks.answers more) ∙ turning.made (asks.answers ++ more) calls
 
 pub turning_goes_on : (s0 s1 s2 s3 : Held) (n0 n1 : ℕ) (w0 w1 w2 : Option (List Bool)) (h0 h1 h2 : Option (List ℕ)) (f0 f1 f2 : ℕ) → IsTurning s0 s1 n0 n1 w0 w1 h0 h1 f0 f1 → s1.state.queue ≢ []
-    → Asks n1 false w1 w2 → Came (turn s1.state) s2 → s3 ≡ record s2 { output = [] } → Gains h1 s2.output h2 → f1 ≤ f2 → IsTurning s0 s3 n0 0 w0 w2 h0 h2 f0 f2
+    → Asks n1 false w1 w2 → Came (turn s1.state).state (turn s1.state).bodies s2 → s3 ≡ record s2 { output = [] } → Gains h1 s2.output h2 → f1 ≤ f2 → IsTurning s0 s3 n0 0 w0 w2 h0 h2 f0 f2
 turning_goes_on s0 s1 s2 s3 n0 n1 w0 w1 w2 h0 h1 h2 f0 f1 f2 turning some asks came taken gains later =
     let here = turn s1.state in
-    let again = ready_again here s2 s3 came taken in
+    let again = ready_again here.state here.bodies s2 s3 came taken in
     let sent : Gains h1 (written here.bodies) h2 = subst (λ z. Gains h1 z h2) came.output gains in
     record {
       ready = again.0;
       answers = turning.answers ++ asks.answers;
       asked = Asked-append w0 w1 w2 turning.answers asks.answers turning.asked asks.asked;
       done = turning.done ++ here.bodies;
-      made = λ more. asked_next s0 s1 n0 n1 w0 w1 w2 h0 h1 f0 f1 false turning asks more
-          ∙ ap (behind turning.done) (following-turn s1.state (asks.answers ++ more) more n1 some (asks.held_back more) (asks.left more))
-          ∙ behind-behind turning.done here.bodies (following (at_rest here.state more 0))
-          ∙ ap (λ (z : State). behind (turning.done ++ here.bodies) (following (at_rest z more 0))) (sym again.1);
+      made = λ more calls. asked_next s0 s1 n0 n1 w0 w1 w2 h0 h1 f0 f1 false turning asks more calls
+          ∙ ap (behind turning.done) (following-turn s1.state (asks.answers ++ more) more calls n1 some (asks.held_back more) (asks.left more))
+          ∙ behind-behind turning.done here.bodies (following (in_state here.state more calls 0))
+          ∙ ap (λ (z : State). behind (turning.done ++ here.bodies) (following (in_state z more calls 0))) (sym again.1);
       sent = subst (λ z. Gains h0 z h2) (sym (flat_map-append frame turning.done here.bodies))
           (Gains-append h0 h1 h2 (written turning.done) (written here.bodies) turning.sent sent);
       later = let earlier = turning.later in omega arith;
     }
 
 -- a Turn leaves fewer programs
-pub fewer_queued : (s1 s2 s3 : Held) → s1.state.queue ≢ [] → Came (turn s1.state) s2 → s3 ≡ record s2 { output = [] } → length s3.state.queue < length s1.state.queue
+pub fewer_queued : (s1 s2 s3 : Held) → s1.state.queue ≢ [] → Came (turn s1.state).state (turn s1.state).bodies s2 → s3 ≡ record s2 { output = [] } → length s3.state.queue < length s1.state.queue
 fewer_queued s1 s2 s3 some came taken =
-    let again = ready_again (turn s1.state) s2 s3 came taken in
+    let again = ready_again (turn s1.state).state (turn s1.state).bodies s2 s3 came taken in
     let same : length s3.state.queue ≡ length (turn s1.state).state.queue = ap (λ (z : State). length z.queue) again.1 in
     omega (arith, turn_leaves s1.state some)
 
@@ -188,7 +179,7 @@ turning_ends s0 s1 n0 n1 w0 w1 h0 h1 f0 f1 turning none = record {
   answers = turning.answers;
   bodies = turning.done;
   asked = turning.asked;
-  made = λ more. turning.made more ∙ ap (behind turning.done) (following-none s1.state more n1 none) ∙ behind-none turning.done (at_rest s1.state more n1);
+  made = λ more calls. turning.made more calls ∙ ap (behind turning.done) (following-none s1.state more calls n1 none) ∙ behind-none turning.done (in_state s1.state more calls n1);
   sent = turning.sent;
 }
 
@@ -199,8 +190,8 @@ turning_holds s0 s1 n0 n1 w0 w1 w2 h0 h1 f0 f1 turning some asks = record {
   answers = turning.answers ++ asks.answers;
   bodies = turning.done;
   asked = Asked-append w0 w1 w2 turning.answers asks.answers turning.asked asks.asked;
-  made = λ more. asked_next s0 s1 n0 n1 w0 w1 w2 h0 h1 f0 f1 true turning asks more
-      ∙ ap (behind turning.done) (following-held s1.state (asks.answers ++ more) more n1 some (asks.held_back more) (asks.left more)) ∙ behind-none turning.done (at_rest s1.state more n1);
+  made = λ more calls. asked_next s0 s1 n0 n1 w0 w1 w2 h0 h1 f0 f1 true turning asks more calls
+      ∙ ap (behind turning.done) (following-held s1.state (asks.answers ++ more) more calls n1 some (asks.held_back more) (asks.left more)) ∙ behind-none turning.done (in_state s1.state more calls n1);
   sent = turning.sent;
 }
 
@@ -210,83 +201,138 @@ pub turning_stops : (s0 s1 : Held) (n0 n1 : ℕ) (w0 w1 w2 : Option (List Bool))
 turning_stops s0 s1 n0 n1 w0 w1 w2 h0 h1 f0 f1 turning asks = record {
   answers = turning.answers ++ asks.answers;
   asked = Asked-append w0 w1 w2 turning.answers asks.answers turning.asked asks.asked;
-  put = (turning.done, (following (at_rest s1.state asks.answers n1)).bodies, ap (λ (z : Made). z.bodies) (turning.made asks.answers), turning.sent);
+  put = λ calls. (turning.done, (following (in_state s1.state asks.answers calls n1)).bodies, ap (λ (z : Made). z.bodies) (turning.made asks.answers calls), turning.sent);
 }
 
 -- where the sink refuses within a Turn, it has a front of all of them
 pub turning_breaks : (s0 s1 s2 : Held) (n0 n1 : ℕ) (w0 w1 w2 : Option (List Bool)) (h0 h1 h2 : Option (List ℕ)) (f0 f1 : ℕ) → IsTurning s0 s1 n0 n1 w0 w1 h0 h1 f0 f1 → s1.state.queue ≢ []
-    → Asks n1 false w1 w2 → Came (turn s1.state) s2 → PutsFront h1 s2.output h2 → StopsFollowing stop.WriteFault s0.state n0 w0 w2 h0 h2
-turning_breaks s0 s1 s2 n0 n1 w0 w1 w2 h0 h1 h2 f0 f1 turning some asks came front =
-    let here = turn s1.state in
-    let others = (following (at_rest here.state [] 0)).bodies in
-    let now : PutsFront h1 (written here.bodies) h2 = subst (λ z. PutsFront h1 z h2) came.output front in
-    let more : PutsFront h1 (written (here.bodies ++ others)) h2 = subst (λ z. PutsFront h1 z h2) (sym (flat_map-append frame here.bodies others))
-    (PutsFront-more (written here.bodies) (written others) h1 h2 now) in
-    let is : following (at_rest s0.state ((turning.answers ++ asks.answers) ++ []) n0) ≡ behind turning.done (behind here.bodies (following (at_rest here.state [] 0))) =
-    asked_next s0 s1 n0 n1 w0 w1 w2 h0 h1 f0 f1 false turning asks [] ∙ ap (behind turning.done) (following-turn s1.state (asks.answers ++ []) [] n1 some (asks.held_back []) (asks.left [])) in
-    let all : written (following (at_rest s0.state ((turning.answers ++ asks.answers) ++ []) n0)).bodies ≡ written turning.done ++ written (here.bodies ++ others) =
-    ap (λ (z : Made). written z.bodies) is ∙ flat_map-append frame turning.done (here.bodies ++ others) in
-    record {
-      answers = (turning.answers ++ asks.answers) ++ [];
-      asked = subst (λ z. Asked w0 z w2) (sym (append-nil (turning.answers ++ asks.answers))) (Asked-append w0 w1 w2 turning.answers asks.answers turning.asked asks.asked);
-      put = subst (λ z. PutsFront h0 z h2) (sym all) (PutsFront-behind (written turning.done) (written (here.bodies ++ others)) h0 h1 h2 turning.sent more);
-    }
+    → Asks n1 false w1 w2 → Came (turn s1.state).state (turn s1.state).bodies s2 → PutsFront h1 s2.output h2 → StopsFollowing stop.WriteFault s0.state n0 w0 w2 h0 h2
+turning_breaks s0 s1 s2 n0 n1 w0 w1 w2 h0 h1 h2 f0 f1 turning some asks came front = record {
+  answers = (turning.answers ++ asks.answers) ++ [];
+  asked = subst (λ z. Asked w0 z w2) (sym (append-nil (turning.answers ++ asks.answers))) (Asked-append w0 w1 w2 turning.answers asks.answers turning.asked asks.asked);
+  put = λ calls. broken calls;
+}
+  where
+    here : Effect
+    here = turn s1.state
+
+    broken : (calls : List LibraryCall) → PutsFront h0 (written (following (in_state s0.state ((turning.answers ++ asks.answers) ++ []) calls n0)).bodies) h2
+    broken calls =
+        let others = (following (in_state here.state [] calls 0)).bodies in
+        let now : PutsFront h1 (written here.bodies) h2 = subst (λ z. PutsFront h1 z h2) came.output front in
+        let more : PutsFront h1 (written (here.bodies ++ others)) h2 = subst (λ z. PutsFront h1 z h2) (sym (flat_map-append frame here.bodies others))
+        (PutsFront-more (written here.bodies) (written others) h1 h2 now) in
+        let is : following (in_state s0.state ((turning.answers ++ asks.answers) ++ []) calls n0) ≡ behind turning.done (behind here.bodies (following (in_state here.state [] calls 0))) =
+        asked_next s0 s1 n0 n1 w0 w1 w2 h0 h1 f0 f1 false turning asks [] calls ∙ ap (behind turning.done) (following-turn s1.state (asks.answers ++ []) [] calls n1 some (asks.held_back []) (asks.left [])) in
+        let all : written (following (in_state s0.state ((turning.answers ++ asks.answers) ++ []) calls n0)).bodies ≡ written turning.done ++ written (here.bodies ++ others) =
+        ap (λ (z : Made). written z.bodies) is ∙ flat_map-append frame turning.done (here.bodies ++ others) in
+        subst (λ z. PutsFront h0 z h2) (sym all) (PutsFront-behind (written turning.done) (written (here.bodies ++ others)) h0 h1 h2 turning.sent more)
 
 -- ---- one message
 
--- what a message comes to whose step goes on
-hear-Running : (s : State) (w : List Bool) (n : ℕ) (body : List ℕ) → phase_of (event s body).state ≡ StillRunning
-    → hear (at_rest s w n) body ≡ goes_on (event s body).bodies (following (at_rest (event s body).state w (one_more n)))
+-- An event that made these calls has gone to its state, of a session whose output was taken.
+pub record CameBy (s : State) (body : List ℕ) (calls : List LibraryCall) (now : Held) : Type 0 where
+  pub state : State
+  pub bodies : List (List ℕ)
+  pub goes : (more : List LibraryCall) → message s body (calls ++ more) ≡ step.Goes state bodies more
+  pub came : Came state bodies now
+
+pub came_by : (s : State) (body : List ℕ) (calls : List LibraryCall) (before now : Held) → IsReady before → GoesThrough (message s body) calls before now → CameBy s body calls now
+came_by s body calls before now ready through = record {
+  state = through.state;
+  bodies = through.bodies;
+  goes = through.goes;
+  came = came through.state through.bodies before now ready through.moves;
+}
+
+-- the phase that is answered is that of the state behind it
+phase_is : (state : State) (bodies : List (List ℕ)) (now : Held) (phase : Phase) → Came state bodies now → phase ≡ phase_of now.state → phase_of state ≡ phase
+phase_is state bodies now phase came is = ap phase_of (sym came.state_is) ∙ sym is
+
+-- what a message comes to whose session goes on
+hear-Running : (s : State) (w : List Bool) (c rest : List LibraryCall) (n : ℕ) (body : List ℕ) (t : State) (bodies : List (List ℕ)) → message s body c ≡ step.Goes t bodies rest → phase_of t ≡ StillRunning
+    → hear (in_state s w c n) body ≡ goes_on bodies (following (in_state t w rest (one_more n)))
 unfolding hear
-hear-Running s w n body is = ap (λ (p : Phase). heard_in p (at_rest s w n) (event s body).state (event s body).bodies []) is
+hear-Running s w c rest n body t bodies goes is = ap (heard_of (in_state s w c n)) goes ∙ ap (λ (p : Phase). heard_in p (in_state s w c n) t bodies rest) is
 
-hear-Exit : (s : State) (w : List Bool) (n : ℕ) (body : List ℕ) (closed : Bool) → phase_of (event s body).state ≡ Exit closed → hear (at_rest s w n) body ≡ Ends closed
+hear-Exit : (s : State) (w : List Bool) (c rest : List LibraryCall) (n : ℕ) (body : List ℕ) (closed : Bool) (t : State) (bodies : List (List ℕ)) → message s body c ≡ step.Goes t bodies rest → phase_of t ≡ Exit closed
+    → hear (in_state s w c n) body ≡ Ends closed rest
 unfolding hear
-hear-Exit s w n body closed is = ap (λ (p : Phase). heard_in p (at_rest s w n) (event s body).state (event s body).bodies []) is
+hear-Exit s w c rest n body closed t bodies goes is = ap (heard_of (in_state s w c n)) goes ∙ ap (λ (p : Phase). heard_in p (in_state s w c n) t bodies rest) is
 
--- the phase that is answered is that of the step
-phase_is : (step : Effect) (now : Held) (phase : Phase) → Came step now → phase ≡ phase_of now.state → phase_of step.state ≡ phase
-phase_is step now phase came is = ap phase_of (sym came.state) ∙ sym is
+-- where these calls are all that are to come, each was made
+none_more : (s : State) (body : List ℕ) (calls : List LibraryCall) (now : Held) (by : CameBy s body calls now) → message s body calls ≡ step.Goes by.state by.bodies []
+none_more s body calls now by = ap (message s body) (sym (append-nil calls)) ∙ by.goes []
 
--- before anything was written
-pub stopped_before : (s : State) (n : ℕ) (body : List ℕ) (w : Option (List Bool)) (h : Option (List ℕ)) → StopsHearing stop.OutOfMemory s n body w w h h
-stopped_before s n body w h = record { answers = []; asked = refl; put = ([], said (hear (at_rest s [] n) body), refl, Gains-nil h) }
+makes_calls : (s : State) (w : List Bool) (n : ℕ) (body : List ℕ) (calls : List LibraryCall) → step.MakesAll (message s body calls) → MakesEach (hear (in_state s w calls n) body)
+unfolding hear
+makes_calls s w n body calls makes = heard_makes (in_state s w calls n) (message s body calls) makes
+
+makes_its_calls : (s : State) (w : List Bool) (n : ℕ) (body : List ℕ) (calls : List LibraryCall) (now : Held) → CameBy s body calls now → MakesEach (hear (in_state s w calls n) body)
+makes_its_calls s w n body calls now by =
+    let all : step.MakesAll (step.Goes by.state by.bodies []) = refl in
+    makes_calls s w n body calls (subst step.MakesAll (sym (none_more s body calls now by)) all)
+
+-- memory ran out before anything was written; a session that has memory was not spent before
+pub stopped_before : {T : Type 0} (fault : SessionFault) (s now : Held) (n : ℕ) (body : List ℕ) (w : Option (List Bool)) (c d : Option (List LibraryCall)) (h : Option (List ℕ)) → IsReady s
+    → ComesOver {T = T} (Err fault) (message s.state body) c d s now → StopsHearing stop.OutOfMemory s.state n body w w c d h h
+stopped_before OutOfMemory s now n body w c d h ready over = record {
+  answers = [];
+  calls = over.calls;
+  asked = refl;
+  made = over.made;
+  makes = makes_calls s.state [] n body over.calls over.comes.0;
+  put = ([], said (hear (in_state s.state [] over.calls n) body), refl, Gains-nil h);
+}
+stopped_before Spent s now n body w c d h ready over = absurd (spent_and_sound (sym over.comes.1.spent ∙ ready.sound)) where
+  spent_and_sound : true ≡ false → ⊥
+  spent_and_sound e = cc
 
 -- the session is at its end
-pub heard_end : (s : State) (n : ℕ) (body : List ℕ) (closed : Bool) (now : Held) (w : Option (List Bool)) (h : Option (List ℕ)) → Came (event s body) now → Exit closed ≡ phase_of now.state
-    → Closes s n body closed w w h h
-heard_end s n body closed now w h came is = record {
-  heard = λ waits. hear-Exit s waits n body closed (phase_is (event s body) now (Exit closed) came is);
+pub heard_end : (s : State) (n : ℕ) (body : List ℕ) (closed : Bool) (calls : List LibraryCall) (now : Held) (w : Option (List Bool)) (c d : Option (List LibraryCall)) (h : Option (List ℕ)) → CameBy s body calls now
+    → Gains c calls d → Exit closed ≡ phase_of now.state → Closes s n body closed w w c d h h
+heard_end s n body closed calls now w c d h by gains is = record {
+  calls = calls;
+  made = gains;
+  heard = λ waits rest. hear-Exit s waits (calls ++ rest) rest n body closed by.state by.bodies (by.goes rest) (phase_is by.state by.bodies now (Exit closed) by.came is);
   asked = refl;
   sent = refl;
 }
 
 -- the message itself could not all be written
-pub broken_before_turns : (s : State) (n : ℕ) (body : List ℕ) (now : Held) (w : Option (List Bool)) (h0 h1 : Option (List ℕ)) → Came (event s body) now → StillRunning ≡ phase_of now.state
-    → PutsFront h0 now.output h1 → StopsHearing stop.WriteFault s n body w w h0 h1
-broken_before_turns s n body now w h0 h1 came is front =
-    let step = event s body in
-    let others = (following (at_rest step.state [] (one_more n))).bodies in
-    let goes = hear-Running s [] n body (phase_is step now StillRunning came is) in
-    let here : PutsFront h0 (written step.bodies) h1 = subst (λ z. PutsFront h0 z h1) came.output front in
-    let more : PutsFront h0 (written (step.bodies ++ others)) h1 = subst (λ z. PutsFront h0 z h1) (sym (flat_map-append frame step.bodies others))
-    (PutsFront-more (written step.bodies) (written others) h0 h1 here) in
-    record { answers = []; asked = refl; put = subst (λ (z : Heard). PutsFront h0 (written (said z)) h1) (sym goes) more }
+pub broken_before_turns : (s : State) (n : ℕ) (body : List ℕ) (calls : List LibraryCall) (now : Held) (w : Option (List Bool)) (c d : Option (List LibraryCall)) (h0 h1 : Option (List ℕ)) → CameBy s body calls now
+    → Gains c calls d → StillRunning ≡ phase_of now.state → PutsFront h0 now.output h1 → StopsHearing stop.WriteFault s n body w w c d h0 h1
+broken_before_turns s n body calls now w c d h0 h1 by gains is front =
+    let others = (following (in_state by.state [] [] (one_more n))).bodies in
+    let goes = hear-Running s [] calls [] n body by.state by.bodies (none_more s body calls now by) (phase_is by.state by.bodies now StillRunning by.came is) in
+    let here : PutsFront h0 (written by.bodies) h1 = subst (λ z. PutsFront h0 z h1) by.came.output front in
+    let more : PutsFront h0 (written (by.bodies ++ others)) h1 = subst (λ z. PutsFront h0 z h1) (sym (flat_map-append frame by.bodies others))
+    (PutsFront-more (written by.bodies) (written others) h0 h1 here) in
+    record {
+      answers = [];
+      calls = calls;
+      asked = refl;
+      made = gains;
+      makes = makes_its_calls s [] n body calls now by;
+      put = subst (λ (z : Heard). PutsFront h0 (written (said z)) h1) (sym goes) more;
+    }
 
 -- a Turn could not be made, or what it publishes not all be written
-pub broken_in_turns : (e : Stop) (s : State) (n : ℕ) (body : List ℕ) (now after : Held) (w0 w1 : Option (List Bool)) (h0 h1 h2 : Option (List ℕ)) → Came (event s body) now
-    → StillRunning ≡ phase_of now.state → after ≡ record now { output = [] } → Gains h0 now.output h1 → StopsFollowing e after.state (one_more n) w0 w1 h1 h2 → StopsHearing e s n body w0 w1 h0 h2
-broken_in_turns e s n body now after w0 w1 h0 h1 h2 came is taken gains stops =
-    let step = event s body in
-    let goes = hear-Running s stops.answers n body (phase_is step now StillRunning came is) in
-    let again = ready_again step now after came taken in
-    let sent : Gains h0 (written step.bodies) h1 = subst (λ z. Gains h0 z h1) came.output gains in
-    let here : PutsUntil e h1 (following (at_rest step.state stops.answers (one_more n))).bodies h2 =
-    subst (λ (z : State). PutsUntil e h1 (following (at_rest z stops.answers (one_more n))).bodies h2) again.1 stops.put in
+pub broken_in_turns : (e : Stop) (s : State) (n : ℕ) (body : List ℕ) (calls : List LibraryCall) (now after : Held) (w0 w1 : Option (List Bool)) (c d : Option (List LibraryCall)) (h0 h1 h2 : Option (List ℕ)) → CameBy s body calls now
+    → Gains c calls d → StillRunning ≡ phase_of now.state → after ≡ record now { output = [] } → Gains h0 now.output h1 → StopsFollowing e after.state (one_more n) w0 w1 h1 h2 → StopsHearing e s n body w0 w1 c d h0 h2
+broken_in_turns e s n body calls now after w0 w1 c d h0 h1 h2 by made is taken gains stops =
+    let goes = hear-Running s stops.answers calls [] n body by.state by.bodies (none_more s body calls now by) (phase_is by.state by.bodies now StillRunning by.came is) in
+    let again = ready_again by.state by.bodies now after by.came taken in
+    let sent : Gains h0 (written by.bodies) h1 = subst (λ z. Gains h0 z h1) by.came.output gains in
+    let here : PutsUntil e h1 (following (in_state by.state stops.answers [] (one_more n))).bodies h2 =
+    subst (λ (z : State). PutsUntil e h1 (following (in_state z stops.answers [] (one_more n))).bodies h2) again.1 (stops.put []) in
     record {
       answers = stops.answers;
+      calls = calls;
       asked = stops.asked;
-      put = subst (λ (z : Heard). PutsUntil e h0 (said z) h2) (sym goes) (until_behind e step.bodies (following (at_rest step.state stops.answers (one_more n))).bodies sent here);
+      made = made;
+      makes = makes_its_calls s stops.answers n body calls now by;
+      put = subst (λ (z : Heard). PutsUntil e h0 (said z) h2) (sym goes) (until_behind e by.bodies (following (in_state by.state stops.answers [] (one_more n))).bodies sent here);
     }
   where
     until_behind : (e : Stop) (bodies more : List (List ℕ)) → Gains h0 (written bodies) h1 → PutsUntil e h1 more h2 → PutsUntil e h0 (bodies ++ more) h2
@@ -295,19 +341,20 @@ broken_in_turns e s n body now after w0 w1 h0 h1 h2 came is taken gains stops =
         subst (λ z. PutsFront h0 z h2) (sym (flat_map-append frame bodies more)) (PutsFront-behind (written bodies) (written more) h0 h1 h2 sent put)
 
 -- a message and the Turns that follow were written
-pub heard_whole : (s t : State) (n m : ℕ) (body : List ℕ) (now after : Held) (w0 w1 : Option (List Bool)) (h0 h1 h2 : Option (List ℕ)) → Came (event s body) now
-    → StillRunning ≡ phase_of now.state → after ≡ record now { output = [] } → Gains h0 now.output h1 → Follows after.state (one_more n) t m w0 w1 h1 h2 → GoesOn s n body t m w0 w1 h0 h2
-heard_whole s t n m body now after w0 w1 h0 h1 h2 came is taken gains follows =
-    let step = event s body in
-    let again = ready_again step now after came taken in
-    let sent : Gains h0 (written step.bodies) h1 = subst (λ z. Gains h0 z h1) came.output gains in
+pub heard_whole : (s t : State) (n m : ℕ) (body : List ℕ) (calls : List LibraryCall) (now after : Held) (w0 w1 : Option (List Bool)) (c d : Option (List LibraryCall)) (h0 h1 h2 : Option (List ℕ)) → CameBy s body calls now
+    → Gains c calls d → StillRunning ≡ phase_of now.state → after ≡ record now { output = [] } → Gains h0 now.output h1 → Follows after.state (one_more n) t m w0 w1 h1 h2 → GoesOn s n body t m w0 w1 c d h0 h2
+heard_whole s t n m body calls now after w0 w1 c d h0 h1 h2 by made is taken gains follows =
+    let again = ready_again by.state by.bodies now after by.came taken in
+    let sent : Gains h0 (written by.bodies) h1 = subst (λ z. Gains h0 z h1) by.came.output gains in
     record {
       answers = follows.answers;
-      bodies = step.bodies ++ follows.bodies;
+      calls = calls;
+      bodies = by.bodies ++ follows.bodies;
       asked = follows.asked;
-      heard = λ more. hear-Running s (follows.answers ++ more) n body (phase_is step now StillRunning came is)
-          ∙ ap (λ (z : State). goes_on step.bodies (following (at_rest z (follows.answers ++ more) (one_more n)))) (sym again.1)
-          ∙ ap (goes_on step.bodies) (follows.made more);
-      sent = subst (λ z. Gains h0 z h2) (sym (flat_map-append frame step.bodies follows.bodies))
-          (Gains-append h0 h1 h2 (written step.bodies) (written follows.bodies) sent follows.sent);
+      made = made;
+      heard = λ more rest. hear-Running s (follows.answers ++ more) (calls ++ rest) rest n body by.state by.bodies (by.goes rest) (phase_is by.state by.bodies now StillRunning by.came is)
+          ∙ ap (λ (z : State). goes_on by.bodies (following (in_state z (follows.answers ++ more) rest (one_more n)))) (sym again.1)
+          ∙ ap (goes_on by.bodies) (follows.made more rest);
+      sent = subst (λ z. Gains h0 z h2) (sym (flat_map-append frame by.bodies follows.bodies))
+          (Gains-append h0 h1 h2 (written by.bodies) (written follows.bodies) sent follows.sent);
     }

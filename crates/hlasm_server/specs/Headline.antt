@@ -1,5 +1,6 @@
 -- The headline (this project): what a run has read and written, told by source and sink, is what the plain session
--- writes for those bytes; a fault of the outside or want of memory only ends it after a prefix.
+-- writes for those bytes and those answers of the library; a fault of the source or the sink or want of memory only ends it
+-- after a prefix.
 use Rattle.std.specs.Prelude.{◌≡◌, ℕ, Bool, List, ◌++◌, length, drop, Option, Some, ◌⊎◌}
 use Rattle.io_edge.specs.Told.{Gives, Gains, HasRisen}
 use Rattle.io_edge.specs.LibraryCall.{LibraryCall}
@@ -10,17 +11,17 @@ use Rattle.hlasm_server.specs.Hearing.{beginning_with}
 use Rattle.hlasm_server.specs.Output.{Out}
 use Rattle.hlasm_server.specs.Waiting.{Asked}
 
--- the whole output of the input, with this status
+-- The whole output of the input, with this status. These are the calls of the library that are made for it, with their answers.
 pub record Whole (budget : ℕ) (waits : List Bool) (calls : List LibraryCall) (bytes : List ℕ) (status : Status) (taken : ℕ) (output : List ℕ) : Type 0 where
   pub replies : List (List ℕ)
-  pub out : Out (beginning_with budget waits calls) 0 bytes replies status taken
+  pub out : Out (beginning_with budget waits calls) 0 bytes replies (Some status) taken
   pub all : output ≡ written replies
 
--- the first bodies of the output, each a whole frame
+-- the first bodies of the output, each a whole frame; it has no status where one more call of the library is made in it
 pub record FirstFrames (budget : ℕ) (waits : List Bool) (calls : List LibraryCall) (bytes output : List ℕ) : Type 0 where
   pub first : List (List ℕ)
   pub others : List (List ℕ)
-  pub status : Status
+  pub status : Option Status
   pub taken : ℕ
   pub out : Out (beginning_with budget waits calls) 0 bytes (first ++ others) status taken
   pub all : output ≡ written first
@@ -28,7 +29,7 @@ pub record FirstFrames (budget : ℕ) (waits : List Bool) (calls : List LibraryC
 -- the first bytes of the output
 pub record FirstBytes (budget : ℕ) (waits : List Bool) (calls : List LibraryCall) (bytes output : List ℕ) : Type 0 where
   pub replies : List (List ℕ)
-  pub status : Status
+  pub status : Option Status
   pub taken : ℕ
   pub rest : List ℕ
   pub out : Out (beginning_with budget waits calls) 0 bytes replies status taken
@@ -51,13 +52,16 @@ IsAnswer InputEnded budget waits calls bytes taken output = Whole budget waits c
 IsAnswer (BadFrame at) budget waits calls bytes taken output = Whole budget waits calls bytes (BadFrame at) (length taken) output
 IsAnswer InputTooLong budget waits calls bytes taken output = Whole budget waits calls bytes InputTooLong (length taken) output
 
--- What a run took of the source and put into the sink, as they tell it, is the plain session's for the answers of
--- `waiting` that the source gave, where these calls of the library were made.
-pub record IsPlainRunWith (budget : ℕ) (calls : List LibraryCall) (waits_before waits_now : Option (List Bool)) (left_before left_now held_before held_now : Option (List ℕ)) (status : Status) : Type 0 where
+-- What a run took of the source and put into the sink, as they tell it, is the plain session's for the answers of `waiting`
+-- that the source gave and the calls that the library tells it has gained, with their answers. A call that failed is one of
+-- them: it ends nothing.
+pub record IsPlainRun (budget : ℕ) (waits_before waits_now : Option (List Bool)) (calls_before calls_now : Option (List LibraryCall)) (left_before left_now held_before held_now : Option (List ℕ)) (status : Status) : Type 0 where
   pub taken : List ℕ
   pub output : List ℕ
   pub waits : List Bool
+  pub calls : List LibraryCall
   pub asked : Asked waits_before waits waits_now
+  pub made : Gains calls_before calls calls_now
   pub read : Gives left_before taken left_now
   pub wrote : Gains held_before output held_now
   pub answer : (bytes : List ℕ) → left_before ≡ Some bytes → IsAnswer status budget waits calls bytes taken output
@@ -74,22 +78,12 @@ HasStatusCause BadWords a b c d = Unit {0}
 HasStatusCause (BadFrame at) a b c d = Unit {0}
 HasStatusCause InputTooLong a b c d = Unit {0}
 
--- Completeness: where no fault was counted, the run ends as the plain session does for the input that was there and the
--- answers of `waiting` that were given, has written all of its output, and has taken what it takes, unless memory ran out.
-abbrev pub CompletesWith : (budget : ℕ) → List LibraryCall → (waits_before waits_now : Option (List Bool)) → (left_before left_now held_before held_now : Option (List ℕ)) → Status → Type 0
-CompletesWith budget calls waits_before waits_now left_before left_now held_before held_now status =
-    (waits : List Bool) × Asked waits_before waits waits_now
-    × ((bytes : List ℕ) (replies : List (List ℕ)) (wanted : Status) (taken : ℕ) → left_before ≡ Some bytes → Out (beginning_with budget waits calls) 0 bytes replies wanted taken
-    → (status ≡ OutOfMemory) ⊎ ((status ≡ wanted) × (left_now ≡ Some (drop taken bytes)) × Gains held_before (written replies) held_now))
-
--- ---- the calls
-
--- a run is the plain session's for the calls that the library tells it has gained, with their answers
-abbrev pub IsPlainRun : (budget : ℕ) (calls_before calls_now : Option (List LibraryCall)) (waits_before waits_now : Option (List Bool)) (left_before left_now held_before held_now : Option (List ℕ)) → Status → Type 0
-IsPlainRun budget calls_before calls_now waits_before waits_now left_before left_now held_before held_now status =
-    (calls : List LibraryCall) × Gains calls_before calls calls_now × IsPlainRunWith budget calls waits_before waits_now left_before left_now held_before held_now status
-
--- and completeness is said for these
-abbrev pub Completes : (budget : ℕ) (calls_before calls_now : Option (List LibraryCall)) (waits_before waits_now : Option (List Bool)) (left_before left_now held_before held_now : Option (List ℕ)) → Status → Type 0
-Completes budget calls_before calls_now waits_before waits_now left_before left_now held_before held_now status =
-    (calls : List LibraryCall) × Gains calls_before calls calls_now × CompletesWith budget calls waits_before waits_now left_before left_now held_before held_now status
+-- Completeness: where no fault of the source or the sink was counted, the run ends as the plain session does for the input that
+-- was there, the answers of `waiting` that were given and the calls of the library that were made, has written all of its
+-- output, and has taken what it takes, unless memory ran out. Where that has no status, memory did run out.
+abbrev pub Completes : (budget : ℕ) → (waits_before waits_now : Option (List Bool)) (calls_before calls_now : Option (List LibraryCall)) (left_before left_now held_before held_now : Option (List ℕ)) → Status → Type 0
+Completes budget waits_before waits_now calls_before calls_now left_before left_now held_before held_now status =
+    (waits : List Bool) × (calls : List LibraryCall) × Asked waits_before waits waits_now × Gains calls_before calls calls_now
+    × ((bytes : List ℕ) (replies : List (List ℕ)) (wanted : Option Status) (taken : ℕ) → left_before ≡ Some bytes
+    → Out (beginning_with budget waits calls) 0 bytes replies wanted taken
+    → (status ≡ OutOfMemory) ⊎ ((wanted ≡ Some status) × (left_now ≡ Some (drop taken bytes)) × Gains held_before (written replies) held_now))

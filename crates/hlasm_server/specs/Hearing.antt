@@ -1,6 +1,6 @@
 -- What one message of the input comes to (this project): its event, and then Turns until no program is queued or the next
 -- one is held back.
-use Rattle.std.specs.Prelude.{ℕ, zero, suc, Bool, List, [], ◌++◌, length, if◌then◌else◌}
+use Rattle.std.specs.Prelude.{◌≡◌, ℕ, zero, suc, Bool, List, [], ◌++◌, length, if◌then◌else◌}
 use Rattle.session_core.specs.declared.phase.Phase.{Phase}
 use Rattle.session_core.specs.declared.phase.Phase.TheVariants as phase
 use Rattle.io_edge.specs.LibraryCall.{LibraryCall}
@@ -20,13 +20,13 @@ pub record Running : Type 0 where
   pub calls : List LibraryCall
   pub since : ℕ
 
+-- one in this state
+abbrev pub in_state : State → (waits : List Bool) (calls : List LibraryCall) (since : ℕ) → Running
+in_state s waits calls since = record { state = s; waits = waits; calls = calls; since = since }
+
 -- before the first message, where a program may be given so many statements
 abbrev pub beginning_with : (budget : ℕ) (waits : List Bool) (calls : List LibraryCall) → Running
-beginning_with budget waits calls = record { state = start budget; waits = waits; calls = calls; since = 0 }
-
--- where no call of the library is to come
-abbrev pub at_rest : State → (waits : List Bool) → (since : ℕ) → Running
-at_rest s waits since = record { state = s; waits = waits; calls = []; since = since }
+beginning_with budget waits calls = in_state (start budget) waits calls 0
 
 -- ---- Turns
 
@@ -43,7 +43,7 @@ none_made r = record { next = r; bodies = [] }
 abbrev pub behind : List (List ℕ) → Made → Made
 behind bodies made = record { next = made.next; bodies = bodies ++ made.bodies }
 
--- at most so many Turns: each behind the other, until one is held back
+-- At most so many Turns: each behind the other, until one is held back. A Turn makes no call of the library.
 abbrev pub turns : ℕ → Running → Made
 turns zero r = none_made r
 turns (suc n) r =
@@ -56,12 +56,13 @@ following r = turns (length r.state.queue) r
 
 -- ---- messages
 
--- the session goes on, and these bodies are written; or `exit` came, after `shutdown` was answered or before; or no answer
--- of the library was left, or the next one is of another call
+-- the session goes on, and these bodies are written; or `exit` came, after `shutdown` was answered or before, and these of the
+-- calls of the library to come were not made; or a call is made for which no answer is left; or the next answer is of another
+-- call than the one that is made
 pub data Heard : Type 0 where
   Goes : (next : Running) (bodies : List (List ℕ)) → Heard
-  Ends : (closed : Bool) → Heard
-  Lacks : (bodies : List (List ℕ)) → Heard
+  Ends : (closed : Bool) (rest : List LibraryCall) → Heard
+  Lacks : Heard
   Differs : Heard
 
 -- these bodies were written, then those of some Turns, and the session goes on
@@ -70,13 +71,13 @@ goes_on bodies made = Goes made.next (bodies ++ made.bodies)
 
 -- Where the session goes on, the Turns follow. At its end nothing is written, and no Turn is made.
 abbrev pub heard_in : Phase → Running → (state : State) (bodies : List (List ℕ)) (rest : List LibraryCall) → Heard
-heard_in phase.Running r state bodies rest = goes_on bodies (following (record { state = state; waits = r.waits; calls = rest; since = one_more r.since }))
-heard_in (phase.Exit closed) r state bodies rest = Ends closed
+heard_in phase.Running r state bodies rest = goes_on bodies (following (in_state state r.waits rest (one_more r.since)))
+heard_in (phase.Exit closed) r state bodies rest = Ends closed rest
 
 -- an event, with what follows it
 abbrev pub heard_of : Running → Step → Heard
 heard_of r (step.Goes state bodies rest) = heard_in (phase_of state) r state bodies rest
-heard_of r (step.Stopped bodies) = Lacks bodies
+heard_of r step.Stopped = Lacks
 heard_of r step.Other = Differs
 
 -- one message, and then Turns until no program is queued, or until one is held back
@@ -86,6 +87,14 @@ hear r body = heard_of r (message r.state body r.calls)
 -- what is written for it
 abbrev pub said : Heard → List (List ℕ)
 said (Goes next bodies) = bodies
-said (Ends closed) = []
-said (Lacks bodies) = bodies
+said (Ends closed rest) = []
+said Lacks = []
 said Differs = []
+
+-- Each of the calls to come was made, whether or not one more was: none of them is another than the one that is made, and none
+-- is left.
+abbrev pub MakesEach : Heard → Type 0
+MakesEach (Goes next bodies) = next.calls ≡ []
+MakesEach (Ends closed rest) = rest ≡ []
+MakesEach Lacks = Unit {0}
+MakesEach Differs = ⊥

@@ -118,7 +118,8 @@ fn make_turns<S: Source, K: Sink, L: Ledger>(
     Ok(())
 }
 
-/// Takes one message and makes the Turns that follow it, and puts what is written into the sink as it comes.
+/// Takes one message, with the calls of the library that it makes, and makes the Turns that follow it, and puts what is written
+/// into the sink as it comes.
 pub fn hear<S: Source, K: Sink, B: Library, L: Ledger>(
     alloc: Global,
     session: &mut Session,
@@ -132,12 +133,13 @@ pub fn hear<S: Source, K: Sink, B: Library, L: Ledger>(
     requires ready { IsReady session.old }
     ensures ready { IfOk result (λ phase. phase ≡ Phase.Running → IsReady session.new) }
     ensures hears { Hears result session.old.state since.old body.now session.new.state since.new
-        (S.waits source.old) (S.waits source.new) (K.held sink.old) (K.held sink.new) }
+        (S.waits source.old) (S.waits source.new) (B.calls library.old) (B.calls library.new)
+        (K.held sink.old) (K.held sink.new) }
     ensures left { S.left source.new ≡ S.left source.old }
     ensures faults { S.faults source.new ≡ S.faults source.old }
     ensures later { K.faults sink.old ≤ K.faults sink.new }
     ensures cause { HasStopCause result (K.faults sink.old) (K.faults sink.new) }
-    ensures library { (B.calls library.new ≡ B.calls library.old) × (B.faults library.new ≡ B.faults library.old) }
+    ensures later_library { B.faults library.old ≤ B.faults library.new }
 {
     match session.message(alloc, body, library, steps)? {
         Phase::Running => {

@@ -1,9 +1,9 @@
 //! The top call: from the bytes that come in to the bytes that go out.
-ghost use Rattle.std.specs.Prelude.{◌≡◌, ◌≢◌, ◌≤◌, ◌↔◌, ℕ, [], Some, None, map, string_bytes};
+ghost use Rattle.std.specs.Prelude.{◌≡◌, ◌≢◌, ◌≤◌, ◌↔◌, ℕ, Some, None, map, string_bytes};
 ghost use Rattle.hlasm_server.specs.Status.{status_of};
 ghost use Rattle.io_edge.specs.Told.{HasRisen};
 ghost use Rattle.hlasm_server.specs.declared.words.Command.TheVariants.{Serve as ServeCommand};
-ghost use Rattle.hlasm_server.specs.Headline.{IsPlainRun, IsPlainRunWith, HasStatusCause, Completes};
+ghost use Rattle.hlasm_server.specs.Headline.{IsPlainRun, HasStatusCause, Completes};
 ghost use Rattle.hlasm_server.specs.Words.{command_of};
 
 use crate::Status;
@@ -38,13 +38,13 @@ fn serve<S: Source, K: Sink, B: Library, L: Ledger>(
     library: &mut B,
     steps: &mut Steps<L>,
 ) -> Status
-    ensures plain { IsPlainRunWith budget [] (S.waits source.old) (S.waits source.new)
+    ensures plain { IsPlainRun budget (S.waits source.old) (S.waits source.new) (B.calls library.old) (B.calls library.new)
         (S.left source.old) (S.left source.new) (K.held sink.old) (K.held sink.new) result }
     ensures cause { HasStatusCause result (S.faults source.old) (S.faults source.new) (K.faults sink.old) (K.faults sink.new) }
     ensures words { result ≢ Status.BadWords }
-    ensures library { (B.calls library.new ≡ B.calls library.old) × (B.faults library.new ≡ B.faults library.old) }
     ensures later_source { S.faults source.old ≤ S.faults source.new }
     ensures later_sink { K.faults sink.old ≤ K.faults sink.new }
+    ensures later_library { B.faults library.old ≤ B.faults library.new }
 {
     let mut buffer = [0; LARGEST_PIECE];
     let mut session = match Session::new(alloc, budget) {
@@ -86,7 +86,8 @@ fn serve<S: Source, K: Sink, B: Library, L: Ledger>(
 /// messages came since the last Turn, it asks the source first whether more input waits, and then makes none. Any other
 /// words are `BadWords`, and nothing is read or written.
 ///
-/// The library is handed to the session, which asks nothing of it yet. An assembly counts in the steps; how much is not said.
+/// Messages ask the library for folders and files. A call that fails is an answer as any other, and ends nothing. An assembly
+/// counts in the steps; how much is not said.
 pub fn run<S: Source, K: Sink, B: Library, L: Ledger>(
     alloc: Global,
     words: &[String],
@@ -97,7 +98,7 @@ pub fn run<S: Source, K: Sink, B: Library, L: Ledger>(
 ) -> Status
     // The headline.
     ensures plain { (budget : ℕ) → command_of (map string_bytes words.now) ≡ Some (ServeCommand budget) → IsPlainRun budget
-        (B.calls library.old) (B.calls library.new) (S.waits source.old) (S.waits source.new)
+        (S.waits source.old) (S.waits source.new) (B.calls library.old) (B.calls library.new)
         (S.left source.old) (S.left source.new) (K.held sink.old) (K.held sink.new) result }
 
     // Each fault has its cause.
@@ -108,19 +109,20 @@ pub fn run<S: Source, K: Sink, B: Library, L: Ledger>(
     ensures complete { (budget : ℕ) → command_of (map string_bytes words.now) ≡ Some (ServeCommand budget)
         → (HasRisen (S.faults source.old) (S.faults source.new) → ⊥)
         → (HasRisen (K.faults sink.old) (K.faults sink.new) → ⊥)
-        → Completes budget (B.calls library.old) (B.calls library.new) (S.waits source.old) (S.waits source.new)
+        → Completes budget (S.waits source.old) (S.waits source.new) (B.calls library.old) (B.calls library.new)
         (S.left source.old) (S.left source.new) (K.held sink.old) (K.held sink.new) result }
 
     // With wrong words nothing is read, asked, written or counted.
     ensures unread { result ≡ Status.BadWords → (S.left source.new ≡ S.left source.old) × (S.faults source.new ≡ S.faults source.old) }
     ensures unasked { result ≡ Status.BadWords → S.waits source.new ≡ S.waits source.old }
     ensures unwritten { result ≡ Status.BadWords → (K.held sink.new ≡ K.held sink.old) × (K.faults sink.new ≡ K.faults sink.old) }
+    ensures uncalled { result ≡ Status.BadWords → (B.calls library.new ≡ B.calls library.old) × (B.faults library.new ≡ B.faults library.old) }
     ensures uncounted { result ≡ Status.BadWords → steps.new ≡ steps.old }
 
-    // Nothing is asked of the library.
-    ensures library { (B.calls library.new ≡ B.calls library.old) × (B.faults library.new ≡ B.faults library.old) }
+    // The counts of faults never fall.
     ensures later_source { S.faults source.old ≤ S.faults source.new }
     ensures later_sink { K.faults sink.old ≤ K.faults sink.new }
+    ensures later_library { B.faults library.old ≤ B.faults library.new }
 {
     match read_words(words) {
         Some(Command::Serve { budget }) => serve(alloc, budget, source, sink, library, steps),

@@ -1,7 +1,9 @@
 //! Calls of a library that holds its folders and files.
 use crate::words::{add_answer, cut, numbers};
 use hl_base::OutOfMemory;
-use io_edge::{Library, LibraryFault, MemoryFile, MemoryFolder, MemoryLibrary};
+use io_edge::{
+    Library, LibraryFault, MemoryCall, MemoryFile, MemoryFolder, MemoryLibrary, SureLibrary,
+};
 use std::alloc::{AllocError, Global};
 
 /// What a library holds, and which of its calls fail.
@@ -60,7 +62,7 @@ fn refused(alloc: Global, fault: LibraryFault) -> Result<String, OutOfMemory> {
 }
 
 /// What `list PATH` answers: the names, with blanks between them.
-fn listed(alloc: Global, library: &mut MemoryLibrary, path: &str) -> Result<String, OutOfMemory> {
+fn listed<B: Library>(alloc: Global, library: &mut B, path: &str) -> Result<String, OutOfMemory> {
     match library.list(alloc, path) {
         Ok(Some(names)) => {
             let mut words = String::new(alloc);
@@ -78,7 +80,7 @@ fn listed(alloc: Global, library: &mut MemoryLibrary, path: &str) -> Result<Stri
 }
 
 /// What `read PATH` answers: the text.
-fn read(alloc: Global, library: &mut MemoryLibrary, path: &str) -> Result<String, OutOfMemory> {
+fn read<B: Library>(alloc: Global, library: &mut B, path: &str) -> Result<String, OutOfMemory> {
     match library.read(alloc, path) {
         Ok(Some(bytes)) => Ok(String::from_utf8_lossy(alloc, bytes.as_slice())?),
         Ok(None) => Ok(String::from_str(alloc, "none")?),
@@ -87,7 +89,7 @@ fn read(alloc: Global, library: &mut MemoryLibrary, path: &str) -> Result<String
 }
 
 /// What a call answers.
-fn answer(alloc: Global, library: &mut MemoryLibrary, call: &str) -> Result<String, OutOfMemory> {
+fn answer<B: Library>(alloc: Global, library: &mut B, call: &str) -> Result<String, OutOfMemory> {
     match cut(call) {
         ("list", path) => listed(alloc, library, path),
         ("read", path) => read(alloc, library, path),
@@ -95,20 +97,47 @@ fn answer(alloc: Global, library: &mut MemoryLibrary, call: &str) -> Result<Stri
     }
 }
 
-/// What the calls of a library answer in turn, with semicolons between them; what it noted comes last.
-pub fn answers(alloc: Global, holds: &str, calls: &[String]) -> Result<String, OutOfMemory> {
-    let Holdings {
-        folders,
-        files,
-        failing,
-    } = held_by(alloc, holds)?;
-    let mut library = MemoryLibrary::new(alloc, folders, files, failing);
+/// What the calls of a library answer in turn.
+fn asked<B: Library>(
+    alloc: Global,
+    library: &mut B,
+    calls: &[String],
+) -> Result<String, OutOfMemory> {
     let mut answers = String::new(alloc);
     for call in calls {
-        let answer = answer(alloc, &mut library, call.as_str())?;
+        let answer = answer(alloc, library, call.as_str())?;
         add_answer(&mut answers, answer.as_str())?;
     }
-    let noted = format!(in alloc; "{:?}", library.noted())?;
-    add_answer(&mut answers, noted.as_str())?;
     Ok(answers)
+}
+
+/// Adds the calls that were noted.
+fn add_noted(alloc: Global, answers: &mut String, noted: &[MemoryCall]) -> Result<(), AllocError> {
+    let noted = format!(in alloc; "{noted:?}")?;
+    add_answer(answers, noted.as_str())
+}
+
+/// A library of which calls may fail.
+fn of_memory(alloc: Global, holds: Holdings, calls: &[String]) -> Result<String, OutOfMemory> {
+    let mut library = MemoryLibrary::new(alloc, holds.folders, holds.files, holds.failing);
+    let mut answers = asked(alloc, &mut library, calls)?;
+    add_noted(alloc, &mut answers, library.noted())?;
+    Ok(answers)
+}
+
+/// A library of which no call fails.
+fn of_sure(alloc: Global, holds: Holdings, calls: &[String]) -> Result<String, OutOfMemory> {
+    let mut library = SureLibrary::new(alloc, holds.folders, holds.files);
+    let mut answers = asked(alloc, &mut library, calls)?;
+    add_noted(alloc, &mut answers, library.noted())?;
+    Ok(answers)
+}
+
+/// What the calls of a library answer in turn, with semicolons between them; what it noted comes last. One that holds
+/// `sure` first is one of which no call fails.
+pub fn answers(alloc: Global, holds: &str, calls: &[String]) -> Result<String, OutOfMemory> {
+    match holds.strip_prefix("sure; ") {
+        Some(holds) => of_sure(alloc, held_by(alloc, holds)?, calls),
+        None => of_memory(alloc, held_by(alloc, holds)?, calls),
+    }
 }

@@ -2,7 +2,7 @@
 use crate::streams::{Narrow, kind_of};
 use crate::words::{add_answer, cut, number, numbers};
 use hl_base::OutOfMemory;
-use io_edge::{Failed, MemorySink, Sink, StdSink};
+use io_edge::{Failed, MemorySink, Sink, StdSink, SureSink};
 use std::alloc::{AllocError, Global};
 
 /// What a put answers.
@@ -35,6 +35,15 @@ fn of_memory(alloc: Global, words: &str, pieces: &[String]) -> Result<String, Ou
     Ok(answers)
 }
 
+/// `sure`: a sink that takes every byte. How many it took comes last.
+fn of_sure(alloc: Global, pieces: &[String]) -> Result<String, OutOfMemory> {
+    let mut sink = SureSink::new();
+    let mut answers = put_each(alloc, &mut sink, pieces)?;
+    let taken = format!(in alloc; "{} taken", sink.taken())?;
+    add_answer(&mut answers, taken.as_str())?;
+    Ok(answers)
+}
+
 /// `narrow MOST FAILS KIND`: a sink over a writer that takes so many bytes a time, of whose flushes one fails. How much was
 /// flushed comes last.
 fn of_narrow(alloc: Global, words: &str, pieces: &[String]) -> Result<String, OutOfMemory> {
@@ -51,6 +60,7 @@ fn of_narrow(alloc: Global, words: &str, pieces: &[String]) -> Result<String, Ou
 pub fn answers(alloc: Global, sink: &str, pieces: &[String]) -> Result<String, OutOfMemory> {
     match cut(sink) {
         ("memory", words) => of_memory(alloc, words, pieces),
+        ("sure", _) => of_sure(alloc, pieces),
         ("narrow", words) => of_narrow(alloc, words, pieces),
         _ => Ok(String::from_str(alloc, "no sink")?),
     }

@@ -2,7 +2,7 @@
 use crate::streams::{Rising, kind_of};
 use crate::words::{add_answer, cut, is_positive, number, numbers, part, sizes};
 use hl_base::OutOfMemory;
-use io_edge::{Failed, MemorySource, Source, StdSource};
+use io_edge::{Failed, MemorySource, Source, StdSource, SureSource};
 use std::alloc::{AllocError, Global};
 
 /// The most room of a take.
@@ -55,6 +55,18 @@ fn of_memory(alloc: Global, words: &str, calls: &[String]) -> Result<String, Out
     asked(alloc, &mut source, calls)
 }
 
+/// `sure TEXT; SIZES`: a source that holds its bytes and never fails.
+fn of_sure(alloc: Global, words: &str, calls: &[String]) -> Result<String, OutOfMemory> {
+    let (text, pieces) = part(words);
+    let sizes = sizes(alloc, pieces)?;
+    if !is_positive(&sizes) {
+        return Ok(String::from_str(alloc, "a size is 0")?);
+    }
+    let bytes = Vec::from_slice(alloc, text.as_bytes())?;
+    let mut source = SureSource::new(alloc, bytes, sizes, Vec::new(alloc));
+    asked(alloc, &mut source, calls)
+}
+
 /// `reader TEXT`: a source over a reader that gives all it has at once.
 fn of_reader(alloc: Global, text: &str, calls: &[String]) -> Result<String, OutOfMemory> {
     let mut source = StdSource::new(alloc, text.as_bytes())?;
@@ -72,6 +84,7 @@ fn of_rising(alloc: Global, words: &str, calls: &[String]) -> Result<String, Out
 pub fn answers(alloc: Global, source: &str, calls: &[String]) -> Result<String, OutOfMemory> {
     match cut(source) {
         ("memory", words) => of_memory(alloc, words, calls),
+        ("sure", words) => of_sure(alloc, words, calls),
         ("reader", text) => of_reader(alloc, text, calls),
         ("rising", words) => of_rising(alloc, words, calls),
         _ => Ok(String::from_str(alloc, "no source")?),

@@ -7,3 +7,4 @@ pub mod MemorySink
 pub mod MemoryLibrary
 pub mod MemoryLibraryParts
 pub mod StdForms
+pub mod SureForms

@@ -7,10 +7,12 @@
 //! above this crate can claim a fault that the outside did not have.
 //!
 //! It knows nothing of frames, messages or files' meaning. The memory forms hold all that they give and take, and
-//! refuse exactly the calls whose numbers they were made with; the `Std` forms stand over std's `Read` and `Write`.
+//! refuse exactly the calls whose numbers they were made with; the `Sure` forms refuse none; the `Std` forms stand over
+//! std's `Read` and `Write`, and `FolderLibrary` over its file system.
 #![tactic(auto)]
 
 mod fault;
+mod folder_library;
 mod interrupted;
 mod laws;
 mod library;
@@ -23,8 +25,12 @@ mod sink;
 mod source;
 mod std_sink;
 mod std_source;
+mod sure_library;
+mod sure_sink;
+mod sure_source;
 
 pub use fault::{Failed, LibraryFault};
+pub use folder_library::FolderLibrary;
 pub use laws::calls_join;
 pub use library::Library;
 pub use memory_library::{MemoryCall, MemoryFile, MemoryFolder, MemoryLibrary};
@@ -34,3 +40,6 @@ pub use sink::Sink;
 pub use source::Source;
 pub use std_sink::StdSink;
 pub use std_source::StdSource;
+pub use sure_library::SureLibrary;
+pub use sure_sink::SureSink;
+pub use sure_source::SureSource;

@@ -16,7 +16,7 @@ use Rattle.lsp_messages.specs.declared.parameters.Parameter.{Parameter}
 use Rattle.lsp_messages.specs.declared.parameters.ParameterFault.{ParameterFault}
 use Rattle.lsp_messages.specs.declared.parameters.ParameterFault.TheVariants.{Bad, OutOfMemory as no_room}
 use Rattle.lsp_messages.specs.Parameters.{name_of, ◌>>=◌}
-use Rattle.lsp_messages.specs.Shapes.{root_of, opened, changed, closed}
+use Rattle.lsp_messages.specs.Shapes.{root_of, opened, changed, closed, watched}
 
 -- ---- what a message says of itself
 
@@ -85,7 +85,8 @@ notification_of method message =
     (if bytes_eq method (codes "textDocument/didClose") then unless_bad (head_with method None) (closed message) else
     (if bytes_eq method (codes "textDocument/didSave") then Ok DidSave else
     (if bytes_eq method (codes "workspace/didChangeConfiguration") then Ok DidChangeConfiguration else
-    Err (UnknownMethod (head_with method None))))))))
+    (if bytes_eq method (codes "workspace/didChangeWatchedFiles") then unless_bad (head_with method None) (watched message) else
+    Err (UnknownMethod (head_with method None)))))))))
 
 -- the message of this method: a request where it has an id, else a notification
 abbrev pub message_named : List ℕ → Option Id → Data → Result LspIn Refusal

@@ -1,11 +1,12 @@
 -- The members of the parameters of messages (LSP 3.17), by name and kind. A member that is missing or of another kind
 -- is what a refusal names.
-use Rattle.std.specs.Prelude.{◌≡◌, ℕ, ◌^◌, List, [], ◌∷◌, Bool, nat_lt, codes, if◌then◌else◌, Option, Some, None, option_and_then, ok_or, Result, Ok, Err, ⊤}
+use Rattle.std.specs.Prelude.{◌≡◌, ℕ, ◌^◌, List, [], ◌∷◌, nat_eq, nat_lt, codes, if◌then◌else◌, Option, Some, None, option_and_then, ok_or, Result, Ok, Err, ⊤}
 use Rattle.serde_json.specs.Data.{Data}
-use Rattle.json_view.specs.declared.members.MemberFault.{MemberFault}
 use Rattle.json_view.specs.Members.{member_of, unless_missing, kept_if, as_object_value, as_u32}
+use Rattle.lsp_messages.specs.declared.incoming.ChangeKind.{ChangeKind}
+use Rattle.lsp_messages.specs.declared.incoming.ChangeKind.TheVariants.{Created, Changed, Deleted}
 use Rattle.lsp_messages.specs.declared.parameters.Parameter.{Parameter}
-use Rattle.lsp_messages.specs.declared.parameters.Parameter.TheVariants.{Params, RootUri, WorkspaceFolders, TextDocument, Uri, LanguageId, Version, Text, ContentChanges, Range, Start, End, Line, Character}
+use Rattle.lsp_messages.specs.declared.parameters.Parameter.TheVariants.{Params, RootUri, WorkspaceFolders, TextDocument, Uri, LanguageId, Version, Text, ContentChanges, Range, Start, End, Line, Character, Changes, ChangeType}
 use Rattle.lsp_messages.specs.declared.parameters.ParameterFault.{ParameterFault}
 use Rattle.lsp_messages.specs.declared.parameters.ParameterFault.TheVariants.{Bad, OutOfMemory}
 
@@ -25,6 +26,8 @@ name_of Start = codes "start"
 name_of End = codes "end"
 name_of Line = codes "line"
 name_of Character = codes "character"
+name_of Changes = codes "changes"
+name_of ChangeType = codes "type"
 
 -- what there is, or the parameter that there is not
 abbrev pub or_names : {A F : Type 0} → Parameter → Result A F → Result A Parameter
@@ -46,6 +49,18 @@ object_in list value = ok_or (as_object_value value) list
 -- a line or a character: a whole number from 0 to 2^31 - 1
 abbrev pub coordinate : Data → Option ℕ
 coordinate value = option_and_then (kept_if (λ n. nat_lt n (2 ^ 31))) (as_u32 value)
+
+-- what happened to a file, by its number
+abbrev pub kind_numbered : ℕ → Option ChangeKind
+kind_numbered number =
+    if nat_eq number 1 then Some Created else
+    (if nat_eq number 2 then Some Changed else
+    (if nat_eq number 3 then Some Deleted else
+    None))
+
+-- what happened to a file: a whole number from 1 to 3
+abbrev pub as_change_kind : Data → Option ChangeKind
+as_change_kind value = option_and_then kind_numbered (as_u32 value)
 
 -- what is read after something else was, or why that was not
 infixl 10 ◌>>=◌

@@ -6,11 +6,12 @@ use Rattle.serde_json.specs.Find.{get, as_null, as_str, as_array}
 use Rattle.json_view.specs.Members.{as_object_value, as_i32, list_of}
 use Rattle.hl_base.specs.declared.edit.Position.{Position}
 use Rattle.hl_base.specs.declared.edit.Edit.{Edit}
+use Rattle.lsp_messages.specs.declared.incoming.FileChange.{FileChange}
 use Rattle.lsp_messages.specs.declared.incoming.LspIn.{LspIn}
-use Rattle.lsp_messages.specs.declared.incoming.LspIn.TheVariants.{DidOpen, DidChange, DidClose}
+use Rattle.lsp_messages.specs.declared.incoming.LspIn.TheVariants.{DidOpen, DidChange, DidClose, DidChangeWatchedFiles}
 use Rattle.lsp_messages.specs.declared.parameters.Parameter.{Parameter}
-use Rattle.lsp_messages.specs.declared.parameters.Parameter.TheVariants.{Params, RootUri, WorkspaceFolders, TextDocument, Uri, LanguageId, Version, Text, ContentChanges, Range, Start, End, Line, Character}
-use Rattle.lsp_messages.specs.Parameters.{name_of, needed, optional, object_in, coordinate, ◌>>=◌, each, all}
+use Rattle.lsp_messages.specs.declared.parameters.Parameter.TheVariants.{Params, RootUri, WorkspaceFolders, TextDocument, Uri, LanguageId, Version, Text, ContentChanges, Range, Start, End, Line, Character, Changes, ChangeType}
+use Rattle.lsp_messages.specs.Parameters.{name_of, needed, optional, object_in, coordinate, as_change_kind, ◌>>=◌, each, all}
 use Rattle.file_uri.specs.Paths.{path_of}
 
 -- the parameters of a message; where there are none, an object without members
@@ -152,3 +153,25 @@ closed message = do
   document ← document_in message
   uri ← needed as_str Uri document
   Ok (DidClose (chars uri))
+
+-- ---- workspace/didChangeWatchedFiles (`DidChangeWatchedFilesParams`)
+
+-- one change of a file; its URI may be any text
+abbrev pub file_change_in : Data → Result FileChange Parameter
+file_change_in element = do
+  change ← object_in Changes element
+  uri ← needed as_str Uri change
+  kind ← needed as_change_kind ChangeType change
+  Ok (record { uri = chars uri; kind = kind })
+
+-- the changes of files in their order
+abbrev pub file_changes_in : Data → Result (List FileChange) Parameter
+file_changes_in params = do
+  changes ← needed as_array Changes params
+  each file_change_in (list_of changes)
+
+unfoldable pub watched : Data → Result LspIn Parameter
+watched message = do
+  params ← params_of message
+  changes ← file_changes_in params
+  Ok (DidChangeWatchedFiles changes)

@@ -1,8 +1,9 @@
 //! What is read: the messages of a client, and why a value is none.
-ghost use Rattle.std.specs.Prelude.{◌≡◌, IfOk};
+ghost use Rattle.std.specs.Prelude.{◌≡◌, List, [], ◌∷◌, ◌++◌, IfOk, OnOk, OnErr};
 
 use hl_base::{Edits, OutOfMemory, Text};
 use std::alloc::Global;
+use std::marker::Model;
 use thiserror::Error;
 
 /// What a request is known by (JSON-RPC 2.0, "Request object"). Ids of different kinds differ: `1` is not `"1"`.
@@ -31,8 +32,65 @@ pub struct Head {
     pub method: Text,
 }
 
-/// A message of the client (LSP 3.17, "Lifecycle Messages" and "Text Document Synchronization"). URIs and texts are as
-/// they came; `root` is the URI of the folder that the client works in.
+/// What happened to a file (LSP 3.17, `FileChangeType`): 1, 2 and 3.
+#[derive(Clone, Copy, Debug, PartialEq, Eq)]
+pub enum ChangeKind {
+    Created,
+    Changed,
+    Deleted,
+}
+
+/// A file that changed outside the editor (LSP 3.17, `FileEvent`). The URI is as it came; it need not name a file.
+#[derive(Debug, Drop)]
+pub struct FileChange {
+    pub uri: Text,
+    pub kind: ChangeKind,
+}
+
+/// Changes of files, in order. Contracts see the list.
+#[derive(Debug, Drop)]
+pub struct FileChanges {
+    changes: Vec<FileChange>,
+}
+
+impl Model for FileChanges {
+    ghost use Rattle.std.specs.Prelude.{List};
+    ghost use Rattle.lsp_messages.specs.declared.incoming.FileChange.{FileChange};
+
+    ghost Value = { List FileChange };
+
+    ghost view = { λ s. s.changes.items };
+}
+
+impl FileChanges {
+    /// No change.
+    pub fn new(alloc: Global) -> FileChanges
+        ensures { result ≡ [] }
+    {
+        FileChanges {
+            changes: Vec::new(alloc),
+        }
+    }
+
+    /// Adds a change behind those that are there. An `Err` changes nothing.
+    pub fn push(&mut self, change: FileChange) -> Result<(), OutOfMemory>
+        ensures ok { OnOk result (self.new ≡ self.old ++ change ∷ []) }
+        ensures err { OnErr result (self.new ≡ self.old) }
+    {
+        self.changes.push(change)?;
+        Ok(())
+    }
+
+    /// The changes in order.
+    pub fn as_slice(&self) -> &[FileChange]
+        ensures { result.now ≡ self.now }
+    {
+        self.changes.as_slice()
+    }
+}
+
+/// A message of the client (LSP 3.17, "Lifecycle Messages", "Text Document Synchronization" and "Workspace Features").
+/// URIs and texts are as they came; `root` is the URI of the folder that the client works in.
 #[derive(Drop)]
 pub enum LspIn {
     Initialize {
@@ -60,6 +118,9 @@ pub enum LspIn {
     },
     DidSave,
     DidChangeConfiguration,
+    DidChangeWatchedFiles {
+        changes: FileChanges,
+    },
 }
 
 /// Why a value is no message that is understood.

@@ -16,7 +16,7 @@ mod reading;
 mod shapes;
 mod writing;
 
-pub use incoming::{Head, Id, LspIn, Refusal};
+pub use incoming::{ChangeKind, FileChange, FileChanges, Head, Id, LspIn, Refusal};
 pub use outgoing::{Diagnostic, Diagnostics, LspOut, Relation, Relations, Span};
 pub use reading::{is_response, read_lsp};
 pub use writing::initialize_result;

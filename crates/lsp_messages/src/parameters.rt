@@ -3,8 +3,9 @@ ghost use Rattle.std.specs.Prelude.{◌≡◌, option_map};
 ghost use Rattle.serde_json.specs.Find.{as_str, as_array};
 ghost use Rattle.serde_json.specs.View.{view, items_view};
 ghost use Rattle.json_view.specs.Members.{shown, as_i32, as_object_value};
-ghost use Rattle.lsp_messages.specs.Parameters.{name_of, needed, optional, object_in, coordinate};
+ghost use Rattle.lsp_messages.specs.Parameters.{name_of, needed, optional, object_in, coordinate, as_change_kind};
 
+use crate::incoming::ChangeKind;
 use hl_base::OutOfMemory;
 use json_view::{need_int, need_list, need_object, need_text, need_uint, opt_object};
 use serde_json::Value;
@@ -26,6 +27,8 @@ pub enum Parameter {
     End,
     Line,
     Character,
+    Changes,
+    ChangeType,
 }
 
 impl Parameter {
@@ -48,6 +51,8 @@ impl Parameter {
             Parameter::End => "end",
             Parameter::Line => "line",
             Parameter::Character => "character",
+            Parameter::Changes => "changes",
+            Parameter::ChangeType => "type",
         }
     }
 }
@@ -120,6 +125,19 @@ pub fn list<'a>(value: &'a Value, parameter: Parameter) -> Result<&'a [Value], P
     ensures { shown (λ l. items_view l.now) result ≡ needed as_array parameter (view value.now) }
 {
     need_list(value, parameter.name()).map_err(|_| parameter)
+}
+
+/// What happened to a file, by its number.
+pub fn change_kind(value: &Value, parameter: Parameter) -> Result<ChangeKind, Parameter>
+    ensures { result ≡ needed as_change_kind parameter (view value.now) }
+{
+    let number = need_uint(value, parameter.name()).map_err(|_| parameter)?;
+    match number {
+        1 => Ok(ChangeKind::Created),
+        2 => Ok(ChangeKind::Changed),
+        3 => Ok(ChangeKind::Deleted),
+        _ => Err(parameter),
+    }
 }
 
 /// An element of the list of that name, which is to be an object.

@@ -10,7 +10,7 @@ ghost use Rattle.lsp_messages.specs.declared.parameters.Parameter.{Parameter};
 
 use crate::incoming::{Head, Id, LspIn, Refusal};
 use crate::parameters::{Parameter, ParameterFault};
-use crate::shapes::{changed, closed, opened, root};
+use crate::shapes::{changed, closed, opened, root, watched};
 use hl_base::{OutOfMemory, Text};
 use json_view::{MemberFault, need_int, need_text};
 use serde_json::Value;
@@ -111,6 +111,7 @@ fn notification(alloc: Global, method: &str, v: &Value) -> Result<LspIn, Refusal
         "textDocument/didClose" => unless_bad(alloc, method, closed(alloc, v)),
         "textDocument/didSave" => Ok(LspIn::DidSave),
         "workspace/didChangeConfiguration" => Ok(LspIn::DidChangeConfiguration),
+        "workspace/didChangeWatchedFiles" => unless_bad(alloc, method, watched(alloc, v)),
         _ => unknown_method(alloc, method, None),
     }
 }

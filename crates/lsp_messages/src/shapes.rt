@@ -5,11 +5,12 @@ ghost use Rattle.serde_json.specs.Find.{as_str, as_array};
 ghost use Rattle.serde_json.specs.View.{view, items_view};
 ghost use Rattle.json_view.specs.Members.{shown};
 ghost use Rattle.lsp_messages.specs.Parameters.{Answers, all, each};
-ghost use Rattle.lsp_messages.specs.Shapes.{params_of, document_in, is_null_at, given, checked_uri, folder_in, first_folder, root_among, own_root, folders_in, root_of, opened, place_in, place_at, edit_within, edit_in, edits_in, changed, closed};
+ghost use Rattle.lsp_messages.specs.Shapes.{params_of, document_in, is_null_at, given, checked_uri, folder_in, first_folder, root_among, own_root, folders_in, root_of, opened, place_in, place_at, edit_within, edit_in, edits_in, changed, closed, file_change_in, file_changes_in, watched};
 
-use crate::incoming::LspIn;
+use crate::incoming::{FileChange, FileChanges, LspIn};
 use crate::parameters::{
-    Parameter, ParameterFault, coordinate, element, list, object, object_if, text, whole,
+    Parameter, ParameterFault, change_kind, coordinate, element, list, object, object_if, text,
+    whole,
 };
 use file_uri::{UriFault, file_path};
 use hl_base::{Edit, Edits, Position, Text};
@@ -254,5 +255,43 @@ fn place(value: &Value) -> Result<Position, Parameter>
     Ok(Position {
         line: coordinate(value, Parameter::Line)?,
         character: coordinate(value, Parameter::Character)?,
+    })
+}
+
+/// Files that changed outside the editor.
+#[tactic(auto, unfolding(crate::specs::Shapes::watched))]
+pub fn watched(alloc: Global, message: &Value) -> Result<LspIn, ParameterFault>
+    ensures { Answers result (watched (view message.now)) }
+{
+    let none = Value::Object(Map::new(alloc));
+    let changes = file_changes(alloc, params(message, &none)?)?;
+    Ok(LspIn::DidChangeWatchedFiles { changes })
+}
+
+fn file_changes(alloc: Global, params: &Value) -> Result<FileChanges, ParameterFault>
+    ensures { Answers result (file_changes_in (view params.now)) }
+{
+    file_changes_of(alloc, list(params, Parameter::Changes)?)
+}
+
+fn file_changes_of(alloc: Global, elements: &[Value]) -> Result<FileChanges, ParameterFault>
+    ensures { Answers result (each file_change_in (map view elements.now)) }
+{
+    let mut changes = FileChanges::new(alloc);
+    for element in elements {
+        changes.push(file_change(alloc, element)?)?;
+    }
+    Ok(changes)
+}
+
+fn file_change(alloc: Global, value: &Value) -> Result<FileChange, ParameterFault>
+    ensures { Answers result (file_change_in (view value.now)) }
+{
+    let change = element(value, Parameter::Changes)?;
+    let uri = text(change, Parameter::Uri)?;
+    let kind = change_kind(change, Parameter::ChangeType)?;
+    Ok(FileChange {
+        uri: Text::of(alloc, uri)?,
+        kind,
     })
 }

@@ -13,7 +13,7 @@ use Rattle.macro_library.specs.Contents.{listed_in, written}
 use Rattle.macro_library.specs.Definitions.{is_open}
 use Rattle.macro_library.specs.Extents.{behind_definition, extent}
 use Rattle.asked_definitions.proofs.WrittenLaws.{bare_line, bare_lines, drop-bare, extent-bare, take-bare}
-use Rattle.macro_expand.specs.Passages.{Passage, Placed, copied_by, copied_in, is_labelled, label_in, nowhere, operands_in, origin_in, placed_from, statements_of}
+use Rattle.macro_expand.specs.Passages.{Passage, Placed, copied_by, copied_in, faults_in, is_labelled, label_in, nowhere, operands_in, origin_in, placed_from, statements_of}
 
 -- ---- elements
 
@@ -94,6 +94,16 @@ pub operands-there : (list : List Listed) (place : ℕ) (one : Listed) → slice
     option_map_or operands_in (slice_get (plain_lines (bare_lines list)) place) [] ≡ one.statement.operands
 operands-there list place one is =
     ap (λ (o : Option Listed). option_map_or operands_in o []) (line-bare list place ∙ ap (option_map bare_line) is)
+
+pub faults-there : (list : List Listed) (place : ℕ) (one : Listed) → slice_get (plain_lines list) place ≡ Some one →
+    option_map_or faults_in (slice_get (plain_lines (bare_lines list)) place) [] ≡ one.statement.faults
+faults-there list place one is =
+    ap (λ (o : Option Listed). option_map_or faults_in o []) (line-bare list place ∙ ap (option_map bare_line) is)
+
+pub no-faults : (list : List Listed) (place : ℕ) → slice_get (plain_lines list) place ≡ None →
+    option_map_or faults_in (slice_get (plain_lines (bare_lines list)) place) [] ≡ []
+no-faults list place is =
+    ap (λ (o : Option Listed). option_map_or faults_in o []) (line-bare list place ∙ ap (option_map bare_line) is)
 
 -- ---- statements of passages
 

@@ -1,28 +1,43 @@
 -- What is kept of a point, and the frames of a call (this project).
-use Rattle.std.specs.Prelude.{ℕ, List, [], ◌∷◌, ◌++◌, Option, Some, None, option_map}
+use Rattle.std.specs.Prelude.{ℕ, List, [], ◌∷◌, ◌++◌, map, Option, Some, None, option_map}
 use Rattle.hl_base.specs.declared.note.Note.{Note}
 use Rattle.hl_base.specs.declared.place.Frame.{Frame}
 use Rattle.note_rows.specs.Table.{noted}
 use Rattle.note_rows.specs.declared.row.Row.{Row}
-use Rattle.note_rows.specs.declared.row.Row.TheVariants.{NoSequenceSymbol, BranchLimit, NestedTooDeep}
+use Rattle.note_rows.specs.declared.row.Row.TheVariants as row
+use Rattle.hlasm_statements.specs.declared.fault.ColumnFault.{ColumnFault}
+use Rattle.hlasm_statements.specs.declared.fault.ColumnFault.TheVariants.{MarginText, SurplusLines, MissingLine}
 use Rattle.trace_values.specs.CallFrames.{frames_of}
 use Rattle.trace_values.specs.declared.item.TraceItem.{TraceItem}
 use Rattle.plain_expansion.specs.Language.{Level, Point, Fault, NoFault, NoLabel, NoBranchLeft, NoRoom}
-use Rattle.macro_expand.specs.Passages.{call_frames}
+use Rattle.macro_expand.specs.Passages.{Passage, call_frames, faults_at}
 use Rattle.macro_expand.specs.Acts.{words}
+
+-- what is reported of a fault of columns
+abbrev pub column_row : ColumnFault → Row
+column_row MarginText = row.MarginText
+column_row SurplusLines = row.SurplusLines
+column_row MissingLine = row.MissingLine
+
+abbrev pub column_note : ColumnFault → Note
+column_note fault = noted (column_row fault) []
+
+-- the column faults of the statement at a place, in the order of their codes
+abbrev pub column_notes : Passage → (place : ℕ) → List Note
+column_notes passage place = map column_note (faults_at passage place)
 
 -- what is reported of a fault, of a statement that may branch to this sequence symbol
 abbrev pub fault_row : Fault → (target : Option (List ℕ)) → Option Row
 fault_row NoFault target = None
-fault_row NoLabel target = option_map NoSequenceSymbol target
-fault_row NoBranchLeft target = Some BranchLimit
-fault_row NoRoom target = Some NestedTooDeep
+fault_row NoLabel target = option_map row.NoSequenceSymbol target
+fault_row NoBranchLeft target = Some row.BranchLimit
+fault_row NoRoom target = Some row.NestedTooDeep
 
 abbrev pub notes_of : Option Row → List Note
 notes_of None = []
 notes_of (Some row) = noted row [] ∷ []
 
--- a point, with the notes of its fault last
+-- a point, with the column faults of its statement first and the notes of its fault last
 abbrev pub item_of : Point words → TraceItem
 item_of point = record {
   frames = call_frames point.stack.here.listing point.stack.here.position;
@@ -33,7 +48,9 @@ item_of point = record {
   declared = point.said.declared;
   globals = point.said.globals;
   line = point.said.line;
-  notes = point.said.notes ++ notes_of (fault_row point.fault point.said.target);
+  notes =
+      column_notes point.stack.here.listing point.stack.here.position
+      ++ (point.said.notes ++ notes_of (fault_row point.fault point.said.target));
 }
 
 -- the frames of a call, outermost first, where its lists stand at these statements, innermost first: the innermost list has

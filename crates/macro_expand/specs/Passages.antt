@@ -6,6 +6,7 @@ use Rattle.hl_base.specs.declared.place.Frame.{Frame}
 use Rattle.hl_base.specs.declared.place.FrameKind.{FrameKind}
 use Rattle.hl_base.specs.declared.place.FrameKind.TheVariants as kind
 use Rattle.hl_base.specs.declared.place.Origin.{Origin}
+use Rattle.hlasm_statements.specs.declared.fault.ColumnFault.{ColumnFault}
 use Rattle.hlasm_statements.specs.Statements.{statements_of as statements_in}
 use Rattle.statement_listing.specs.Listings.{Element, Listed, elements, has_label, listing_of, plain_lines}
 use Rattle.trace_values.specs.CallFrames.{CallFrames, at_statement, frames_of}
@@ -80,12 +81,15 @@ statements_of passage = placed_from passage 0 (elements (lines_of passage))
 abbrev pub is_labelled : Placed → List ℕ → Bool
 is_labelled s name = has_label s.element name
 
--- the texts of its name entry and of its operand field
+-- the texts of its name entry and of its operand field, and the faults of its columns
 abbrev pub label_in : Listed → List ℕ
 label_in one = one.statement.label
 
 abbrev pub operands_in : Listed → List ℕ
 operands_in one = one.statement.operands
+
+abbrev pub faults_in : Listed → List ColumnFault
+faults_in one = one.statement.faults
 
 abbrev pub line_at : Passage → (place : ℕ) → Option Listed
 line_at passage place = slice_get (plain_lines (lines_of passage)) place
@@ -95,6 +99,9 @@ label_at passage place = option_map_or label_in (line_at passage place) []
 
 abbrev pub operands_at : Passage → (place : ℕ) → List ℕ
 operands_at passage place = option_map_or operands_in (line_at passage place) []
+
+abbrev pub faults_at : Passage → (place : ℕ) → List ColumnFault
+faults_at passage place = option_map_or faults_in (line_at passage place) []
 
 -- ---- copied members
 

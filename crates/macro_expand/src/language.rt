@@ -9,6 +9,7 @@ ghost use Rattle.macro_expand.specs.Items.{fault_row, notes_of};
 ghost use Rattle.macro_expand.specs.Language.{hlasm, parm_in};
 ghost use Rattle.macro_expand.specs.Codes.{reading};
 
+use crate::columns::with_columns;
 use crate::passage::passage_of;
 use crate::performing::performed;
 use crate::{Passage, Said};
@@ -206,6 +207,7 @@ impl CodedLanguage for HlasmLanguage {
         } = said;
         let row = fault_row(fault, &target);
         let notes = with_fault(alloc, notes, row)?;
+        let notes = with_columns(alloc, &stack.here.listing, stack.here.position, notes)?;
         let frames = stack.here.listing.frames_at(stack.here.position)?;
         Ok(TraceItem {
             frames,

@@ -6,8 +6,9 @@
 //! is a deed of `call_knowledge`. MACRO gives an operation its definition (`asked_definitions`), and processing goes on behind
 //! it; an operation that is not built in calls the macro of its name, or of the member of that name, with what its operands
 //! come to (`macro_operands`); the macro's system variables and parameters are known from its entry on (`macro_entry`); COPY
-//! goes through a member within the call of its statement, and MEXIT and MEND end the call. Notes are those of the statement,
-//! those of what it does, and that of a branch that finds no sequence symbol or is one too many, or of depth.
+//! goes through a member within the call of its statement, and MEXIT and MEND end the call. Notes are the column faults of the
+//! statement, those of its fields, those of what it does, and that of a branch that finds no sequence symbol or is one too many,
+//! or of depth.
 //!
 //! It knows nothing of where answers live, of what is kept of earlier expansions and of what is made of the points. It follows
 //! the HLASM Language Reference SC26-4940, "Conditional assembly language", "Macro language", "COPY instruction".
@@ -15,6 +16,7 @@
 
 mod acting;
 mod calls;
+mod columns;
 mod copies;
 mod definitions;
 mod language;
@@ -23,6 +25,7 @@ mod passage;
 mod performing;
 mod said;
 
+pub use columns::column_row;
 pub use language::{Expander, HlasmLanguage};
 pub use laws::effects_are_those_of_statements;
 pub use passage::Passage;

@@ -159,11 +159,10 @@ impl Passage {
             name: Some(name.copy()),
             origin: NOWHERE,
         };
-        let statements = read_statements(alloc, file.text())?;
         Ok(Passage {
             frames: OwnFrames::of(alloc, outer, frame)?,
             definition: self.definition,
-            listing: Listing::of(alloc, file.path(), statements)?,
+            listing: file.list().share()?,
         })
     }
 }

@@ -3,6 +3,7 @@ use Rattle.std.specs.Prelude.{ℕ, List, [], ◌∷◌, ◌++◌, find, is_some,
 use Rattle.std.specs.Str.{bytes_eq}
 use Rattle.hlasm_statements.specs.Statements.{statements_of}
 use Rattle.statement_listing.specs.Listings.{Listed, listing_of}
+use Rattle.macro_library.specs.Files as files
 use Rattle.macro_library.specs.declared.member.Member.{Member}
 use Rattle.macro_library.specs.declared.member.Member.TheVariants.{File}
 
@@ -18,9 +19,13 @@ member_in told = told.member
 abbrev pub member_of : List Told → List ℕ → Option Member
 member_of members name = option_map member_in (find (λ (told : Told). bytes_eq name told.name) members)
 
+-- the statements of a file
+abbrev pub statements_in : files.File → List Listed
+statements_in file = listing_of file.path (statements_of file.text)
+
 -- the statements of a member, where it has a text
 abbrev pub lines_of : Member → List Listed
-lines_of (File file) = listing_of file.path (statements_of file.text)
+lines_of (File file) = statements_in file
 lines_of other = []
 
 -- members, and one more of which nothing was told yet; a member of which something was told stays as it was told

@@ -124,14 +124,14 @@ impl Copying {
         if self.is_copying(&name) {
             return Err(DefFault::CopyCycle(name));
         }
-        let Some(held) = members.held(&name) else {
+        let Some(member) = members.get(&name) else {
             return Err(DefFault::Asks(name));
         };
-        match held.member() {
+        match member {
             Member::Absent => Err(DefFault::CopyAbsent(name)),
             Member::Unreadable => Err(DefFault::CopyUnreadable(name)),
-            Member::File(_) => {
-                self.enter(alloc, &name, held.lines())?;
+            Member::File(file) => {
+                self.enter(alloc, &name, file.list().lines())?;
                 Ok(())
             }
         }

@@ -1,7 +1,7 @@
 //! What is read, in words.
 use crate::json::{no_json, value};
 use hl_base::{Edit, OutOfMemory, Position, Text};
-use lsp_messages::{Head, Id, LspIn, Refusal, is_response, read_lsp};
+use lsp_messages::{ChangeKind, FileChange, Head, Id, LspIn, Refusal, is_response, read_lsp};
 use std::alloc::{AllocError, Global};
 
 /// An id in words: a text in quotes.
@@ -83,6 +83,23 @@ fn open(
     format!(in alloc; "open {uri} {language} {version} '{text}'")
 }
 
+fn file_change(alloc: Global, change: &FileChange) -> Result<String, AllocError> {
+    let kind = match change.kind {
+        ChangeKind::Created => "created",
+        ChangeKind::Changed => "changed",
+        ChangeKind::Deleted => "deleted",
+    };
+    format!(in alloc; " {kind}'{}'", change.uri.as_str())
+}
+
+fn watched(alloc: Global, changes: &[FileChange]) -> Result<String, AllocError> {
+    let mut words = String::from_str(alloc, "watched")?;
+    for one in changes {
+        words.push_str(file_change(alloc, one)?.as_str())?;
+    }
+    Ok(words)
+}
+
 /// A message in words.
 fn message(alloc: Global, message: &LspIn) -> Result<String, AllocError> {
     match message {
@@ -104,6 +121,7 @@ fn message(alloc: Global, message: &LspIn) -> Result<String, AllocError> {
         LspIn::DidClose { uri } => format!(in alloc; "close {}", uri.as_str()),
         LspIn::DidSave => String::from_str(alloc, "save"),
         LspIn::DidChangeConfiguration => String::from_str(alloc, "configuration"),
+        LspIn::DidChangeWatchedFiles { changes } => watched(alloc, changes.as_slice()),
     }
 }
 

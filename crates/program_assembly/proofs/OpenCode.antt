@@ -13,6 +13,7 @@ use Rattle.plain_expansion.specs.Expansion.{expansion}
 use Rattle.plain_expansion.specs.Laws.{Gives}
 use Rattle.call_sites.specs.Calls.{Call, open_code, open_code_tree, call_of, text_in}
 use Rattle.call_sites.specs.Rules.{rebased}
+use Rattle.text_pool.specs.Members.{Member}
 use Rattle.program_world.specs.World.{ProgramState, program_world, first_world}
 use Rattle.macro_expand.specs.Language.{hlasm}
 use Rattle.program_assembly.specs.declared.assembly.Assembly.{Assembly}
@@ -40,16 +41,16 @@ GivesExpansions = (call : Call) (s : ProgramState) (fuel depth : ℕ) (run : Run
 ran_as : (one other : Ran) → one.points ≡ other.points → one.ended ≡ other.ended → one.unpaid ≡ other.unpaid → one ≡ other
 ran_as one other points_is ended_is unpaid_is = λ i. record { points = points_is i; ended = ended_is i; unpaid = unpaid_is i }
 
-module _ (runs : GivesExpansions) (path : ℕ) (text parm : List ℕ) (budget : ℕ) (nodes : List (Node TraceItem)) (root : NodeId) (notes : List Note)
-    (is : IsReport open_code_machine rebased call_of (λ item. item) (λ frames. frames) path text parm budget nodes root notes) where
+module _ (runs : GivesExpansions) (path : ℕ) (text parm : List ℕ) (members : List ℕ → Member) (budget : ℕ) (nodes : List (Node TraceItem)) (root : NodeId) (notes : List Note)
+    (is : IsReport open_code_machine rebased call_of (λ item. item) (λ frames. frames) path text parm members budget nodes root notes) where
   abbrev s : ProgramState
-  s = first_world parm
+  s = first_world parm members
 
   abbrev ran_at : Call → Ran
   ran_at c = let x = expansion hlasm program_world c s budget 0 in record { points = x.points; ended = x.ended; unpaid = x.unpaid }
 
   -- the run is the plain expansion's
-  ran_is : ran_of nodes is.outcome ≡ open_code_run path text parm budget
+  ran_is : ran_of nodes is.outcome ≡ open_code_run path text parm members budget
   ran_is = ∥∥₁_elim is.comes.comes (hlevel props) (λ comes.
       let call = call_of (open_code_tree path text) in
       let e = expansion hlasm program_world call s budget 0 in
@@ -65,22 +66,22 @@ module _ (runs : GivesExpansions) (path : ℕ) (text parm : List ℕ) (budget : 
       ran ∙ ap ran_at (call_is path text))
 
   -- so the root has its points, and the notes are those of it
-  pub root_points : points nodes root.0 ≡ (open_code_run path text parm budget).points
+  pub root_points : points nodes root.0 ≡ (open_code_run path text parm members budget).points
   root_points = ap (λ (n : NodeId). points nodes n.0) is.root_is ∙ ap (λ (r : Ran). r.points) ran_is
 
-  pub report_is_plain : notes ≡ assembly_notes path text parm budget
+  pub report_is_plain : notes ≡ assembly_notes path text parm members budget
   unfolding assembly_notes
   report_is_plain = is.notes_are ∙ ap (notes_of path text) ran_is
 
-module _ (runs : GivesExpansions) (path : ℕ) (text parm : List ℕ) (budget : ℕ) (nodes : List (Node TraceItem)) (a : Assembly)
-    (is : IsAssembly open_code_machine rebased call_of (λ item. item) (λ frames. frames) path text parm budget nodes a) where
-  pub assembly_is_plain : IsPlain path text parm budget nodes a
+module _ (runs : GivesExpansions) (path : ℕ) (text parm : List ℕ) (members : List ℕ → Member) (budget : ℕ) (nodes : List (Node TraceItem)) (a : Assembly)
+    (is : IsAssembly open_code_machine rebased call_of (λ item. item) (λ frames. frames) path text parm members budget nodes a) where
+  pub assembly_is_plain : IsPlain path text parm members budget nodes a
   assembly_is_plain =
-      let points_is = root_points runs path text parm budget nodes a.root a.notes is.reported in
+      let points_is = root_points runs path text parm members budget nodes a.root a.notes is.reported in
       record {
         points_are = points_is;
         count_is = is.points_are ∙ ap length points_is;
-        notes_are = report_is_plain runs path text parm budget nodes a.root a.notes is.reported;
+        notes_are = report_is_plain runs path text parm members budget nodes a.root a.notes is.reported;
         globals_are = is.globals_are ∙ ap (λ (ps : List (Point TraceItem)). globals_after (map (λ p. p.item) ps)) points_is;
         touched_are = subst (λ (ps : List (Point TraceItem)). AreTouched ps a.touched) points_is is.touched_are;
       }

@@ -6,9 +6,9 @@ use Rattle.hl_base.specs.declared.note.Note.{Note}
 use Rattle.hl_base.specs.declared.place.Frame.{Frame}
 use Rattle.hl_base.specs.declared.place.FrameKind.TheVariants.{OpenCode}
 use Rattle.hlasm_statements.specs.declared.fault.ColumnFault.{ColumnFault}
-use Rattle.hlasm_statements.specs.declared.fault.ColumnFault.TheVariants.{MarginText, SurplusLines, MissingLine}
 use Rattle.hlasm_statements.specs.declared.statement.Statement.{Statement}
 use Rattle.hlasm_statements.specs.Statements.{statements_of}
+use Rattle.macro_expand.specs.Items.{column_row}
 use Rattle.note_rows.specs.Table.{noted}
 use Rattle.note_rows.specs.declared.row.Row.{Row}
 use Rattle.note_rows.specs.declared.row.Row.TheVariants as row
@@ -21,15 +21,9 @@ open_code_at path line = record { kind = OpenCode; name = None; origin = record 
 abbrev pub note_at : (path line : ℕ) → Row → Note
 note_at path line row = noted row (open_code_at path line ∷ [])
 
--- the row of a column fault
-abbrev pub row_of_fault : ColumnFault → Row
-row_of_fault MarginText = row.MarginText
-row_of_fault SurplusLines = row.SurplusLines
-row_of_fault MissingLine = row.MissingLine
-
 -- a column fault of the statement that begins in this line
 abbrev pub fault_note : (path line : ℕ) → ColumnFault → Note
-fault_note path line fault = note_at path line (row_of_fault fault)
+fault_note path line fault = note_at path line (column_row fault)
 
 -- the column faults of a statement, in the order of their codes
 abbrev pub fault_notes : (path : ℕ) → Statement → List Note

@@ -50,6 +50,7 @@ end_notes_by ByLeave missing ran = if ends_limited ran.points then [] else missi
 abbrev pub end_notes : (path : ℕ) (text : List ℕ) → Ran → List Note
 end_notes path text ran = end_notes_by ran.ended (missing_end path text) ran
 
--- the notes: the column faults of the program's text, those of each point, in turn, and that of the end
+-- the notes: the column faults of the program's text, those of each point, in turn, and that of the end. A column fault of a
+-- member is noted at each point of its statement
 abbrev pub notes_of : (path : ℕ) (text : List ℕ) → Ran → List Note
-notes_of path text ran = column_notes path text ++ (flat_map point_notes ran.points ++ end_notes path text ran)
+notes_of path text ran = column_notes path text ++ (flat_map (point_notes path) ran.points ++ end_notes path text ran)

@@ -77,7 +77,7 @@ impl<
         requires writable { M.writable ≡ is_writable }
         requires rebased { M.rebased ≡ rebased }
         ensures assembly { IfOk result (λ a. IsAssembly M.model M.rebased M.call_of M.item_of M.frames_of
-            path.0 (text_of (P.texts present.now) text.0) (chars parm.now) budget self.new.nodes a) }
+            path.0 (text_of (P.texts present.now) text.0) (chars parm.now) (P.members present.now) budget self.new.nodes a) }
         ensures handed { IfOk result (λ a. IsHandedOut self.old.nodes self.new.nodes a.root.0) }
     {
         let Assembler {

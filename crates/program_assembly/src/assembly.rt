@@ -42,6 +42,7 @@ pub struct Assembly {
 /// Assembles the program of a path and a text, as `assemble` does.
 fn assemble_text<
     M: AskMachine<Key = Key, Value = Known, Call = CallSite, Item = TraceItem, Frames = Frames>,
+    P: Present,
     L: Ledger,
 >(
     machine: &M,
@@ -49,6 +50,7 @@ fn assemble_text<
     path: PathId,
     text: &RcStr,
     parm: &str,
+    present: &P,
     memo: &mut Memo<M>,
     arena: &mut TraceArena<TraceItem>,
     budget: u32,
@@ -59,12 +61,14 @@ fn assemble_text<
     requires rebased { M.rebased ≡ rebased }
     requires stand { AllStand M.model M.rebased M.call_of M.item_of arena.old.nodes memo.old }
     ensures assembly { IfOk result (λ a. IsAssembly M.model M.rebased M.call_of M.item_of M.frames_of
-        path.0 (chars (rc_str_bytes text.now)) (chars parm.now) budget arena.new.nodes a) }
+        path.0 (chars (rc_str_bytes text.now)) (chars parm.now) (P.members present.now) budget arena.new.nodes a) }
     ensures handed { IfOk result (λ a. IsHandedOut arena.old.nodes arena.new.nodes a.root.0) }
     ensures stand { OnOk result (AllStand M.model M.rebased M.call_of M.item_of arena.new.nodes memo.new) }
     ensures still_kept { OnOk result ((i : ℕ) (o : KeptOutcome) → kept_at memo.old i ≡ Some o → kept_at memo.new i ≡ Some o) }
 {
-    let report = report_of(machine, alloc, path, text, parm, memo, arena, budget, steps)?;
+    let report = report_of(
+        machine, alloc, path, text, parm, present, memo, arena, budget, steps,
+    )?;
     let Report { root, notes } = report;
     Ok(Assembly {
         root,
@@ -75,8 +79,8 @@ fn assemble_text<
     })
 }
 
-/// Assembles the program of a path and a text, with this SYSPARM and budget, by a machine whose rules on keys are those of
-/// `call_sites`. Its caller is one more owner of the root.
+/// Assembles the program of a path and a text, with this SYSPARM, these members and this budget, by a machine whose rules on
+/// keys are those of `call_sites`. Its caller is one more owner of the root.
 ///
 /// After an `Err` nothing is known of the arena and of what is kept: both are to be given up.
 pub fn assemble<
@@ -101,13 +105,13 @@ pub fn assemble<
     requires rebased { M.rebased ≡ rebased }
     requires stand { AllStand M.model M.rebased M.call_of M.item_of arena.old.nodes memo.old }
     ensures assembly { IfOk result (λ a. IsAssembly M.model M.rebased M.call_of M.item_of M.frames_of
-        path.0 (text_of (P.texts present.now) text.0) (chars parm.now) budget arena.new.nodes a) }
+        path.0 (text_of (P.texts present.now) text.0) (chars parm.now) (P.members present.now) budget arena.new.nodes a) }
     ensures handed { IfOk result (λ a. IsHandedOut arena.old.nodes arena.new.nodes a.root.0) }
     ensures stand { OnOk result (AllStand M.model M.rebased M.call_of M.item_of arena.new.nodes memo.new) }
     ensures still_kept { OnOk result ((i : ℕ) (o : KeptOutcome) → kept_at memo.old i ≡ Some o → kept_at memo.new i ≡ Some o) }
 {
     let text = present.pool().shared(alloc, text)?;
     assemble_text(
-        machine, alloc, path, &text, parm, memo, arena, budget, steps,
+        machine, alloc, path, &text, parm, present, memo, arena, budget, steps,
     )
 }

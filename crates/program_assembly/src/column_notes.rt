@@ -2,23 +2,13 @@
 ghost use Rattle.std.specs.Prelude.{◌≡◌, ◌++◌, ◌-◌, ◌<◌, ℕ, IfOk, OnOk};
 ghost use Rattle.std.specs.List.{flat_map};
 ghost use Rattle.hlasm_statements.specs.Laws.{FollowOn};
-ghost use Rattle.program_assembly.specs.ColumnNotes.{open_code_at, note_at, row_of_fault, fault_notes};
+ghost use Rattle.program_assembly.specs.ColumnNotes.{open_code_at, note_at, fault_notes};
 
 use hl_base::{Frame, FrameKind, Frames, Note, Notes, Origin, OutOfMemory, PathId};
-use hlasm_statements::{ColumnFault, Statement};
+use hlasm_statements::Statement;
+use macro_expand::column_row;
 use note_rows::{Row, note};
 use std::alloc::Global;
-
-/// The row of a column fault.
-fn row_of_fault(fault: ColumnFault) -> Row
-    ensures { result ≡ row_of_fault fault }
-{
-    match fault {
-        ColumnFault::MarginText => Row::MarginText,
-        ColumnFault::SurplusLines => Row::SurplusLines,
-        ColumnFault::MissingLine => Row::MissingLine,
-    }
-}
 
 /// A note of the statement of open code that begins in a line of the program, counted from 0.
 pub(crate) fn note_at(
@@ -48,7 +38,7 @@ fn add_faults(
     ensures { OnOk result (notes.new ≡ notes.old ++ fault_notes path.0 statement.now) }
 {
     for fault in statement.faults.as_slice() {
-        let note = note_at(alloc, path, statement.first, &row_of_fault(*fault))?;
+        let note = note_at(alloc, path, statement.first, &column_row(*fault))?;
         notes.push(note)?;
     }
     Ok(())

@@ -30,7 +30,7 @@ pub(crate) fn notes_of(
     let statements = statements.as_slice();
     let mut notes = Notes::new(alloc);
     add_column_notes(alloc, path, statements, &mut notes)?;
-    add_point_notes(alloc, arena, outcome.node, &mut notes)?;
+    add_point_notes(alloc, path, arena, outcome.node, &mut notes)?;
     add_end_notes(
         alloc,
         path,

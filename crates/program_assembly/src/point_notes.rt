@@ -5,11 +5,12 @@ ghost use Rattle.std.specs.List.{flat_map};
 ghost use Rattle.trace_arena.specs.Nodes.{IsLive};
 ghost use Rattle.trace_arena.specs.Points.{points};
 ghost use Rattle.trace_variables.specs.Calls.{AreThere};
-ghost use Rattle.program_assembly.specs.PointNotes.{at_stack, point_notes, notes_at, stack_at};
-ghost use Rattle.program_assembly.specs.Stacks.{frames_there};
+ghost use Rattle.program_assembly.specs.PointNotes.{at_stack, is_of_columns, point_notes, notes_at, stack_at, stands_in};
+ghost use Rattle.program_assembly.specs.Stacks.{frames_there, other_at};
 
 use crate::places::item_at;
-use hl_base::{Frames, Note, Notes, OutOfMemory};
+use hl_base::{Frames, Note, Notes, OutOfMemory, PathId};
+use hlasm_statements::ColumnFault;
 use std::alloc::Global;
 use trace_arena::{NodeId, TraceArena, arena_is_whole};
 use trace_cursor::{Cursor, ItemPlace, path};
@@ -59,6 +60,22 @@ fn stack_at(
     frames_there(alloc, arena, places.as_slice())
 }
 
+/// Whether a note is that of a column fault.
+fn is_of_columns(note: &Note) -> bool
+    ensures { result ≡ is_of_columns note.now }
+{
+    note.code == ColumnFault::MarginText.code()
+        || note.code == ColumnFault::SurplusLines.code()
+        || note.code == ColumnFault::MissingLine.code()
+}
+
+/// Whether the statement of an item stands in the text of a path.
+fn stands_in(path: PathId, item: &TraceItem) -> bool
+    ensures { result ≡ stands_in path.0 item.now }
+{
+    item.frames.origin().path.0 == path.0
+}
+
 /// Adds notes, each at this stack.
 fn add_at_stack(
     alloc: Global,
@@ -74,9 +91,40 @@ fn add_at_stack(
     Ok(())
 }
 
-/// Adds the notes of the point of a number, whose item this is.
+/// Adds a note at this stack, unless it is that of a column fault.
+fn add_other(
+    alloc: Global,
+    note: &Note,
+    stack: &Frames,
+    notes: &mut Notes,
+) -> Result<(), OutOfMemory>
+    ensures { OnOk result (notes.new ≡ notes.old ++ other_at stack.now note.now) }
+{
+    if is_of_columns(note) {
+        return Ok(());
+    }
+    notes.push(at_stack(alloc, note, stack)?)
+}
+
+/// Adds those of these notes that are of no column fault, each at this stack.
+fn add_others_at_stack(
+    alloc: Global,
+    said: &[Note],
+    stack: &Frames,
+    notes: &mut Notes,
+) -> Result<(), OutOfMemory>
+    ensures { OnOk result (notes.new ≡ notes.old ++ flat_map (other_at stack.now) said.now) }
+{
+    for note in said {
+        add_other(alloc, note, stack, notes)?;
+    }
+    Ok(())
+}
+
+/// Adds the notes of the point of a number, whose item this is, of the program of a path.
 fn add_notes_of(
     alloc: Global,
+    path: PathId,
     arena: &TraceArena<TraceItem>,
     root: NodeId,
     index: u32,
@@ -85,31 +133,35 @@ fn add_notes_of(
 ) -> Result<(), OutOfMemory>
     requires live { IsLive arena.now.nodes root.0 }
     requires there { option_map (λ point. point.item) (slice_get (points arena.now.nodes root.0) index) ≡ Some item.now }
-    ensures { OnOk result (notes.new ≡ notes.old ++ option_map_or point_notes (slice_get (points arena.now.nodes root.0) index) []) }
+    ensures { OnOk result (notes.new ≡ notes.old ++ option_map_or (point_notes path.0) (slice_get (points arena.now.nodes root.0) index) []) }
 {
     let said = item.notes.as_slice();
     if said.is_empty() {
         return Ok(());
     }
     let stack = stack_at(alloc, arena, root, index)?;
+    if stands_in(path, item) {
+        return add_others_at_stack(alloc, said, &stack, notes);
+    }
     add_at_stack(alloc, said, &stack, notes)
 }
 
-/// Adds the notes of each point of a root, in turn.
+/// Adds the notes of each point of a root, in turn, of the program of a path.
 pub(crate) fn add_point_notes(
     alloc: Global,
+    path: PathId,
     arena: &TraceArena<TraceItem>,
     root: NodeId,
     notes: &mut Notes,
 ) -> Result<(), OutOfMemory>
     requires live { IsLive arena.now.nodes root.0 }
-    ensures { OnOk result (notes.new ≡ notes.old ++ flat_map point_notes (points arena.now.nodes root.0)) }
+    ensures { OnOk result (notes.new ≡ notes.old ++ flat_map (point_notes path.0) (points arena.now.nodes root.0)) }
 {
     let Some(mut cursor) = Cursor::at(arena, root, 0) else {
         return Ok(());
     };
     for index in 0..arena.points(root) {
-        add_notes_of(alloc, arena, root, index, cursor.item(arena), notes)?;
+        add_notes_of(alloc, path, arena, root, index, cursor.item(arena), notes)?;
         let _ = cursor.advance(arena);
     }
     Ok(())

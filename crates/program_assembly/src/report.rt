@@ -15,6 +15,7 @@ use hl_base::{Frames, Key, Ledger, Notes, OutOfMemory, PathId, Steps};
 use program_world::{ProgramWorld, the_world_fits};
 use std::alloc::Global;
 use std::rc::RcStr;
+use text_pool::Present;
 use trace_arena::{NodeId, TraceArena};
 use trace_values::TraceItem;
 
@@ -28,6 +29,7 @@ pub(crate) struct Report {
 /// Runs the open code of a path and a text, as `assemble` does, and reports of it.
 pub(crate) fn report_of<
     M: AskMachine<Key = Key, Value = Known, Call = CallSite, Item = TraceItem, Frames = Frames>,
+    P: Present,
     L: Ledger,
 >(
     machine: &M,
@@ -35,6 +37,7 @@ pub(crate) fn report_of<
     path: PathId,
     text: &RcStr,
     parm: &str,
+    present: &P,
     memo: &mut Memo<M>,
     arena: &mut TraceArena<TraceItem>,
     budget: u32,
@@ -45,14 +48,14 @@ pub(crate) fn report_of<
     requires rebased { M.rebased ≡ rebased }
     requires stand { AllStand M.model M.rebased M.call_of M.item_of arena.old.nodes memo.old }
     ensures report { IfOk result (λ r. IsReport M.model M.rebased M.call_of M.item_of M.frames_of
-        path.0 (chars (rc_str_bytes text.now)) (chars parm.now) budget arena.new.nodes r.root r.notes) }
+        path.0 (chars (rc_str_bytes text.now)) (chars parm.now) (P.members present.now) budget arena.new.nodes r.root r.notes) }
     ensures handed { IfOk result (λ r. IsHandedOut arena.old.nodes arena.new.nodes r.root.0) }
     ensures stand { OnOk result (AllStand M.model M.rebased M.call_of M.item_of arena.new.nodes memo.new) }
     ensures still_kept { OnOk result ((i : ℕ) (o : KeptOutcome) → kept_at memo.old i ≡ Some o → kept_at memo.new i ≡ Some o) }
 {
     the_world_fits();
     let call = CallSite::OpenCode(path, text.clone()?);
-    let mut world = ProgramWorld::new(alloc, parm)?;
+    let mut world = ProgramWorld::new(alloc, parm, present)?;
     let outcome = memo.expand(machine, alloc, &call, &mut world, budget, 0, arena, steps)?;
     Ok(Report {
         root: outcome.node,

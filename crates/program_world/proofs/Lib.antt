@@ -1,3 +1,4 @@
 pub mod BitLaws
 pub mod WorldLaws
 pub mod PairLaws
+mod MemberLaws

@@ -10,7 +10,7 @@ use Rattle.asking_core.specs.Worlds.{Fits}
 use Rattle.asking_core.specs.Counters.{Round, round, Counted}
 use Rattle.asking_core.proofs.CounterLaws.{counters_fit}
 use Rattle.call_sites.specs.Rules.{is_moving, is_writable, number_tree, taken_back, rebased}
-use Rattle.program_world.specs.World.{ProgramState, program_answer, program_world, with_put}
+use Rattle.program_world.specs.World.{ProgramState, is_member, member_answer, program_answer, program_world, with_put}
 use Rattle.program_world.proofs.BitLaws.{taken_back-more, taken_back_once}
 
 -- counters that go round
@@ -35,6 +35,10 @@ one_less d = ap depth_in (counters_fit.leave_enter (both_counters d))
 below : (c : Round) → c.number < 4294967296
 below c = ltb-true c.number 4294967296 c.small
 
+-- an answer to a key that nobody may put
+abbrev looked_for : ProgramState → Tree → Tree
+looked_for s key = cond (is_member key) (member_answer s.members key) (answer_tree answer.Nothing)
+
 -- an answer by what was put for its key
 abbrev answered : Option Tree → ProgramState → Tree → Tree
 answered put s (Leaf kind) =
@@ -42,7 +46,7 @@ answered put s (Leaf kind) =
     (cond (6 == kind) (number_tree s.depth.number)
     (cond (7 == kind) (answer_tree (answer.Chars s.parm))
     (cond (8 == kind) (number_tree s.calls.number) (answer_tree answer.Nothing))))
-answered put s (Fork kind named) = cond (is_writable (Fork kind named)) (unwrap_or put (answer_tree answer.Nothing)) (answer_tree answer.Nothing)
+answered put s (Fork kind named) = cond (is_writable (Fork kind named)) (unwrap_or put (answer_tree answer.Nothing)) (looked_for s (Fork kind named))
 
 answer-answered : (s : ProgramState) (key : Tree) → program_answer s key ≡ answered (s.put key) s key
 answer-answered s (Leaf kind) = refl
@@ -59,7 +63,7 @@ put_same s (Leaf kind) value w =
 put_same s (Fork kind named) value w =
     let key = Fork kind named in
     let nothing = answer_tree answer.Nothing in
-    ap (λ t. cond t (unwrap_or (with_put s.put key value key) nothing) nothing) w
+    ap (λ t. cond t (unwrap_or (with_put s.put key value key) nothing) (looked_for s key)) w
     ∙ ap (λ t. unwrap_or (cond t (Some value) (s.put key)) nothing) (same_tree-same key)
 
 -- and no other answer changes

@@ -1,3 +1,4 @@
 pub mod World
 pub mod Puts
+pub mod Found
 pub mod States

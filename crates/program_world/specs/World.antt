@@ -1,5 +1,5 @@
 -- The world of a program: what is answered to each key, and what each event makes of it. This project.
-use Rattle.std.specs.Prelude.{ℕ, ◌+◌, ◌==◌, List, [], Option, Some, None, unwrap_or, if◌then◌else◌}
+use Rattle.std.specs.Prelude.{ℕ, ◌+◌, ◌==◌, Bool, false, List, [], Option, Some, None, unwrap_or, if◌then◌else◌}
 use Rattle.hl_base.specs.declared.set.Key.TheVariants as key
 use Rattle.hl_base.specs.declared.set.Answer.{Answer}
 use Rattle.hl_base.specs.declared.set.Answer.TheVariants as answer
@@ -8,16 +8,20 @@ use Rattle.kept_values.specs.Keys.{key_tree}
 use Rattle.kept_values.specs.Answers.{answer_tree}
 use Rattle.asking_core.specs.Worlds.{WorldModel}
 use Rattle.asking_core.specs.Counters.{Round, round}
+use Rattle.call_sites.specs.Calls.{text_in}
 use Rattle.call_sites.specs.Rules.{is_writable, number_tree}
+use Rattle.call_sites.specs.Values.{member_known}
+use Rattle.text_pool.specs.Members.{Member, Absent, Unreadable, File}
 
 -- what statements put for each key, how many calls were counted, how deep the call stands, which outermost statement is
--- processed, and the text of SYSPARM
+-- processed, the text of SYSPARM, and what is found under the name of each member
 pub record ProgramState : Type 0 where
   pub put : Tree → Option Tree
   pub calls : Round
   pub depth : Round
   pub statement : ℕ
   pub parm : List ℕ
+  pub members : List ℕ → Member
 
 -- what was put for a key, or else this
 abbrev pub put_or : ProgramState → Tree → Answer → Tree
@@ -32,9 +36,26 @@ plain_answer s kind =
     else (if same_tree (key_tree key.Counter) (Leaf kind) then number_tree s.calls.number
     else answer_tree answer.Nothing)))
 
--- Global, Op and Sym are what was put; nobody looks ahead or for members yet, so those keys are answered Nothing
+-- what is answered of a member: nothing where there is none, that it cannot be read, or its file
+abbrev pub member_tree : Member → Tree
+member_tree Absent = answer_tree answer.Nothing
+member_tree Unreadable = answer_tree answer.Unreadable
+member_tree (File path text) = member_known (record { path = record { 0 = path }; text = text })
+
+-- whether a key is that of a member, and what is answered to it: what is found under the member's name
+abbrev pub is_member : Tree → Bool
+is_member (Leaf kind) = false
+is_member (Fork kind named) = same_tree kind (Leaf 2)
+
+abbrev pub member_answer : (List ℕ → Member) → Tree → Tree
+member_answer members (Leaf kind) = answer_tree answer.Nothing
+member_answer members (Fork kind named) = member_tree (members (text_in named))
+
+-- Global, Op and Sym are what was put, and Member is what is found; nobody looks ahead yet: Look is answered Nothing
 abbrev pub named_answer : ProgramState → Tree → Tree
-named_answer s named = if is_writable named then put_or s named answer.Nothing else answer_tree answer.Nothing
+named_answer s named =
+    if is_writable named then put_or s named answer.Nothing
+    else (if is_member named then member_answer s.members named else answer_tree answer.Nothing)
 
 abbrev pub program_answer : ProgramState → Tree → Tree
 program_answer s (Leaf kind) = plain_answer s kind
@@ -57,5 +78,6 @@ program_world = record {
 }
 
 -- nothing is put and counted yet
-abbrev pub first_world : List ℕ → ProgramState
-first_world parm = record { put = λ key. None; calls = round 0; depth = round 0; statement = 0; parm = parm }
+abbrev pub first_world : (parm : List ℕ) → (List ℕ → Member) → ProgramState
+first_world parm members =
+    record { put = λ key. None; calls = round 0; depth = round 0; statement = 0; parm = parm; members = members }

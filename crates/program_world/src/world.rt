@@ -6,23 +6,27 @@ ghost use Rattle.kept_values.specs.Answers.{answer_tree};
 ghost use Rattle.asking_core.specs.Counters.{round};
 ghost use Rattle.call_sites.specs.Values.{known_tree};
 ghost use Rattle.call_sites.specs.Rules.{number_tree};
+ghost use Rattle.program_world.specs.Puts.{held_by};
 ghost use Rattle.program_world.specs.World.{program_world, first_world, program_answer};
 
+use crate::members::FoundMembers;
 use crate::puts::Puts;
 use asking_core::World;
 use call_sites::Known;
 use hl_base::{Answer, Key, OutOfMemory, Text};
 use kept_values::Kept;
 use std::alloc::Global;
+use text_pool::Present;
 
-/// What surrounds the open code of a program. The counters of calls and of depth go round at 2^32.
+/// What surrounds the open code of a program, and what is present for it. The counters of calls and of depth go round at 2^32.
 #[derive(Drop)]
-pub struct ProgramWorld {
+pub struct ProgramWorld<'a, P: Present> {
     pub(crate) puts: Puts,
     pub(crate) calls: u32,
     pub(crate) depth: u32,
     pub(crate) statement: u32,
     pub(crate) parm: Text,
+    pub(crate) members: FoundMembers<'a, P>,
 }
 
 /// A counter as it is answered.
@@ -39,13 +43,26 @@ fn gone_round(number: u32) -> u32
     number
 }
 
-impl ProgramWorld {
-    ghost use Rattle.program_world.specs.Puts.{held_by};
+/// What was put for a key, or else this.
+fn put_or(alloc: Global, puts: &Puts, key: &Key, otherwise: Known) -> Result<Known, OutOfMemory>
+    ensures { IfOk result (λ v. known_tree v ≡ unwrap_or (held_by puts.now (key_tree key.now)) (known_tree otherwise)) }
+{
+    match puts.get(key) {
+        Some(value) => value.copy(alloc),
+        None => Ok(otherwise),
+    }
+}
+
+impl<'a, P: Present> ProgramWorld<'a, P> {
     ghost use Rattle.program_world.specs.States.{state_of};
 
-    /// The world in which nothing is put and counted, with this SYSPARM.
-    pub fn new(alloc: Global, parm: &str) -> Result<ProgramWorld, OutOfMemory>
-        ensures { IfOk result (λ w. state_of w ≡ first_world (chars parm.now)) }
+    /// The world in which nothing is put and counted, with this SYSPARM and these members.
+    pub fn new(
+        alloc: Global,
+        parm: &str,
+        present: &'a P,
+    ) -> Result<ProgramWorld<'a, P>, OutOfMemory>
+        ensures { IfOk result (λ w. state_of P.members w ≡ first_world (chars parm.now) (P.members present.now)) }
     {
         Ok(ProgramWorld {
             puts: Puts::new(alloc),
@@ -53,29 +70,25 @@ impl ProgramWorld {
             depth: 0,
             statement: 0,
             parm: Text::of(alloc, parm)?,
+            members: FoundMembers::new(alloc, present),
         })
     }
 
-    /// What was put for a key, or else this.
-    fn put_or(&self, alloc: Global, key: &Key, otherwise: Known) -> Result<Known, OutOfMemory>
-        ensures { IfOk result (λ v. known_tree v ≡ unwrap_or (held_by self.now.puts (key_tree key.now)) (known_tree otherwise)) }
-    {
-        match self.puts.get(key) {
-            Some(value) => value.copy(alloc),
-            None => Ok(otherwise),
-        }
-    }
-
     /// What is answered to a key.
-    fn answer(&self, alloc: Global, key: &Key) -> Result<Known, OutOfMemory>
-        ensures { IfOk result (λ v. known_tree v ≡ program_answer (state_of self.now) (key_tree key.now)) }
+    fn answer(&mut self, alloc: Global, key: &Key) -> Result<Known, OutOfMemory>
+        ensures value { IfOk result (λ v. known_tree v ≡ program_answer (state_of P.members self.old) (key_tree key.now)) }
+        ensures kept { self.new ≡ self.old }
     {
         match key {
             Key::Global(_, _, _) | Key::Op(_) | Key::Sym(_) => {
-                self.put_or(alloc, key, Known::Plain(Answer::Nothing))
+                put_or(alloc, &self.puts, key, Known::Plain(Answer::Nothing))
             }
-            Key::Member(_) | Key::Look(_) => Ok(Known::Plain(Answer::Nothing)),
-            Key::Sect => { self.put_or(alloc, key, Known::Plain(Answer::Chars(Text::new(alloc)))) }
+            Key::Member(name) => self.members.get(alloc, name),
+            Key::Look(_) => Ok(Known::Plain(Answer::Nothing)),
+            Key::Sect => {
+                let none = Known::Plain(Answer::Chars(Text::new(alloc)));
+                put_or(alloc, &self.puts, key, none)
+            }
             Key::Nest => Ok(counted(gone_round(self.depth))),
             Key::Parm => Ok(Known::Plain(Answer::Chars(self.parm.copy(alloc)?))),
             Key::Counter => Ok(counted(gone_round(self.calls))),
@@ -83,7 +96,7 @@ impl ProgramWorld {
     }
 }
 
-impl World for ProgramWorld {
+impl<'a, P: Present> World for ProgramWorld<'a, P> {
     ghost use Rattle.program_world.specs.States.{state_of};
 
     type Key = Key;
@@ -92,7 +105,7 @@ impl World for ProgramWorld {
 
     ghost model = { program_world };
 
-    ghost state = { state_of };
+    ghost state = { state_of P.members };
 
     fn ask(&mut self, alloc: Global, key: &Self::Key) -> Result<Self::Value, OutOfMemory> {
         self.answer(alloc, key)

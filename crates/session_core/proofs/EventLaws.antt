@@ -54,7 +54,7 @@ Logs method refused bodies = (refused ≢ fault.OutOfMemory) × (bodies ≡ log_
 
 -- the store has refused a change
 pub change_refused : (s now : State) (method : List ℕ) (wanted asked : Result Store StoreFault) (refused : StoreFault) (new : Store) (bodies : List (List ℕ))
-    → wanted ≡ asked → Answers asked (Err refused) new → now ≡ s → Logs method refused bodies → IsEffect (change_asked s method wanted) now bodies
+    → wanted ≡ asked → Answers {T = Unit {0}} asked (Err refused) new → now ≡ s → Logs method refused bodies → IsEffect (change_asked s method wanted) now bodies
 change_refused s now method wanted asked refused new bodies same answers kept logs =
     let told : wanted ≡ Err refused = same ∙ Answers-refused asked refused new answers logs.0 in
     ap (change_asked s method) told ∙ ap (λ z. record { state = z; bodies = log_line method (refusal_of refused) ∷ [] }) (sym kept)
@@ -62,7 +62,7 @@ change_refused s now method wanted asked refused new bodies same answers kept lo
 
 -- the store has refused to close
 pub closing_refused : (s now : State) (method : List ℕ) (n : Option PathId) (wanted asked : Result Store StoreFault) (refused : StoreFault) (new : Store) (bodies : List (List ℕ))
-    → wanted ≡ asked → Answers asked (Err refused) new → now ≡ s → Logs method refused bodies → IsEffect (closing_asked s method n wanted) now bodies
+    → wanted ≡ asked → Answers {T = Unit {0}} asked (Err refused) new → now ≡ s → Logs method refused bodies → IsEffect (closing_asked s method n wanted) now bodies
 closing_refused s now method n wanted asked refused new bodies same answers kept logs =
     let told : wanted ≡ Err refused = same ∙ Answers-refused asked refused new answers logs.0 in
     ap (closing_asked s method n) told ∙ ap (λ z. record { state = z; bodies = log_line method (refusal_of refused) ∷ [] }) (sym kept)

@@ -12,7 +12,7 @@ use Rattle.io_edge.specs.LibraryCall.{LibraryCall}
 use Rattle.hl_base.specs.declared.edit.Position.{Position}
 use Rattle.hl_base.specs.declared.place.PathId.{PathId}
 use Rattle.lsp_messages.specs.declared.incoming.LspIn.{LspIn}
-use Rattle.lsp_messages.specs.declared.incoming.LspIn.TheVariants.{Initialize, Shutdown, Initialized, Exit, DidOpen, DidChange, DidClose, DidSave, DidChangeConfiguration}
+use Rattle.lsp_messages.specs.declared.incoming.LspIn.TheVariants.{Initialize, Shutdown, Initialized, Exit, DidOpen, DidChange, DidClose, DidSave, DidChangeConfiguration, DidChangeWatchedFiles}
 use Rattle.lsp_messages.specs.declared.incoming.Refusal.{Refusal}
 use Rattle.lsp_messages.specs.declared.outgoing.Diagnostic.{Diagnostic}
 use Rattle.lsp_messages.specs.declared.outgoing.Relation.{Relation}
@@ -309,6 +309,7 @@ good_effect s (DidChange uri version edits) fresh = good_change s (changed s.sto
 good_effect s (DidClose uri) fresh = good_closing s (number_named s.store uri) (closed s.store uri) fresh
 good_effect s DidSave fresh = λ alive. fresh
 good_effect s DidChangeConfiguration fresh = λ alive. fresh
+good_effect s (DidChangeWatchedFiles changes) fresh = λ alive. fresh
 
 good_of : (s : State) (told : Result LspIn Refusal) → AreFresh s → IsGood (effect_of s told)
 good_of s (Ok message) fresh = good_effect s message fresh
@@ -380,6 +381,7 @@ keeps_effect s (DidChange uri version edits) = keeps_change s (changed s.store u
 keeps_effect s (DidClose uri) = keeps_closing s (number_named s.store uri) (closed s.store uri)
 keeps_effect s DidSave = inl refl
 keeps_effect s DidChangeConfiguration = inl refl
+keeps_effect s (DidChangeWatchedFiles changes) = inl refl
 
 keeps_of : (s : State) (told : Result LspIn Refusal) → KeepsThemOrQueues s (effect_of s told)
 keeps_of s (Ok message) = keeps_effect s message

@@ -6,7 +6,7 @@ use Rattle.json_view.specs.Texts.{reading}
 use Rattle.io_edge.specs.LibraryCall.{LibraryCall}
 use Rattle.lsp_messages.specs.declared.incoming.Id.{Id}
 use Rattle.lsp_messages.specs.declared.incoming.LspIn.{LspIn}
-use Rattle.lsp_messages.specs.declared.incoming.LspIn.TheVariants.{Initialize, Shutdown, Initialized, Exit, DidOpen, DidChange, DidClose, DidSave, DidChangeConfiguration}
+use Rattle.lsp_messages.specs.declared.incoming.LspIn.TheVariants.{Initialize, Shutdown, Initialized, Exit, DidOpen, DidChange, DidClose, DidSave, DidChangeConfiguration, DidChangeWatchedFiles}
 use Rattle.lsp_messages.specs.declared.incoming.Refusal.{Refusal}
 use Rattle.lsp_messages.specs.Messages.{is_response, message_of}
 use Rattle.document_store.specs.Store.{Store}
@@ -20,7 +20,7 @@ use Rattle.session_core.specs.Laws.{is_refused, is_refused_value, is_refused_bod
 use Rattle.session_core.specs.Message.{message, event, received, asked, effect_of, is_passed_over, unless_refused}
 use Rattle.session_core.specs.Refusals.{Refused, OutOfPlace, TooEarly, where_so, first_of, refusal, log_fault, is_fresh, is_active, is_closed, is_ended}
 use Rattle.session_core.specs.State.{State}
-use Rattle.session_core.specs.Step.{Effect, quiet, Goes}
+use Rattle.session_core.specs.Step.{Effect, quiet, Goes, MakesAll}
 
 -- the state is left, and one body may be written
 abbrev LeavesState : Effect → State → Type 0
@@ -69,6 +69,7 @@ refused_keeps s (Ok Initialized) refused none = cc
 refused_keeps s (Ok Exit) refused none = cc
 refused_keeps s (Ok DidSave) refused none = cc
 refused_keeps s (Ok DidChangeConfiguration) refused none = cc
+refused_keeps s (Ok (DidChangeWatchedFiles changes)) refused none = cc
 
 asked_kept : (s : State) (told : Result LspIn Refusal) → is_refused s told ≡ true → LeavesState (asked s told) s
 asked_kept s told refused =
@@ -85,6 +86,10 @@ event_kept s body refused = keeps_cond s (is_ended s.stage) _ _ (keeps_quiet s) 
 
 pub message_kept : (s : State) (body : List ℕ) (calls : List LibraryCall) → is_refused_body s body ≡ true → Keeps (message s body calls) s calls
 message_kept s body calls refused = let kept = event_kept s body refused in (kept.0, kept.1, refl)
+
+-- where no call is to come, none is another
+pub message_unanswered : (s : State) (body : List ℕ) → MakesAll (message s body [])
+message_unanswered s body = refl
 
 event_ended : (s : State) (closed : Bool) (body : List ℕ) → phase_of s ≡ phases.Exit closed → event s body ≡ quiet s
 unfolding event

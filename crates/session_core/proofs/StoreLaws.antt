@@ -9,16 +9,17 @@ use Rattle.document_store.specs.Store.{Store, OpenDocument, document_of, is_at}
 use Rattle.document_store.specs.Changes.{opened, changed, closed, Answers, with_document, with_text, without}
 use Rattle.document_store.specs.Edits.{and_then}
 use Rattle.document_store.specs.declared.fault.StoreFault.{StoreFault}
-use Rattle.document_store.specs.declared.fault.StoreFault.TheVariants.{AlreadyOpen, BadUri, NotOpen, OutOfMemory, TextTooLong, TooMany, BadRange}
+use Rattle.document_store.specs.declared.fault.StoreFault.TheVariants.{AlreadyOpen, BadUri, NotOpen, OutOfMemory, TextTooLong, TooMany, BadRange, LibraryTooLarge}
 
 -- what was asked is refused as the call says, but for want of memory
-pub Answers-refused : (asked : Result Store StoreFault) (fault : StoreFault) (new : Store) → Answers asked (Err fault) new → fault ≢ OutOfMemory → asked ≡ Err fault
+pub Answers-refused : (asked : Result Store StoreFault) (fault : StoreFault) (new : Store) → Answers {T = Unit {0}} asked (Err fault) new → fault ≢ OutOfMemory → asked ≡ Err fault
 Answers-refused asked AlreadyOpen new answers other = answers
 Answers-refused asked BadUri new answers other = answers
 Answers-refused asked NotOpen new answers other = answers
 Answers-refused asked TextTooLong new answers other = answers
 Answers-refused asked TooMany new answers other = answers
 Answers-refused asked (BadRange n) new answers other = answers
+Answers-refused asked LibraryTooLarge new answers other = answers
 Answers-refused asked OutOfMemory new answers other = absurd (other refl)
 
 -- at most 64 documents are open

@@ -6,8 +6,7 @@ use Rattle.std.proofs.lemmas.Slice.Eq.{bytes_eq-Decides}
 use Rattle.std.specs.Prelude.{unwrap_or}
 use Rattle.std.specs.Str.{bytes_eq}
 use Rattle.hl_base.specs.declared.place.PathId.{PathId}
-use Rattle.document_store.specs.Store.{Store, OpenDocument, number_of, document_of, is_at, present, present_at, File, Readable}
-use Rattle.std.specs.FinMap as map
+use Rattle.document_store.specs.Store.{Store, OpenDocument, number_of, document_of, is_at, file_of, present, present_at, File, Readable}
 use Rattle.std.specs.Option.{option_and_then}
 use Rattle.text_pool.specs.Pool.{Pool}
 use Rattle.document_store.specs.Shown.{IsPresent, IsShown}
@@ -52,7 +51,7 @@ found_at (first ∷ rest) paths n document is found =
 
 abbrev present_of : Store → List ℕ → Option OpenDocument → Option File
 present_of s path (Some document) = Some (Readable document.text)
-present_of s path None = map.get s.files path
+present_of s path None = file_of s path
 
 -- the text of a document of a number is present at that number
 pub present_document : (s : Store) (n : PathId) (document : OpenDocument) → document_at s n ≡ Some document → slice_get s.paths n.0 ≡ Some document.path

@@ -12,6 +12,7 @@ use Rattle.hl_base.specs.declared.place.PathId.{PathId}
 use Rattle.lsp_messages.specs.declared.outgoing.Span.{Span}
 use Rattle.lsp_messages.specs.declared.outgoing.Diagnostic.{Diagnostic}
 use Rattle.note_rows.specs.Table.{is_at_start}
+use Rattle.text_pool.specs.Members.{Member, Absent}
 use Rattle.program_assembly.specs.Assembly.{assembly_notes}
 
 -- the letter H and three digits
@@ -65,7 +66,11 @@ most_published = 1000
 unfoldable pub published : List Note → List ℕ → List Diagnostic
 published notes text = map (diagnostic_of_note (lines text)) (take most_published notes)
 
+-- no file is found under any name
+abbrev pub no_member : (name : List ℕ) → Member
+no_member name = Absent
+
 -- The diagnostics of a program: those of the notes of an assembly of its text, which is that of a path, where it may be given
--- so many statements. SYSPARM is empty.
+-- so many statements. SYSPARM is empty, and there are no members.
 unfoldable pub diagnostics_of : (budget : ℕ) → PathId → List ℕ → List Diagnostic
-diagnostics_of budget path text = published (assembly_notes path.0 text [] budget) text
+diagnostics_of budget path text = published (assembly_notes path.0 text [] no_member budget) text

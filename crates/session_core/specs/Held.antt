@@ -9,7 +9,7 @@ use Rattle.session_core.specs.declared.phase.Phase.TheVariants.{Running, Exit}
 use Rattle.session_core.specs.declared.state.Stage.{Stage}
 use Rattle.session_core.specs.declared.state.Stage.TheVariants.{Fresh, Active, Closing, Ended}
 use Rattle.session_core.specs.State.{State, start}
-use Rattle.session_core.specs.Step.{Step, Goes, Stopped, Other, written}
+use Rattle.session_core.specs.Step.{Effect, Step, Goes, MakesAll, written}
 
 -- the state, the bytes that are written and not taken yet, and whether memory has run out
 pub record Held : Type 0 where
@@ -39,18 +39,40 @@ pub record Moves (state : State) (bodies : List (List ℕ)) (before now : Held) 
   pub output_is : now.output ≡ before.output ++ written bodies
   pub sound_still : now.spent ≡ false
 
--- An event came to this step, for which no answer was missing, another or left over. Memory ran out: nothing was added to the
--- output, and the session is spent. It was spent before: nothing is changed.
-abbrev pub Comes : {T : Type 0} → Result T SessionFault → Step → (before now : Held) → Type 0
-Comes (Ok _) (Goes state bodies rest) before now = Moves state bodies before now × (rest ≡ [])
-Comes (Ok _) (Stopped bodies) before now = ⊥
-Comes (Ok _) Other before now = ⊥
-Comes (Err OutOfMemory) step before now = (before.spent ≡ false) × (now.spent ≡ true) × (now.output ≡ before.output)
-Comes (Err Spent) step before now = (before.spent ≡ true) × (now ≡ before)
+-- memory ran out: nothing was added to the output, and the session is spent
+pub record RunsOut (before now : Held) : Type 0 where
+  pub sound : before.spent ≡ false
+  pub spent : now.spent ≡ true
+  pub output_is : now.output ≡ before.output
 
--- Some calls were made, the library tells that it gained them with their answers, and the event came to the step over
--- these.
+-- it was spent before: nothing is changed
+pub record StaysSpent (before now : Held) : Type 0 where
+  pub spent : before.spent ≡ true
+  pub same : now ≡ before
+
+-- an event that asks the library nothing came to its effect, or could not
+abbrev pub Comes : {T : Type 0} → Result T SessionFault → Effect → (before now : Held) → Type 0
+Comes (Ok _) effect before now = Moves effect.state effect.bodies before now
+Comes (Err OutOfMemory) effect before now = RunsOut before now
+Comes (Err Spent) effect before now = StaysSpent before now
+
+-- An event made these calls and no other: whatever more were to come, they are left, and it comes to the same state and the
+-- same bodies. The session has gone there.
+pub record GoesThrough (step : List LibraryCall → Step) (calls : List LibraryCall) (before now : Held) : Type 0 where
+  pub state : State
+  pub bodies : List (List ℕ)
+  pub goes : (more : List LibraryCall) → step (calls ++ more) ≡ Goes state bodies more
+  pub moves : Moves state bodies before now
+
+-- An event made these calls, with their answers, and went through. Or memory ran out behind them: all of them are calls of the
+-- event, which may make more. A session that was spent before makes none.
+abbrev pub ComesBy : {T : Type 0} → Result T SessionFault → (step : List LibraryCall → Step) → (calls : List LibraryCall) → (before now : Held) → Type 0
+ComesBy (Ok _) step calls before now = GoesThrough step calls before now
+ComesBy (Err OutOfMemory) step calls before now = MakesAll (step calls) × RunsOut before now
+ComesBy (Err Spent) step calls before now = (calls ≡ []) × StaysSpent before now
+
+-- some calls were made, the library tells that it gained them with their answers, and the event came by them to its end
 pub record ComesOver {T : Type 0} (result : Result T SessionFault) (step : List LibraryCall → Step) (calls_before calls_now : Option (List LibraryCall)) (before now : Held) : Type 0 where
   pub calls : List LibraryCall
   pub made : Gains calls_before calls calls_now
-  pub comes : Comes result (step calls) before now
+  pub comes : ComesBy result step calls before now

@@ -4,7 +4,7 @@ use Rattle.serde_json.specs.Data.{Data}
 use Rattle.json_view.specs.Texts.{reading}
 use Rattle.io_edge.specs.LibraryCall.{LibraryCall}
 use Rattle.lsp_messages.specs.declared.incoming.LspIn.{LspIn}
-use Rattle.lsp_messages.specs.declared.incoming.LspIn.TheVariants.{Initialize, Shutdown, Initialized, Exit, DidOpen, DidChange, DidClose, DidSave, DidChangeConfiguration}
+use Rattle.lsp_messages.specs.declared.incoming.LspIn.TheVariants.{Initialize, Shutdown, Initialized, Exit, DidOpen, DidChange, DidClose, DidSave, DidChangeConfiguration, DidChangeWatchedFiles}
 use Rattle.lsp_messages.specs.declared.incoming.Refusal.{Refusal}
 use Rattle.lsp_messages.specs.Messages.{message_of}
 use Rattle.hl_base.specs.declared.place.PathId.{PathId}
@@ -29,6 +29,7 @@ is_refused s (Ok Initialized) = false
 is_refused s (Ok Exit) = false
 is_refused s (Ok DidSave) = false
 is_refused s (Ok DidChangeConfiguration) = false
+is_refused s (Ok (DidChangeWatchedFiles changes)) = false
 
 -- the body is refused: it is no JSON, or the message that it is is refused
 abbrev pub is_refused_value : State → Option Data → Bool
@@ -41,7 +42,7 @@ is_refused_body s body = is_refused_value s (reading body)
 -- nothing has changed but that one body may be written, and the library was asked nothing
 abbrev pub Keeps : Step → State → List LibraryCall → Type 0
 Keeps (Goes t bodies rest) s calls = (t ≡ s) × (length bodies ≤ 1) × (rest ≡ calls)
-Keeps (Stopped bodies) s calls = ⊥
+Keeps Stopped s calls = ⊥
 Keeps Other s calls = ⊥
 
 -- ---- lists
@@ -62,11 +63,11 @@ AllQueued s = (n : PathId) (document : OpenDocument) → document_at s.store n �
 -- where the session goes on and is not at its end, lists are fresh
 abbrev pub LeavesFresh : Step → Type 0
 LeavesFresh (Goes t bodies rest) = is_ended t.stage ≡ false → AreFresh t
-LeavesFresh (Stopped bodies) = Unit {0}
+LeavesFresh Stopped = Unit {0}
 LeavesFresh Other = Unit {0}
 
 -- where the session goes on, the documents are as they were, or every open program is queued
 abbrev pub KeepsOrQueues : State → Step → Type 0
 KeepsOrQueues s (Goes t bodies rest) = (t.store ≡ s.store) ⊎ AllQueued t
-KeepsOrQueues s (Stopped bodies) = Unit {0}
+KeepsOrQueues s Stopped = Unit {0}
 KeepsOrQueues s Other = Unit {0}

@@ -8,7 +8,7 @@ use Rattle.io_edge.specs.LibraryCall.{LibraryCall}
 use Rattle.hl_base.specs.declared.place.PathId.{PathId}
 use Rattle.lsp_messages.specs.declared.incoming.Id.{Id}
 use Rattle.lsp_messages.specs.declared.incoming.LspIn.{LspIn}
-use Rattle.lsp_messages.specs.declared.incoming.LspIn.TheVariants.{Initialize, Shutdown, Initialized, Exit, DidOpen, DidChange, DidClose, DidSave, DidChangeConfiguration}
+use Rattle.lsp_messages.specs.declared.incoming.LspIn.TheVariants.{Initialize, Shutdown, Initialized, Exit, DidOpen, DidChange, DidClose, DidSave, DidChangeConfiguration, DidChangeWatchedFiles}
 use Rattle.lsp_messages.specs.declared.incoming.Refusal.{Refusal}
 use Rattle.lsp_messages.specs.declared.incoming.Refusal.TheVariants.{NotRequest, UnknownMethod, BadParams, OutOfMemory}
 use Rattle.lsp_messages.specs.Messages.{is_response, message_of}
@@ -77,6 +77,7 @@ effect s (DidChange uri version edits) = after_change s (changed s.store uri ver
 effect s (DidClose uri) = after_closing s (number_named s.store uri) (closed s.store uri)
 effect s DidSave = quiet s
 effect s DidChangeConfiguration = quiet s
+effect s (DidChangeWatchedFiles changes) = quiet s
 
 -- what was read in place of a message does nothing
 abbrev pub effect_of : State → Result LspIn Refusal → Effect

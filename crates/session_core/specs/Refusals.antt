@@ -4,7 +4,7 @@ use Rattle.std.specs.Prelude.{ℕ, Bool, true, false, not, List, [], ◌∷◌, 
 use Rattle.std.specs.Str.{bytes_eq}
 use Rattle.lsp_messages.specs.declared.incoming.Id.{Id}
 use Rattle.lsp_messages.specs.declared.incoming.LspIn.{LspIn}
-use Rattle.lsp_messages.specs.declared.incoming.LspIn.TheVariants.{Initialize, Shutdown, Initialized, Exit, DidOpen, DidChange, DidClose, DidSave, DidChangeConfiguration}
+use Rattle.lsp_messages.specs.declared.incoming.LspIn.TheVariants.{Initialize, Shutdown, Initialized, Exit, DidOpen, DidChange, DidClose, DidSave, DidChangeConfiguration, DidChangeWatchedFiles}
 use Rattle.lsp_messages.specs.declared.incoming.Refusal.{Refusal}
 use Rattle.lsp_messages.specs.declared.incoming.Refusal.TheVariants.{NotRequest, UnknownMethod, BadParams, OutOfMemory}
 use Rattle.document_store.specs.Store.{Store}
@@ -71,6 +71,7 @@ kind_of_message (DidChange uri version edits) = Tells
 kind_of_message (DidClose uri) = Tells
 kind_of_message DidSave = Tells
 kind_of_message DidChangeConfiguration = Tells
+kind_of_message (DidChangeWatchedFiles changes) = Tells
 
 -- of what is known by its head alone
 abbrev pub kind_of_head : Option Id → (opens : Bool) → Kind
@@ -172,6 +173,7 @@ refused_by_store store (DidChange uri version edits) = log_fault (codes "textDoc
 refused_by_store store (DidClose uri) = log_fault (codes "textDocument/didClose") (closed store uri)
 refused_by_store store DidSave = None
 refused_by_store store DidChangeConfiguration = None
+refused_by_store store (DidChangeWatchedFiles changes) = None
 
 -- a notification of no known method, with a wrong parameter, or that the documents refuse
 abbrev pub logged : Store → Result LspIn Refusal → Option Refused

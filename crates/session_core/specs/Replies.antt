@@ -9,7 +9,7 @@ use Rattle.lsp_messages.specs.declared.outgoing.Diagnostic.{Diagnostic}
 use Rattle.lsp_messages.specs.declared.outgoing.LspOut.TheVariants.{Fault, Log, Published}
 use Rattle.lsp_messages.specs.Written.{reply_value, text_of, initialize_result_value}
 use Rattle.document_store.specs.declared.fault.StoreFault.{StoreFault}
-use Rattle.document_store.specs.declared.fault.StoreFault.TheVariants.{BadUri, AlreadyOpen, TooMany, TextTooLong, NotOpen, BadRange, OutOfMemory}
+use Rattle.document_store.specs.declared.fault.StoreFault.TheVariants.{BadUri, AlreadyOpen, TooMany, TextTooLong, NotOpen, BadRange, LibraryTooLarge, OutOfMemory}
 
 -- ---- answers
 
@@ -64,6 +64,7 @@ refusal_of TooMany = codes "TooMany"
 refusal_of TextTooLong = codes "TextTooLong"
 refusal_of NotOpen = codes "NotOpen"
 refusal_of (BadRange number) = codes "BadRange(" ++ (decimal number ++ codes ")")
+refusal_of LibraryTooLarge = codes "LibraryTooLarge"
 refusal_of OutOfMemory = codes "OutOfMemory"
 
 -- ---- lists

@@ -35,13 +35,20 @@ IsEffect effect s bodies = effect ≡ record { state = s; bodies = bodies }
 -- ---- over the library's calls
 
 -- What an event comes to where these are the calls of the library to come, with their answers: the state behind it, the
--- bodies that are written for it, and the calls that are left; or what was written by the time at which no answer was left;
--- or the next answer is of another call than the one that is made.
+-- bodies that are written for it, and the calls that are left; or a call is made for which no answer is left, and nothing is
+-- written; or the next answer is of another call than the one that is made.
 pub data Step : Type 0 where
   Goes : (state : State) (bodies : List (List ℕ)) (rest : List LibraryCall) → Step
-  Stopped : (bodies : List (List ℕ)) → Step
+  Stopped : Step
   Other : Step
 
 -- the library is asked nothing, so all calls are left
 abbrev pub asking_nothing : Effect → List LibraryCall → Step
 asking_nothing effect calls = Goes effect.state effect.bodies calls
+
+-- Each of the calls to come was made, whether or not the event made one more: none of them is another than the one that is
+-- made, and none is left.
+abbrev pub MakesAll : Step → Type 0
+MakesAll (Goes state bodies rest) = rest ≡ []
+MakesAll Stopped = Unit {0}
+MakesAll Other = ⊥

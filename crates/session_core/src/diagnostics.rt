@@ -3,10 +3,11 @@ ghost use Rattle.std.specs.Prelude.{◌≡◌, ◌≤◌, ℕ, List, IfOk, map, 
 ghost use Rattle.std.specs.Rc.{rc_str_bytes};
 ghost use Rattle.std.specs.Str.{chars};
 ghost use Rattle.hl_base.specs.Texts.{lines};
-ghost use Rattle.session_core.specs.Diagnostics.{numbered, code_text, line_of, width_of, span_of_note, severity_number, diagnostic_of_note, published, diagnostics_of};
+ghost use Rattle.session_core.specs.Diagnostics.{numbered, code_text, line_of, width_of, span_of_note, severity_number, diagnostic_of_note, published, diagnostics_of, no_member};
 
 use hl_base::{
-    Frame, Ledger, Note, OutOfMemory, PathId, Position, Severity, Steps, Text, lines, units,
+    Answer, Frame, Ledger, Name, Note, OutOfMemory, PathId, Position, Severity, Steps, Text, lines,
+    units,
 };
 use hlasm_statements::split_columns;
 use lsp_messages::{Diagnostic, Diagnostics, Relations, Span};
@@ -14,6 +15,7 @@ use note_rows::stands_at_start;
 use program_assembly::assembly_notes;
 use std::alloc::Global;
 use std::rc::RcStr;
+use text_pool::{Present, TextPool};
 
 /// The columns that a note is shown over: those of a statement.
 const SHOWN_COLUMNS: usize = 71;
@@ -128,18 +130,40 @@ pub fn published(alloc: Global, notes: &[Note], text: &str) -> Result<Diagnostic
     Ok(list)
 }
 
+/// What is present for an assembly where no file is found under any name.
+#[derive(Drop)]
+struct NoMembers<'a> {
+    pool: &'a TextPool,
+}
+
+impl Present for NoMembers<'_> {
+    ghost members = { λ _. no_member };
+
+    ghost texts = { λ s. s.pool.now };
+
+    fn member(&self, _name: &Name) -> Answer {
+        Answer::Nothing
+    }
+
+    fn pool(&self) -> &TextPool {
+        self.pool
+    }
+}
+
 /// The diagnostics of a program: those of an assembly of its text, which is that of a path, where it may be given so many
-/// statements. SYSPARM is empty.
+/// statements. SYSPARM is empty, and there are no members.
 #[tactic(auto, unfolding(crate::specs::Diagnostics::diagnostics_of))]
 pub fn diagnostics_of<L: Ledger>(
     alloc: Global,
     budget: u32,
     path: PathId,
     text: &RcStr,
+    pool: &TextPool,
     steps: &mut Steps<L>,
 ) -> Result<Diagnostics, OutOfMemory>
     ensures { IfOk result (λ list. list ≡ diagnostics_of budget path (chars (rc_str_bytes text.now))) }
 {
-    let notes = assembly_notes(alloc, path, text, "", budget, steps)?;
+    let present = NoMembers { pool };
+    let notes = assembly_notes(alloc, path, text, "", &present, budget, steps)?;
     published(alloc, notes.as_slice(), text.as_str())
 }

@@ -6,7 +6,7 @@ ghost use Rattle.session_core.specs.Held.{phase_of};
 ghost use Rattle.session_core.specs.Laws.{is_refused_body, Keeps, AreFresh, LeavesFresh, KeepsOrQueues};
 ghost use Rattle.session_core.specs.Message.{message};
 ghost use Rattle.session_core.specs.State.{State, start};
-ghost use Rattle.session_core.specs.Step.{Goes};
+ghost use Rattle.session_core.specs.Step.{Goes, MakesAll};
 ghost use Rattle.session_core.specs.Turn.{turn};
 
 /// A refused message leaves the documents, the queue, the phase and what was published as they were, adds at most one
@@ -27,6 +27,12 @@ pub fn lists_are_fresh()
     ensures at_first { (budget : ℕ) → AreFresh (start budget) }
     ensures message { (s : State) (body : List ℕ) (calls : List LibraryCall) → AreFresh s → LeavesFresh (message s body calls) }
     ensures turn { (s : State) → AreFresh s → AreFresh (turn s).state }
+{}
+
+/// Where no call of the library is to come, a message goes on and leaves none, or it stops at the first call that it makes:
+/// no answer is of another call.
+pub fn no_answer_is_never_other()
+    ensures { (s : State) (body : List ℕ) → MakesAll (message s body []) }
 {}
 
 /// A message that changes the documents queues every open program.

@@ -115,6 +115,7 @@ impl Standing {
             LspIn::DidClose { uri } => self.closed(alloc, &uri),
             LspIn::DidSave => Ok(Bodies::none(alloc)),
             LspIn::DidChangeConfiguration => Ok(Bodies::none(alloc)),
+            LspIn::DidChangeWatchedFiles { changes: _changes } => Ok(Bodies::none(alloc)),
         }
     }
 

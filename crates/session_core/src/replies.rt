@@ -108,6 +108,7 @@ pub(crate) fn refusal_of(alloc: Global, fault: StoreFault) -> Result<String, Out
         StoreFault::TextTooLong => Ok(String::from_str(alloc, "TextTooLong")?),
         StoreFault::NotOpen => Ok(String::from_str(alloc, "NotOpen")?),
         StoreFault::BadRange(number) => Ok(format!(in alloc; "BadRange({number})")?),
+        StoreFault::LibraryTooLarge => Ok(String::from_str(alloc, "LibraryTooLarge")?),
         StoreFault::OutOfMemory => Err(OutOfMemory),
     }
 }

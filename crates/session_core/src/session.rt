@@ -1,9 +1,8 @@
 //! The session, as `run` drives it.
-ghost use Rattle.std.specs.Prelude.{◌≡◌, ◌≢◌, [], IfOk, OnOk, OnErr, MatchBool};
+ghost use Rattle.std.specs.Prelude.{◌≡◌, ◌≢◌, ◌≤◌, [], IfOk, OnOk, OnErr, MatchBool};
 ghost use Rattle.session_core.specs.Held.{beginning, phase_of, Comes, ComesOver};
 ghost use Rattle.session_core.specs.Inside.{Adds, KeepsOutput};
 ghost use Rattle.session_core.specs.Message.{event, message};
-ghost use Rattle.session_core.specs.Step.{asking_nothing};
 ghost use Rattle.session_core.specs.Turn.{turn};
 
 use crate::standing::Standing;
@@ -87,8 +86,8 @@ impl Session {
         bodies.write_to(alloc, &mut self.output)
     }
 
-    /// Takes the body of one message (LSP 3.17, "Base Protocol"): the step is that of the calls of the library that it makes,
-    /// with their answers. Nothing is asked of the library yet.
+    /// Takes the body of one message (LSP 3.17, "Base Protocol"): what it comes to is told by the calls of the library that it
+    /// makes, with their answers. A call that fails is an answer too. Nothing is asked of the library yet.
     pub fn message<B: Library, L: Ledger>(
         &mut self,
         alloc: Global,
@@ -98,7 +97,7 @@ impl Session {
     ) -> Result<Phase, SessionFault>
         ensures comes { ComesOver result (message self.old.state body.now) (B.calls library.old) (B.calls library.new) self.old self.new }
         ensures phase { IfOk result (λ phase. phase ≡ phase_of self.new.state) }
-        ensures library { (B.calls library.new ≡ B.calls library.old) × (B.faults library.new ≡ B.faults library.old) }
+        ensures later { B.faults library.old ≤ B.faults library.new }
     {
         let _ = library;
         if self.spent {
@@ -120,14 +119,14 @@ impl Session {
         self.standing.has_work()
     }
 
-    /// Makes one Turn: the list of the first queued program is published, unless it was already.
+    /// Makes one Turn: the list of the first queued program is published, unless it was already. The library is asked nothing.
     pub fn turn<L: Ledger>(
         &mut self,
         alloc: Global,
         steps: &mut Steps<L>,
     ) -> Result<(), SessionFault>
         requires work { self.old.state.queue ≢ [] }
-        ensures comes { Comes result (asking_nothing (turn self.old.state) []) self.old self.new }
+        ensures comes { Comes result (turn self.old.state) self.old self.new }
     {
         if self.spent {
             return Err(SessionFault::Spent);

@@ -171,7 +171,7 @@ impl Standing {
             return Ok(Bodies::none(alloc));
         }
         let text = text_at(alloc, &self.store, path)?;
-        let list = diagnostics_of(alloc, self.budget, path, &text, steps)?;
+        let list = diagnostics_of(alloc, self.budget, path, &text, self.store.pool(), steps)?;
         self.listed.reserve(1)?;
         if is_published(&self.published, path, &document, list.as_slice()) {
             self.listed.push_reserved(path);

@@ -1,8 +1,11 @@
 //! Calls of a store of documents, and what each answers.
+ghost use Rattle.std.specs.Prelude.{◌≤◌, length, IfSome};
+
 use crate::changes::{edits_worded, refusal};
 use document_store::{DocumentStore, MemberText, StoreFault};
-use hl_base::{Edits, OutOfMemory};
+use hl_base::{Edits, OutOfMemory, PathId};
 use std::alloc::Global;
+use text_pool::LONGEST_TEXT;
 
 /// What stands before the first blank, and what stands behind it.
 fn cut(words: &str) -> (&str, &str) {
@@ -54,6 +57,70 @@ fn close(alloc: Global, store: &mut DocumentStore, uri: &str) -> Result<String, 
     told(alloc, store.close(alloc, uri))
 }
 
+/// `keep PATH; TEXT`: a file of a member that was read.
+fn keep(alloc: Global, store: &mut DocumentStore, words: &str) -> Result<String, OutOfMemory> {
+    let (path, text) = words.split_once("; ").unwrap_or((words, ""));
+    told(alloc, kept(store.set_member(alloc, path, short(text))))
+}
+
+/// `unreadable PATH`: one that cannot be read.
+fn unreadable(alloc: Global, store: &mut DocumentStore, path: &str) -> Result<String, OutOfMemory> {
+    told(alloc, kept(store.set_member(alloc, path, None)))
+}
+
+/// `keep-many COUNT SIZE`: files `/m0`, `/m1` and so on of so many bytes each, until one is refused.
+fn keep_many(alloc: Global, store: &mut DocumentStore, words: &str) -> Result<String, OutOfMemory> {
+    let (count, size) = cut(words);
+    let text = blanks(alloc, size.parse::<u32>().unwrap_or(0))?;
+    for number in 0..count.parse::<u32>().unwrap_or(0) {
+        let path = format!(in alloc; "/m{number}")?;
+        if let Err(fault) = store.set_member(alloc, path.as_str(), short(text.as_str())) {
+            return refusal(alloc, fault);
+        }
+    }
+    told(alloc, Ok(()))
+}
+
+/// A text of so many blanks.
+fn blanks(alloc: Global, count: u32) -> Result<String, OutOfMemory> {
+    let mut text = String::new(alloc);
+    for _ in 0..count {
+        text.push(' ')?;
+    }
+    Ok(text)
+}
+
+/// A text that a file may have; one that is too long cannot be read.
+fn short(text: &str) -> Option<&str>
+    ensures { IfSome result (λ text. length text.now ≤ LONGEST_TEXT) }
+{
+    if text.len() > LONGEST_TEXT {
+        return None;
+    }
+    Some(text)
+}
+
+/// Whether a file was kept.
+fn kept(answer: Result<PathId, StoreFault>) -> Result<(), StoreFault> {
+    match answer {
+        Ok(_) => Ok(()),
+        Err(fault) => Err(fault),
+    }
+}
+
+/// `drop PATH`; where it has no number, a number past the last is dropped.
+fn drop_one(alloc: Global, store: &mut DocumentStore, path: &str) -> Result<String, OutOfMemory> {
+    let number = store.path_id(path).unwrap_or(PathId(u32::MAX));
+    store.drop_member(number);
+    told(alloc, Ok(()))
+}
+
+/// `drop-all`.
+fn drop_all(alloc: Global, store: &mut DocumentStore) -> Result<String, OutOfMemory> {
+    store.drop_members();
+    told(alloc, Ok(()))
+}
+
 /// What is present at a path.
 fn present(store: &DocumentStore, path: &str) -> Option<MemberText> {
     store.present(store.path_id(path)?)
@@ -68,6 +135,16 @@ fn truth(alloc: Global, holds: bool) -> Result<String, OutOfMemory> {
 fn same(alloc: Global, store: &DocumentStore, words: &str) -> Result<String, OutOfMemory> {
     let (one, other) = words.split_once("; ").unwrap_or((words, ""));
     truth(alloc, present(store, one) == present(store, other))
+}
+
+/// `found PATH`: a text is present there, a file that cannot be read, or nothing.
+fn found(alloc: Global, store: &DocumentStore, path: &str) -> Result<String, OutOfMemory> {
+    let word = match present(store, path) {
+        Some(MemberText::File(_)) => "text",
+        Some(MemberText::Unreadable) => "unreadable",
+        None => "nothing",
+    };
+    Ok(String::from_str(alloc, word)?)
 }
 
 /// `version NUMBER`: of the open document of that place, from 0.
@@ -87,6 +164,7 @@ fn asked(
 ) -> Result<String, OutOfMemory> {
     match call {
         "present" => truth(alloc, present(store, words).is_some()),
+        "found" => found(alloc, store, words),
         "number" => truth(alloc, store.path_id(words).is_some()),
         "same" => same(alloc, store, words),
         "version" => version(alloc, store, words),
@@ -102,6 +180,11 @@ fn answer(alloc: Global, store: &mut DocumentStore, line: &str) -> Result<String
         "fill" => fill(alloc, store, words),
         "change" => change(alloc, store, words),
         "close" => close(alloc, store, words),
+        "keep" => keep(alloc, store, words),
+        "unreadable" => unreadable(alloc, store, words),
+        "keep-many" => keep_many(alloc, store, words),
+        "drop" => drop_one(alloc, store, words),
+        "drop-all" => drop_all(alloc, store),
         _ => asked(alloc, store, call, words),
     }
 }

@@ -1,6 +1,6 @@
-use Rattle.std.proofs.Common.{◌≡◌, ◌∙◌, ◌≤◌, ◌<◌, ◌+◌, ◌-◌, ℕ, List, false, Option, ◌++◌, length, take, drop, length-append, sym, ap, subst, arith}
+use Rattle.std.proofs.Common.{◌≡◌, ◌∙◌, ◌≤◌, ◌<◌, ℕ, List, false, Option, ◌++◌, length, take, drop, sym, ap, subst, arith}
 use Rattle.std.specs.Option.{option_map}
-use Rattle.std.specs.Prelude.{chars, encode_utf8_all, IsUtf8, IsCharBoundary, Ok}
+use Rattle.std.specs.Prelude.{chars, encode_utf8_all, IsUtf8, Ok}
 use Rattle.hl_base.specs.declared.edit.Edit.{Edit}
 use Rattle.hl_base.specs.declared.edit.Position.{Position}
 use Rattle.text_pool.specs.declared.pool.TheConstants.{LONGEST_TEXT}

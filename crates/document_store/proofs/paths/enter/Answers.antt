@@ -1,18 +1,12 @@
-use Rattle.std.proofs.Common.{ap, sym, ◌∙◌}
-use Rattle.std.specs.Prelude.{chars}
-use Rattle.document_store.specs.Store.{number_of}
-use Rattle.document_store.proofs.DocumentLemmas.{with_path-entered, with_path-kept}
+use Rattle.std.proofs.Common.{◌∙◌, ap, sym}
+use Rattle.document_store.specs.Inside.{paths_in}
+use Rattle.document_store.proofs.PathLemmas.{paths_in-insert_key, beside_path-added}
 use Rattle.document_store.proofs.paths.enter.Goals as goal
 
-pub returns-then-is_none : goal.returns-then-is_none
-returns-then-is_none c =
-    c.push_reserved.ensures.items
-    ∙ sym (with_path-entered c.args.paths.now.items c.args.path (c.number_in.result)
-    (c.number_in.ensures ∙ ap (λ ps. number_of ps (chars c.as_str.result.now)) c.as_slice.ensures.value ∙ ap (number_of c.args.paths.now.items) c.as_str.ensures.characters)
-    c.if-is_none.ensures)
+pub returns-clause-paths : goal.returns-clause-paths
+returns-clause-paths c = ap paths_in c.in-Ok.ensures.keys ∙ paths_in-insert_key c.args.paths.now.keys c.args.path
 
-pub returns-else-is_none : goal.returns-else-is_none
-returns-else-is_none c =
-    sym (with_path-kept c.args.paths.now.items c.args.path (c.number_in.result)
-    (c.number_in.ensures ∙ ap (λ ps. number_of ps (chars c.as_str.result.now)) c.as_slice.ensures.value ∙ ap (number_of c.args.paths.now.items) c.as_str.ensures.characters)
-    c.if-is_none.ensures)
+pub returns-clause-files : goal.returns-clause-files
+returns-clause-files c =
+    c.put_beside.ensures
+    ∙ sym (beside_path-added c.args.paths.now.keys c.args.path c.in-Ok.added c.in-Ok.ensures.added c.args.files.now.items c.args.file)

@@ -1,7 +1,7 @@
-use Rattle.std.proofs.Common.{◌≡◌, ◌∙◌, ◌<◌, ◌+◌, refl, ap, arith}
+use Rattle.std.proofs.Common.{◌≡◌, ◌∙◌, ◌+◌, ap, arith}
 use Rattle.document_store.specs.Places.{line_ends}
 use Rattle.document_store.proofs.DocumentLemmas.{bit}
-use Rattle.document_store.proofs.BlockLemmas.{line_ends-le, line_ends-next}
+use Rattle.document_store.proofs.BlockLemmas.{line_ends-le}
 use Rattle.document_store.proofs.SeekLemmas.{ends-of}
 use Rattle.document_store.proofs.seeking.count_ends.Goals as goal
 use Rattle.document_store.proofs.seeking.count_ends.Goals.{then-ends_at, else-ends_at}

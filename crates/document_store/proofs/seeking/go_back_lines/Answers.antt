@@ -1,4 +1,4 @@
-use Rattle.std.proofs.Common.{◌≡◌, ◌∙◌, ◌+◌, ◌-◌, ◌≤◌, true, List, ℕ, ◌++◌, length, take, drop, length-append, length-drop, refl, sym, ap, subst, arith}
+use Rattle.std.proofs.Common.{◌≡◌, ◌∙◌, ◌+◌, ◌-◌, true, List, ℕ, ◌++◌, length, take, drop, length-append, length-drop, refl, sym, ap, subst, arith}
 use Rattle.std.specs.Prelude.{chars, IsCharBoundary, IsUtf8}
 use Rattle.document_store.specs.Parts.{Parts, text_in, parted, IsBeforeLine}
 use Rattle.document_store.specs.Places.{line_ends}

@@ -1,4 +1,4 @@
-use Rattle.std.proofs.Common.{◌≡◌, ◌∙◌, ◌<◌, ◌-◌, length, sym, ap, arith, get_or}
+use Rattle.std.proofs.Common.{◌∙◌, ◌<◌, ◌-◌, length, sym, ap, arith, get_or}
 use Rattle.std.specs.Prelude.{slice_index}
 use Rattle.document_store.proofs.SeekLemmas.{parted-bytes, parted-nothing}
 use Rattle.document_store.proofs.seeking.is_between_lines.Goals as goal

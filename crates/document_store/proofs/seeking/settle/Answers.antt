@@ -1,4 +1,4 @@
-use Rattle.std.proofs.Common.{◌≡◌, ◌∙◌, true, List, ℕ, refl, ap, subst}
+use Rattle.std.proofs.Common.{◌≡◌, true, List, ℕ, refl, subst}
 use Rattle.std.specs.Prelude.{chars, IsUtf8}
 use Rattle.document_store.specs.Parts.{parted}
 use Rattle.document_store.proofs.SeekLemmas.{stays_before}

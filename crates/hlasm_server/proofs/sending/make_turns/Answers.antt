@@ -28,18 +28,18 @@ returns-in_err-put_output-clause-makes g c =
     let asks = subst (λ b. Asks c.queue.since b (g.S.Source.waits c.queue.source) (g.S.Source.waits c.is_held.new.source)) c.if-is_held.false c.is_held.ensures.asks in
     let p = err_from_is_err_and c.from_residual-in_err-put_output.result c.from_residual-in_err-put_output.ensures.1 in
     rw (p.1, p.2) (turning_breaks _ _ _ _ _ _ _ _ _ _ _ _ _ c.queue.invariant.turning c.queue-test.ensures asks
-    (came (turn c.queue.session.state) c.queue.session c.turn.new.self c.queue.invariant.turning.ready c.in_ok-turn.ensures.comes.0) c.in_err-put_output.ensures.err)
+    (came (turn c.queue.session.state).state (turn c.queue.session.state).bodies c.queue.session c.turn.new.self c.queue.invariant.turning.ready c.in_ok-turn.ensures.comes) c.in_err-put_output.ensures.err)
 
 pub queue-smaller : goal.queue-smaller
 queue-smaller g c =
-    fewer_queued c.queue.session c.turn.new.self c.put_output.new.session c.queue-test.ensures (came (turn c.queue.session.state) c.queue.session c.turn.new.self c.queue.invariant.turning.ready c.in_ok-turn.ensures.comes.0) c.put_output.ensures.rest
+    fewer_queued c.queue.session c.turn.new.self c.put_output.new.session c.queue-test.ensures (came (turn c.queue.session.state).state (turn c.queue.session.state).bodies c.queue.session c.turn.new.self c.queue.invariant.turning.ready c.in_ok-turn.ensures.comes) c.put_output.ensures.rest
 
 pub queue-preserved : goal.queue-preserved
 queue-preserved g c =
     let asks = subst (λ b. Asks c.queue.since b (g.S.Source.waits c.queue.source) (g.S.Source.waits c.is_held.new.source)) c.if-is_held.false c.is_held.ensures.asks in
     record {
       turning = turning_goes_on _ _ _ _ _ _ _ _ _ _ _ _ _ _ _ c.queue.invariant.turning c.queue-test.ensures asks
-          (came (turn c.queue.session.state) c.queue.session c.turn.new.self c.queue.invariant.turning.ready c.in_ok-turn.ensures.comes.0)
+          (came (turn c.queue.session.state).state (turn c.queue.session.state).bodies c.queue.session c.turn.new.self c.queue.invariant.turning.ready c.in_ok-turn.ensures.comes)
           c.put_output.ensures.rest c.in_ok-put_output.ensures.ok c.put_output.ensures.later;
       left = c.is_held.ensures.left ∙ c.queue.invariant.left;
       faults = c.is_held.ensures.faults ∙ c.queue.invariant.faults;

@@ -5,16 +5,15 @@ use Rattle.hlasm_server.proofs.ServeLaws.{serving_begins, nothing_asked, serving
 use Rattle.hlasm_server.proofs.serving.serve.Goals as goal
 
 pub returns-in-Err-clause-plain : goal.returns-in-Err-clause-plain
-returns-in-Err-clause-plain g c = ends_at_once _ _ _ _
+returns-in-Err-clause-plain g c = ends_at_once _ _ _ _ _
 
 pub loop-body-init : goal.loop-body-init
 loop-body-init g c =
     let at_first = between_at_first c.new-reader.result c.new-reader.ensures in
     record {
-      serving = rw c.in-Ok.ensures (serving_begins _ _ _ _ _ _ c.new-reader.result at_first.0 at_first.1);
+      serving = rw c.in-Ok.ensures (serving_begins _ _ _ _ _ _ _ c.new-reader.result at_first.0 at_first.1);
       buffer = refl;
-      calls = refl;
-      faults = refl;
+      library = omega arith;
     }
 
 pub next_body-requires-clause-buffer : goal.next_body-requires-clause-buffer
@@ -29,27 +28,27 @@ next_body-requires-clause-between g c = c.loop-body.invariant.serving.between
 pub returns-in-End-clause-plain : goal.returns-in-End-clause-plain
 returns-in-End-clause-plain g c =
     let found = c.in-End.ensures.found in
-    ends_with_input _ _ _ _ _ _ _ _ _ _ _ _ _ _ _ found.0 (nothing_asked _ _ _ _ _ _ _ _ _ _ _ _ _ _ _ c.next_body.ensures.waits c.loop-body.invariant.serving) found.1 found.2.0 found.2.1 found.2.2
+    ends_with_input _ _ _ _ _ _ _ _ _ _ _ _ _ _ _ _ _ found.0 (nothing_asked _ _ _ _ _ _ _ _ _ _ _ _ _ _ _ _ _ c.next_body.ensures.waits c.loop-body.invariant.serving) found.1 found.2.0 found.2.1 found.2.2
 
 pub returns-in-Broken-clause-plain : goal.returns-in-Broken-clause-plain
 returns-in-Broken-clause-plain g c =
     let found = c.in-Broken.ensures.found in
-    ends_with_bad_start _ _ _ _ _ _ _ _ _ _ _ _ _ _ _ found.0 _ (nothing_asked _ _ _ _ _ _ _ _ _ _ _ _ _ _ _ c.next_body.ensures.waits c.loop-body.invariant.serving) found.1 found.2.0 found.2.1 found.2.2
+    ends_with_bad_start _ _ _ _ _ _ _ _ _ _ _ _ _ _ _ _ _ found.0 _ (nothing_asked _ _ _ _ _ _ _ _ _ _ _ _ _ _ _ _ _ c.next_body.ensures.waits c.loop-body.invariant.serving) found.1 found.2.0 found.2.1 found.2.2
 
 pub returns-in-TooLong-clause-plain : goal.returns-in-TooLong-clause-plain
 returns-in-TooLong-clause-plain g c =
     let found = c.in-TooLong.ensures.found in
-    ends_with_limit _ _ _ _ _ _ _ _ _ _ _ _ _ _ _ found.0 (nothing_asked _ _ _ _ _ _ _ _ _ _ _ _ _ _ _ c.next_body.ensures.waits c.loop-body.invariant.serving) found.1 found.2.0 found.2.1
+    ends_with_limit _ _ _ _ _ _ _ _ _ _ _ _ _ _ _ _ _ found.0 (nothing_asked _ _ _ _ _ _ _ _ _ _ _ _ _ _ _ _ _ c.next_body.ensures.waits c.loop-body.invariant.serving) found.1 found.2.0 found.2.1
 
 pub returns-in-ReadFault-clause-plain : goal.returns-in-ReadFault-clause-plain
 returns-in-ReadFault-clause-plain g c =
     let found = c.in-ReadFault.ensures.found in
-    ends_with_read_fault _ _ _ _ _ _ _ _ _ _ _ _ _ _ _ found.0 (nothing_asked _ _ _ _ _ _ _ _ _ _ _ _ _ _ _ c.next_body.ensures.waits c.loop-body.invariant.serving) found.1 found.2.0 found.2.2
+    ends_with_read_fault _ _ _ _ _ _ _ _ _ _ _ _ _ _ _ _ _ found.0 (nothing_asked _ _ _ _ _ _ _ _ _ _ _ _ _ _ _ _ _ c.next_body.ensures.waits c.loop-body.invariant.serving) found.1 found.2.0 found.2.2
 
 pub returns-in-OutOfMemory-clause-plain : goal.returns-in-OutOfMemory-clause-plain
 returns-in-OutOfMemory-clause-plain g c =
     let found = c.in-OutOfMemory.ensures.found in
-    ends_without_memory _ _ _ _ _ _ _ _ _ _ _ _ _ _ _ found.0 (nothing_asked _ _ _ _ _ _ _ _ _ _ _ _ _ _ _ c.next_body.ensures.waits c.loop-body.invariant.serving) found.1
+    ends_without_memory _ _ _ _ _ _ _ _ _ _ _ _ _ _ _ _ _ found.0 (nothing_asked _ _ _ _ _ _ _ _ _ _ _ _ _ _ _ _ _ c.next_body.ensures.waits c.loop-body.invariant.serving) found.1
 
 pub hear-requires : goal.hear-requires
 hear-requires g c = record { ready = c.loop-body.invariant.serving.ready }
@@ -61,7 +60,7 @@ returns-in-Ok-Exit-true-clause-plain g c =
     let gives = subst (λ (z : Option (List ℕ)). Gives (g.S.Source.left c.loop-body.source) found.0 z) (sym c.hear.ensures.left) found.1 in
     let heard = rw c.in-Ok-Exit-true.field-0-is at c.in-Ok-Exit-true.ensures.hears in
     let closes = rw c.in-Ok-Exit-true.field-0-0-test at heard in
-    ends_with_exit true _ _ _ _ _ _ _ _ _ _ _ _ _ _ _ _ _ found.0 _ (nothing_asked _ _ _ _ _ _ _ _ _ _ _ _ _ _ _ c.next_body.ensures.waits c.loop-body.invariant.serving) gives frame (omega (arith, found.2.2, found.2.3)) closes
+    ends_with_exit true _ _ _ _ _ _ _ _ _ _ _ _ _ _ _ _ _ _ _ _ found.0 _ (nothing_asked _ _ _ _ _ _ _ _ _ _ _ _ _ _ _ _ _ c.next_body.ensures.waits c.loop-body.invariant.serving) gives frame (omega (arith, found.2.2, found.2.3)) closes
 
 pub returns-in-Ok-Exit-false-clause-plain : goal.returns-in-Ok-Exit-false-clause-plain
 returns-in-Ok-Exit-false-clause-plain g c =
@@ -70,14 +69,14 @@ returns-in-Ok-Exit-false-clause-plain g c =
     let gives = subst (λ (z : Option (List ℕ)). Gives (g.S.Source.left c.loop-body.source) found.0 z) (sym c.hear.ensures.left) found.1 in
     let heard = rw c.in-Ok-Exit-false.field-0-is at c.in-Ok-Exit-false.ensures.hears in
     let closes = rw c.in-Ok-Exit-false.field-0-0-test at heard in
-    ends_with_exit false _ _ _ _ _ _ _ _ _ _ _ _ _ _ _ _ _ found.0 _ (nothing_asked _ _ _ _ _ _ _ _ _ _ _ _ _ _ _ c.next_body.ensures.waits c.loop-body.invariant.serving) gives frame (omega (arith, found.2.2, found.2.3)) closes
+    ends_with_exit false _ _ _ _ _ _ _ _ _ _ _ _ _ _ _ _ _ _ _ _ found.0 _ (nothing_asked _ _ _ _ _ _ _ _ _ _ _ _ _ _ _ _ _ c.next_body.ensures.waits c.loop-body.invariant.serving) gives frame (omega (arith, found.2.2, found.2.3)) closes
 
 pub returns-in-Err-hear-clause-plain : goal.returns-in-Err-hear-clause-plain
 returns-in-Err-hear-clause-plain g c =
     let found = c.in-Body.ensures.found in
     let frame = subst (IsFrame found.0) (sym c.deref.ensures.value) found.2.0 in
     let gives = subst (λ (z : Option (List ℕ)). Gives (g.S.Source.left c.loop-body.source) found.0 z) (sym c.hear.ensures.left) found.1 in
-    rw c.stopped.ensures (ends_stopped c.in-Err-hear.stop _ _ _ _ _ _ _ _ _ _ _ _ _ _ _ _ _ found.0 _ (nothing_asked _ _ _ _ _ _ _ _ _ _ _ _ _ _ _ c.next_body.ensures.waits c.loop-body.invariant.serving) gives frame (omega (arith, found.2.2, found.2.3)) c.in-Err-hear.ensures.hears)
+    rw c.stopped.ensures (ends_stopped c.in-Err-hear.stop _ _ _ _ _ _ _ _ _ _ _ _ _ _ _ _ _ _ _ _ found.0 _ (nothing_asked _ _ _ _ _ _ _ _ _ _ _ _ _ _ _ _ _ c.next_body.ensures.waits c.loop-body.invariant.serving) gives frame (omega (arith, found.2.2, found.2.3)) c.in-Err-hear.ensures.hears)
 
 pub returns-in-Err-hear-clause-cause : goal.returns-in-Err-hear-clause-cause
 returns-in-Err-hear-clause-cause g c =
@@ -99,10 +98,9 @@ loop-body-preserved g c =
     let heard = rw c.in-Ok-Running.field-0-is at c.in-Ok-Running.ensures.hears in
     let later = subst (λ (z : ℕ). g.S.Source.faults c.loop-body.source ≤ z) (sym c.hear.ensures.faults) c.next_body.ensures.later in
     record {
-      serving = serving_goes_on _ _ _ _ _ _ _ _ _ _ _ _ _ _ _ _ _ _ _ _ _ _ found.0 _
-          (nothing_asked _ _ _ _ _ _ _ _ _ _ _ _ _ _ _ c.next_body.ensures.waits c.loop-body.invariant.serving) frame gives found.2.1 found.2.2 found.2.3
+      serving = serving_goes_on _ _ _ _ _ _ _ _ _ _ _ _ _ _ _ _ _ _ _ _ _ _ _ _ _ found.0 _
+          (nothing_asked _ _ _ _ _ _ _ _ _ _ _ _ _ _ _ _ _ c.next_body.ensures.waits c.loop-body.invariant.serving) frame gives found.2.1 found.2.2 found.2.3
           (c.in-Ok-Running.ensures.ready c.in-Ok-Running.field-0-is) heard later c.hear.ensures.later;
       buffer = c.next_body.auto.buffer ∙ c.loop-body.invariant.buffer;
-      calls = c.hear.ensures.library.0 ∙ c.loop-body.invariant.calls;
-      faults = c.hear.ensures.library.1 ∙ c.loop-body.invariant.faults;
+      library = omega (arith, c.loop-body.invariant.library, c.hear.ensures.later_library);
     }

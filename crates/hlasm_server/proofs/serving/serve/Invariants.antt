@@ -1,4 +1,4 @@
-use Rattle.std.proofs.Common.{◌≡◌, ◌-◌, length}
+use Rattle.std.proofs.Common.{◌≡◌, ◌≤◌, ◌-◌, length}
 use Rattle.hlasm_server.specs.declared.feeding.TheConstants.{LARGEST_PIECE}
 use Rattle.hlasm_server.specs.Output.{most_input}
 use Rattle.hlasm_server.proofs.ServeLaws.{IsServing}
@@ -12,10 +12,9 @@ invariant-loop-body g l =
     let b = g.B.Library in
     record {
       serving : IsServing l.fn.budget (s.left l.initial.source) (s.left l.source) (k.held l.initial.sink) (k.held l.sink) (s.waits l.initial.source) (s.waits l.source)
-          (s.faults l.initial.source) (s.faults l.source) (k.faults l.initial.sink) (k.faults l.sink) l.session l.since l.reader;
+          (b.calls l.initial.library) (b.calls l.library) (s.faults l.initial.source) (s.faults l.source) (k.faults l.initial.sink) (k.faults l.sink) l.session l.since l.reader;
       buffer : length l.buffer ≡ LARGEST_PIECE;
-      calls : b.calls l.library ≡ b.calls l.initial.library;
-      faults : b.faults l.library ≡ b.faults l.initial.library;
+      library : b.faults l.initial.library ≤ b.faults l.library;
     }
 
 abbrev pub decreases-loop-body : goal.decreases-loop-body

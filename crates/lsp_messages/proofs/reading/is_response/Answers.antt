@@ -1,4 +1,4 @@
-use Rattle.std.proofs.Common.{◌≡◌, true, false, Option, None, Some, option_map, refl, sym, ◌∙◌}
+use Rattle.std.proofs.Common.{◌≡◌, false, Option, None, Some, option_map, refl, sym, ◌∙◌}
 use Rattle.std.specs.Prelude.{is_some}
 use Rattle.lsp_messages.proofs.MessageLaws.{message_of-no_method}
 use Rattle.lsp_messages.proofs.reading.is_response.Goals as goal

@@ -1,4 +1,4 @@
-use Rattle.std.proofs.Common.{◌≡◌, Result, Ok, Err, List, map, sym, ap, subst, append-nil, ◌∙◌}
+use Rattle.std.proofs.Common.{Result, Ok, Err, List, map, sym, ap, subst, append-nil, ◌∙◌}
 use Rattle.std.proofs.lemmas.Result.{err_from_is_err_and}
 use Rattle.std.proofs.Math.ListN.{drop_of_length-le}
 use Rattle.serde_json.specs.View.{view}

@@ -1,10 +1,8 @@
-use Rattle.std.proofs.Common.{◌≡◌, Ok, Some, ap, sym, ◌∙◌}
+use Rattle.std.proofs.Common.{◌≡◌, Ok, Some, ap, sym}
 use Rattle.serde_json.specs.Find.{as_array}
 use Rattle.serde_json.specs.View.{view, items_view}
-use Rattle.json_view.specs.Members.{list_of}
 use Rattle.json_view.proofs.ItemLaws.{list_of-items_view}
 use Rattle.lsp_messages.specs.declared.parameters.Parameter.TheVariants.{WorkspaceFolders}
-use Rattle.lsp_messages.specs.Parameters.{◌>>=◌}
 use Rattle.lsp_messages.specs.Shapes.{given}
 use Rattle.lsp_messages.proofs.shapes.folders.Goals as goal
 

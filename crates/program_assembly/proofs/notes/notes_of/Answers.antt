@@ -21,9 +21,9 @@ returns c =
     let last : c.last_line.result ≡ length (lines text) - 1 = last_of_text text statements c.last_line.result here c.last_line.ensures in
     let columns : c.add_column_notes.new.notes ≡ column_notes path text =
     c.in_ok-add_column_notes.ensures ∙ ap (λ ns. ns ++ flat_map (fault_notes path) statements) c.new-notes.ensures ∙ ap (flat_map (fault_notes path)) here in
-    let behind : c.add_point_notes.new.notes ≡ column_notes path text ++ flat_map point_notes ran.points =
-    c.in_ok-add_point_notes.ensures ∙ ap (λ ns. ns ++ flat_map point_notes ran.points) columns in
+    let behind : c.add_point_notes.new.notes ≡ column_notes path text ++ flat_map (point_notes path) ran.points =
+    c.in_ok-add_point_notes.ensures ∙ ap (λ ns. ns ++ flat_map (point_notes path) ran.points) columns in
     c.in_ok-add_end_notes.ensures
     ∙ ap (λ n. c.add_point_notes.new.notes ++ end_notes_by ran.ended (note_at path n MissingEnd) ran) last
     ∙ ap (λ ns. ns ++ end_notes_by ran.ended (note_at path (length (lines text) - 1) MissingEnd) ran) behind
-    ∙ append_assoc (column_notes path text) (flat_map point_notes ran.points) (end_notes_by ran.ended (note_at path (length (lines text) - 1) MissingEnd) ran)
+    ∙ append_assoc (column_notes path text) (flat_map (point_notes path) ran.points) (end_notes_by ran.ended (note_at path (length (lines text) - 1) MissingEnd) ran)

@@ -11,6 +11,7 @@ use Rattle.program_assembly.proofs.point_notes.add_point_notes.Goals as goal
 pub loop-index-preserved : goal.loop-index-preserved
 loop-index-preserved c =
     let nodes = c.args.arena.now.nodes in
+    let said = point_notes c.args.path.0 in
     let here = points nodes c.args.root.0 in
     let i = c.loop-index.index in
     let held = c.loop-index.invariant in (
@@ -21,7 +22,7 @@ loop-index-preserved c =
           step_index c.advance.result c.advance.new.self.index c.loop-index.cursor.index i (length here) (length (points nodes c.loop-index.cursor.root.0))
           c.advance.ensures.next c.advance.ensures.last (ap (λ r. length (points nodes r.0)) held.1) (held.2 before) lt),
       c.in_ok-add_notes_of.ensures
-          ∙ ap (λ ns. ns ++ option_map_or point_notes (slice_get here i) []) held.3
-          ∙ append_assoc c.args.notes.now (flat_map point_notes (take i here)) (option_map_or point_notes (slice_get here i) [])
-          ∙ ap (λ ns. c.args.notes.now ++ ns) (sym (flat_map-more point_notes here i)),
+          ∙ ap (λ ns. ns ++ option_map_or said (slice_get here i) []) held.3
+          ∙ append_assoc c.args.notes.now (flat_map said (take i here)) (option_map_or said (slice_get here i) [])
+          ∙ ap (λ ns. c.args.notes.now ++ ns) (sym (flat_map-more said here i)),
     )

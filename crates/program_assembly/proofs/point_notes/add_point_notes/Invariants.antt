@@ -11,4 +11,4 @@ invariant-loop-index l =
     StandsAt l.arena.nodes l.cursor
     × (l.cursor.root ≡ l.root)
     × (l.index < length (points l.arena.nodes l.root.0) → l.cursor.index ≡ l.index)
-    × (l.notes ≡ l.initial.notes ++ flat_map point_notes (take l.index (points l.arena.nodes l.root.0)))
+    × (l.notes ≡ l.initial.notes ++ flat_map (point_notes l.path.0) (take l.index (points l.arena.nodes l.root.0)))

@@ -18,14 +18,15 @@ returns-clause-report g c =
     let parm = chars c.args.parm.now in
     let outcome = c.in_ok-outcome.outcome in
     let nodes = c.expand.new.arena.nodes in
-    let world = state_of c.expand.new.world in
+    let state = state_of g.P.Present.members in
+    let world = state c.expand.new.world in
     let given : chars (rc_str_bytes c.in_ok-clone.field-0) ≡ text = ap chars c.in_ok-clone.ensures.cases in
     let from : (t : List ℕ) (s : ProgramState) → Type 0 = λ t s.
     ComesTo M.model program_world M.rebased M.item_of M.frames_of c.args.budget 0 (M.call_of (open_code_tree path t)) s world nodes outcome in
     record {
       world = world;
       outcome = outcome;
-      comes = subst (λ s. from text s) c.in_ok-world.ensures (subst (λ t. from t (state_of c.in_ok-world.world)) given c.in_ok-outcome.ensures.comes);
+      comes = subst (λ s. from text s) c.in_ok-world.ensures (subst (λ t. from t (state c.in_ok-world.world)) given c.in_ok-outcome.ensures.comes);
       root_is = refl;
       notes_are =
           c.in_ok-notes_of.ensures

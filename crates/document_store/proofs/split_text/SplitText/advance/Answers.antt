@@ -3,7 +3,7 @@ use Rattle.std.proofs.lemmas.List.{with_items_is}
 use Rattle.std.specs.List.{copy_within}
 use Rattle.std.specs.Prelude.{IsCharBoundary}
 use Rattle.document_store.specs.Parts.{Parts}
-use Rattle.document_store.proofs.SplitLemmas.{Holds, holds_advanced}
+use Rattle.document_store.proofs.SplitLemmas.{holds_advanced}
 use Rattle.document_store.proofs.split_text.SplitText.advance.Goals as goal
 
 pub invariant_of-self : goal.invariant_of-self

@@ -3,7 +3,7 @@ use Rattle.std.proofs.lemmas.List.{with_items_is}
 use Rattle.std.specs.List.{copy_within}
 use Rattle.std.specs.Prelude.{IsCharBoundary, IsUtf8}
 use Rattle.document_store.specs.Parts.{Parts}
-use Rattle.document_store.proofs.SplitLemmas.{Holds, holds_gone_back}
+use Rattle.document_store.proofs.SplitLemmas.{holds_gone_back}
 use Rattle.document_store.proofs.split_text.SplitText.go_back.Goals as goal
 
 pub invariant_of-self : goal.invariant_of-self

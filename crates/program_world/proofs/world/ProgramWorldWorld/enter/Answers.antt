@@ -6,7 +6,7 @@ use Rattle.program_world.specs.Puts.{held_by}
 use Rattle.program_world.proofs.world.ProgramWorldWorld.enter.Goals as goal
 
 pub returns : goal.returns
-returns c =
+returns g c =
     let now = c.args.self.now in
-    let with : Round → ProgramState = λ r. record { put = held_by now.puts; calls = round now.calls; depth = r; statement = now.statement; parm = now.parm } in
+    let with : Round → ProgramState = λ r. record { put = held_by now.puts; calls = round now.calls; depth = r; statement = now.statement; parm = now.parm; members = g.P.Present.members now.members } in
     ap with (round_more now.depth 1)

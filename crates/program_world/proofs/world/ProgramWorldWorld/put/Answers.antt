@@ -7,8 +7,8 @@ use Rattle.program_world.specs.World.{ProgramState}
 use Rattle.program_world.proofs.world.ProgramWorldWorld.put.Goals as goal
 
 pub returns-clause-err : goal.returns-clause-err
-returns-clause-err c =
+returns-clause-err g c =
     let now = c.args.self.now in
     let with : (Tree → Option Tree) → ProgramState =
-    λ puts. record { put = puts; calls = round now.calls; depth = round now.depth; statement = now.statement; parm = now.parm } in
+    λ puts. record { put = puts; calls = round now.calls; depth = round now.depth; statement = now.statement; parm = now.parm; members = g.P.Present.members now.members } in
     IfErr-weaker c.put.result _ _ (λ _ same. ap with same) c.put.ensures.err

@@ -1,0 +1,4 @@
+pub mod ListLaws
+pub mod ShelfLaws
+pub mod SiteLaws
+pub mod WidthLaws

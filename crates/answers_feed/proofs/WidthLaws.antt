@@ -1,0 +1,19 @@
+-- Bounds on the widths of lines.
+use Rattle.std.proofs.Common.{◌≡◌, ℕ, ◌*◌, ◌≤◌, List, length, take, get_or, ap, arith}
+use Rattle.std.proofs.lemmas.List.{length-take}
+use Rattle.std.proofs.lemmas.List.Sums.{sum_by-le}
+use Rattle.hl_base.specs.Texts.{units, unit_width}
+
+-- a character takes at most two units
+unit_width-le : (c : ℕ) → unit_width c ≤ 2
+unit_width-le c = grind arith
+
+units-le : (line : List ℕ) → units line ≤ 2 * length line
+units-le line = omega (arith, sum_by-le unit_width 2 line (λ i d within. unit_width-le (get_or line i d)))
+
+-- the shown columns of a line are at most 142 units wide
+pub width-small : (shown line : List ℕ) → shown ≡ take 71 line → units shown ≤ 142
+width-small shown line is =
+    let bound = units-le shown in
+    let size : length shown ≡ length (take 71 line) = ap length is in
+    omega (arith, length-take 71 line)

@@ -1,0 +1,6 @@
+pub mod Diagnostics
+pub mod Inside
+pub mod Kept
+pub mod Laws
+pub mod Same
+pub mod Sites

@@ -1,0 +1,20 @@
+//! The list of diagnostics of a program, as the editor shows it (LSP 3.17, "PublishDiagnostics Notification").
+//!
+//! `published` makes the list of the notes of a program: where each note is shown, its code and severity, and as related
+//! places the macros and members in which it arose. It asks the document store for the texts that are present, and knows
+//! nothing of the assembly that made the notes. `is_same_list` tells whether two lists say the same.
+#![tactic(auto)]
+
+mod diagnostics;
+pub mod laws;
+mod measured;
+mod same;
+mod shelf;
+mod sites;
+mod wording;
+
+pub use diagnostics::published;
+pub use same::is_same_list;
+
+#[cfg(test)]
+mod tests;

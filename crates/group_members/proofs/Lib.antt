@@ -1,0 +1,5 @@
+pub mod IndexLaws
+pub mod GatheringLaws
+pub mod MemberLaws
+pub mod AgreementLaws
+pub mod ChangeLaws

@@ -1,0 +1,4 @@
+pub mod Index
+pub mod Members
+pub mod Gathering
+pub mod Agreement

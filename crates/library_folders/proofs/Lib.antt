@@ -1,0 +1,3 @@
+pub mod FolderLaws
+pub mod PathLaws
+pub mod GroupLaws
