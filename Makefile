@@ -1,4 +1,4 @@
-# make run: proves and builds the program, and lists what it reports of a first example.
+# make run: proves and builds the program, and lists what it reports of a first example, and of one with a macro of a library.
 # make demo: proves and builds the program, and shows the stored session: what an editor sends and what it is answered.
 # make install: puts the program and hlasm-lint into PREFIX/bin, which is your own ~/.local/bin if you name no PREFIX, and says whether that is on your PATH.
 # make dist: makes dist/hlasm_ls-VERSION-linux-x86_64.tar.gz, which needs no kit where it is unpacked. The version is that of the file VERSION.
@@ -13,6 +13,7 @@ PREFIX = $(HOME)/.local
 program = crates/hlasm_ls
 lint = clients/hlasm-lint
 example = examples/first.hlasm
+library = --related --root examples/library examples/library
 
 # Frames, readably: a line for each header and each body.
 show = awk '{ gsub(/\r/, ""); gsub(/Content-Length/, "\n&"); print }' | sed -e '/^$$/d' -e 's/^/  /'
@@ -20,6 +21,8 @@ show = awk '{ gsub(/\r/, ""); gsub(/Content-Length/, "\n&"); print }' | sed -e '
 run: build
 	@echo; echo '$(lint) $(example)'
 	@$(lint) $(example) || test $$? -eq 1
+	@echo; echo '$(lint) $(library)'
+	@$(lint) $(library) || test $$? -eq 1
 
 demo: build
 	@echo; echo 'The editor sends:'; cat $(program)/stdin | $(show)

@@ -16,7 +16,7 @@ import time
 HERE = os.path.dirname(os.path.realpath(__file__))
 PAGE = os.path.join(HERE, "README.md")
 BEGIN, END = "<!-- figures, written by make bench -->\n", "<!-- end of the figures -->\n"
-SCRIPTS = ["statements.sh", "expressions.sh", "edits.sh", "session.sh", "definitions.sh", "open_code.sh", "macros.sh", "memo.sh"]
+SCRIPTS = ["statements.sh", "expressions.sh", "edits.sh", "session.sh", "definitions.sh", "open_code.sh", "macros.sh", "library.sh", "memo.sh"]
 # More than so much of the processors' time in use: the figures would be those of a busy machine.
 MOST_BUSY = 0.05
 
@@ -84,6 +84,9 @@ ROWS = [
         r"read alone in ([\d.]+) ms", most=4),
     Row("open_code.sh", "a loop of 90,000 points", r"points: ([\d.]+) ms", "ms", most=150),
     Row("open_code.sh", "memory of a point", r"(?m)^memory: (\d+) bytes", "bytes", most=300),
+    Row("library.sh", "5,000 members read at `initialized`", r"members read at initialized in ([\d.]+) ms", "ms", "listing and reading them",
+        r"listed and read by a plain program, its start included, in ([\d.]+) ms", most=1.5),
+    Row("library.sh", "a keystroke in a program that calls one of 5,000 members", r"calls one of \d+ members: ([\d.]+) ms", "ms"),
     Row("macros.sh", "10,000 calls of a macro with a counter and a constant", r"(?m)^10000 calls: (\d+) ms", "ms", "GNU as: 70 ms",
         most=70),
     Row("macros.sh", "100,000 such calls", r"(?m)^100000 calls: (\d+) ms", "ms", "GNU as: 980 ms", most=980),

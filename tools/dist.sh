@@ -11,7 +11,8 @@ trap 'rm -rf "$work"' EXIT
 root=$work/$name
 mkdir -p "$root/docs" "$root/examples" "$target"
 "$top/tools/install.sh" "$root/bin" > "$work/said"
-for file in $(cd "$top" && git ls-files clients 2> "$work/said" || (cd "$top" && find clients -type f)); do
+parts='clients examples/library'
+for file in $(cd "$top" && git ls-files $parts 2> "$work/said" || (cd "$top" && find $parts -type f)); do
     if [ "$file" != clients/hlasm-lint ]; then install -D -m 644 "$top/$file" "$root/$file"; fi
 done
 for page in USER EDITORS PIPELINE; do install -m 644 "$top/docs/$page.md" "$root/docs/"; done

@@ -14,10 +14,13 @@
 
 ;;; Code:
 
+(require 'cl-lib)
 (require 'eglot)
+(require 'filenotify)
 (require 'hlasm-mode)
 (require 'json)
 (require 'project)
+(require 'url-util)
 
 (defgroup hlasm-ls nil
   "HLASM files with the language server hlasm_ls."
@@ -79,15 +82,20 @@
       (insert-file-contents (expand-file-name (concat hlasm-ls--settings "/proc_grps.json") root))
       (alist-get 'pgroups (json-parse-buffer :object-type 'alist :array-type 'list)))))
 
-(defun hlasm-ls--libraries (root)
-  "The library folders of the workspace ROOT."
-  (let (folders)
+(defun hlasm-ls--library-paths (root)
+  "The library folders of the workspace ROOT, as its settings write them."
+  (let (paths)
     (dolist (group (hlasm-ls--groups root))
       (dolist (library (ignore-errors (alist-get 'libs group)))
         (let ((path (if (stringp library) library (ignore-errors (alist-get 'path library)))))
           (when (stringp path)
-            (push (file-name-as-directory (file-truename (expand-file-name path root))) folders)))))
-    folders))
+            (push path paths)))))
+    paths))
+
+(defun hlasm-ls--libraries (root)
+  "The library folders of the workspace ROOT."
+  (mapcar (lambda (path) (file-name-as-directory (file-truename (expand-file-name path root))))
+          (hlasm-ls--library-paths root)))
 
 (defun hlasm-ls--member-p ()
   "Whether the buffer's file stands in a library folder of its workspace."
@@ -96,6 +104,74 @@
     (member (file-truename (file-name-directory path)) (hlasm-ls--libraries root))))
 
 (add-to-list 'magic-mode-alist '(hlasm-ls--member-p . hlasm-mode))
+
+;;; What changes outside Emacs
+
+;; The server asks for nothing of the kind, so eglot watches nothing by itself.
+(cl-defstruct hlasm-ls--watching
+  "What is watched for a server: its workspace, the watches, and the paths that changed and were not told yet."
+  root watches changed)
+
+(defvar hlasm-ls--watching (make-hash-table :test #'eq)
+  "What is watched for each server.")
+
+(defconst hlasm-ls--pause 0.1
+  "What changes within so many seconds is told in one message.")
+
+(defun hlasm-ls--watched-folders (root)
+  "The folders whose files the server reads, as it names them: the settings and the libraries of the workspace ROOT."
+  (delete-dups
+   (cons (concat root "/" hlasm-ls--settings)
+         (mapcar (lambda (path)
+                   (string-remove-suffix "/" (if (string-prefix-p "/" path) path (concat root "/" path))))
+                 (hlasm-ls--library-paths root)))))
+
+(defun hlasm-ls--unwatch (server)
+  "End what is watched for SERVER."
+  (when-let ((it (gethash server hlasm-ls--watching)))
+    (mapc #'file-notify-rm-watch (hlasm-ls--watching-watches it))
+    (remhash server hlasm-ls--watching)))
+
+(defun hlasm-ls--change (path)
+  "The change of the file at PATH, as the protocol has it: one that is there may be told as changed, new or not."
+  (list :uri (concat "file://" (url-hexify-string path url-path-allowed-chars))
+        :type (if (file-exists-p path) 2 3)))
+
+(defun hlasm-ls--tell (server)
+  "Tell SERVER what changed, in order of the paths, and follow the settings."
+  (when-let ((it (gethash server hlasm-ls--watching)))
+    (if (not (jsonrpc-running-p server))
+        (hlasm-ls--unwatch server)
+      (let ((paths (sort (hlasm-ls--watching-changed it) #'string<))
+            (root (hlasm-ls--watching-root it)))
+        (setf (hlasm-ls--watching-changed it) nil)
+        (jsonrpc-notify server :workspace/didChangeWatchedFiles (list :changes (vconcat (mapcar #'hlasm-ls--change paths))))
+        (when (member (concat root "/" hlasm-ls--settings "/proc_grps.json") paths)
+          (hlasm-ls--watch server))))))
+
+(defun hlasm-ls--note (server folder event)
+  "Note for SERVER the files of FOLDER that EVENT names, to be told soon."
+  (when-let ((it (gethash server hlasm-ls--watching)))
+    (dolist (file (and (memq (nth 1 event) '(created changed deleted renamed)) (nthcdr 2 event)))
+      (when (stringp file)
+        (unless (hlasm-ls--watching-changed it)
+          (run-with-timer hlasm-ls--pause nil #'hlasm-ls--tell server))
+        (cl-pushnew (concat folder "/" (file-name-nondirectory file)) (hlasm-ls--watching-changed it) :test #'equal)))))
+
+(defun hlasm-ls--watch (server)
+  "Watch the libraries and the settings of the workspace of SERVER, in place of what was watched for it."
+  (let ((project (eglot--project server)))
+    (when (eq (car-safe project) 'hlasm-ls)
+      (hlasm-ls--unwatch server)
+      (let* ((root (directory-file-name (file-truename (cdr project))))
+             (it (make-hlasm-ls--watching :root root)))
+        (puthash server it hlasm-ls--watching)
+        (dolist (folder (hlasm-ls--watched-folders root))
+          (when (file-directory-p folder)
+            (push (file-notify-add-watch folder '(change) (lambda (event) (hlasm-ls--note server folder event)))
+                  (hlasm-ls--watching-watches it))))))))
+
+(add-hook 'eglot-server-initialized-hook #'hlasm-ls--watch)
 
 (provide 'hlasm-ls)
 

@@ -1,7 +1,7 @@
 #!/usr/bin/env python3
 """Emacs with the mode, eglot and the built program: it opens a file and shows the list of the server, and shows what is left when
-the fault that the last report names is mended; it asks for nothing that is not answered; and the mode types HLASM as its columns
-want. If there is no Emacs with eglot it says so and ends with 77: skipped.
+the fault that the last report names is mended; what changes in a library shows in the list of the program that calls it; it asks
+for nothing that is not answered; and the mode types HLASM as its columns want. If there is no Emacs with eglot it says so and ends with 77: skipped.
 
 Usage: emacs.py [--server PATH]
 """
@@ -33,18 +33,33 @@ WANTED = {
     "wrapped": False,
     "tabs": False,
     "ruler": 71,
+    "seen": ["no macro", "a macro", "an edited macro", "a macro that was not saved", "settings without a library",
+             "settings with the library", "no macro again"],
+}
+
+# A workspace whose library has no macro yet.
+GROUPS = '{"pgroups":[{"name":"G","libs":["lib"]}]}'
+WORKSPACE = {
+    ".hlasmplugin/proc_grps.json": GROUPS,
+    ".hlasmplugin/pgm_conf.json": '{"pgms":[{"program":"*.hlasm","pgroup":"G"}]}',
+    "lib/OTHER": "",
+    "p.hlasm": "         SHR\n         END\n",
 }
 
 
 def run(words, room, server):
     environment = dict(os.environ, HOME=room, HLASM_TEST_FILE=f"{room}/first.hlasm", HLASM_TEST_SERVER=server,
-                       HLASM_TEST_RECORD=f"{room}/record")
+                       HLASM_TEST_RECORD=f"{room}/record", HLASM_TEST_WORKSPACE=f"{room}/work", HLASM_TEST_GROUPS=GROUPS)
     return subprocess.run(words, cwd=room, env=environment, stdin=subprocess.DEVNULL, stdout=subprocess.PIPE,
                           stderr=subprocess.STDOUT, timeout=300, encoding="utf-8", errors="replace")
 
 
 def check(server, room):
     shutil.copy(f"{TOP}/examples/first.hlasm", f"{room}/first.hlasm")
+    for name, text in WORKSPACE.items():
+        os.makedirs(os.path.dirname(f"{room}/work/{name}"), exist_ok=True)
+        with open(f"{room}/work/{name}", "w", encoding="utf-8") as file:
+            file.write(text)
     if run([*EMACS, "--eval", "(require 'eglot)"], room, server).returncode != 0:
         print("emacs.py: skipped, this Emacs has no eglot (apt-get install elpa-eglot)")
         return SKIPPED

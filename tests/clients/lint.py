@@ -123,6 +123,48 @@ class Lint(unittest.TestCase):
             with open(os.path.join(TOP, page), encoding="utf-8") as file:
                 self.assertIn(listed, file.read(), page)
 
+    def test_the_example_with_a_library(self):
+        """What is listed of it stands in the page for users, and so do its settings."""
+        words = ["--related", "--root", "examples/library", "examples/library"]
+        with open(os.path.join(TOP, "tests/clients/library.txt"), encoding="utf-8") as file:
+            wanted = file.read().splitlines()
+        with open(os.path.join(TOP, "docs/USER.md"), encoding="utf-8") as file:
+            page = file.read()
+        self.assertIn("".join(f"    {line}\n" for line in [f"$ hlasm-lint {' '.join(words)}", *wanted]), page)
+        for name in ("proc_grps.json", "pgm_conf.json"):
+            with open(os.path.join(TOP, "examples/library/.hlasmplugin", name), encoding="utf-8") as file:
+                self.assertIn(f"```json\n{file.read()}```\n", page)
+        self.assertEqual((1, wanted, ""), lint(*words, folder=TOP))
+
+    def test_where_a_report_arose(self):
+        """In the forms for programs, as in lines: the file from the current folder, the line, and what stands there."""
+        words = ["--root", "examples/library", "examples/library/totals.hlasm"]
+        reports = [json.loads(line) for line in lint("--json", *words, folder=TOP)[1]]
+        place = {"file": "examples/library/macros/FIELD.mac", "line": 5, "message": "macro FIELD"}
+        self.assertEqual([None, [place]], [it.get("related") for it in reports])
+        results = json.loads("\n".join(lint("--sarif", *words, folder=TOP)[1]))["runs"][0]["results"]
+        self.assertNotIn("relatedLocations", results[0])
+        self.assertEqual([{
+            "physicalLocation": {"artifactLocation": {"uri": place["file"]}, "region": {"startLine": 5}},
+            "message": {"text": place["message"]},
+        }], results[1]["relatedLocations"])
+
+    def test_libraries_that_cannot_be_read(self):
+        """Each is a fault, since a program is reported to lack what it has."""
+        name, top = self.file("a.hlasm", END), os.path.realpath(self.folder)
+        none = {"pgms": []}
+        for groups, programs, logs in (
+            ({"pgroups": [{"name": "G", "libs": ["none"]}]}, none, [f"{top}/none: Absent"]),
+            ({"pgroups": [{"name": "G", "libs": [{"path": "none", "optional": True}]}]}, none, []),
+            ({"pgroups": [{"name": "G", "libs": ["a.hlasm/"]}]}, none, [f"{top}/a.hlasm: Unlisted"]),
+            ({"pgroups": [{"name": "G"}]}, none, [f"{top}/.hlasmplugin/proc_grps.json: BadConfig(libs)"]),
+            ("{", {"pgms": 1}, [f"{top}/.hlasmplugin/proc_grps.json: BadConfig(json)", f"{top}/.hlasmplugin/pgm_conf.json: BadConfig(pgms)"]),
+        ):
+            with self.subTest(logs):
+                self.settings(groups, programs)
+                said = "".join(f"hlasm-lint: {log}\n" for log in logs)
+                self.assertEqual((2 if logs else 0, [], said), lint(name, folder=self.folder))
+
     def test_the_examples_of_the_user_page(self):
         """Each code has examples, but those of which the page says why they have none: a ruler above, no line end behind, and below
         it what is listed, which the code is in."""
@@ -237,16 +279,26 @@ class Lint(unittest.TestCase):
         lines = lint(*words, "--only", "H001", folder=self.folder)[1]
         return [line.partition(":")[0] for line in lines]
 
-    def test_a_member_of_a_library_needs_no_end(self):
+    def settings(self, groups, programs=None):
+        """Writes the settings of the workspace: the groups, and if given the programs, as texts or as what is to be written."""
+        os.makedirs(os.path.join(self.folder, ".hlasmplugin"), exist_ok=True)
+        for name, value in ("proc_grps.json", groups), ("pgm_conf.json", programs):
+            if value is not None:
+                self.file(f".hlasmplugin/{name}", value if isinstance(value, str) else json.dumps(value))
+
+    def test_a_member_of_a_library_is_no_program(self):
         self.folder_of(".", "a.hlasm", "lib/b.hlasm", "lib/below/c.hlasm", "copy/d.hlasm")
-        groups = {"pgroups": [{"name": "G", "libs": ["lib/", 7, {"path": "./copy"}, {"optional": True}]}, 1, {"libs": 2}]}
-        wanted = ["H001", "H002", "H003"]
-        for settings, codes in (json.dumps(groups), wanted[:2]), ("{", wanted), ("[]", wanted), ('{"pgroups": 1}', wanted):
-            os.makedirs(os.path.join(self.folder, ".hlasmplugin"), exist_ok=True)
-            self.file(".hlasmplugin/proc_grps.json", settings)
-            for name, found in ("a.hlasm", wanted), ("lib/b.hlasm", codes), ("lib/below/c.hlasm", wanted), ("copy/d.hlasm", codes):
+        groups = {"pgroups": [{"name": "G", "libs": ["lib/", {"path": "./copy", "optional": True}]}]}
+        for settings, has_members in (groups, True), ("{", False), ("[]", False), ({"pgroups": 1}, False):
+            self.settings(settings)
+            for name, is_member in ("a.hlasm", False), ("lib/b.hlasm", has_members), ("lib/below/c.hlasm", False), ("copy/d.hlasm", has_members):
                 with self.subTest((settings, name)):
-                    self.assertEqual(found, self.codes_listed(name))
+                    self.assertEqual([] if is_member else ["H001", "H002", "H003"], self.codes_listed(name))
+                    said = f"hlasm-lint: {name}: is a member of a library, so it is not checked as a program\n"
+                    self.assertEqual(is_member, said in lint(name, folder=self.folder)[2])
+        self.settings(groups)
+        self.assertEqual(["a.hlasm", "lib/below/c.hlasm"], self.files_listed("."))
+        self.assertEqual((0, [], ""), lint("lib", "--ignore", "H001", "--ignore", "H002", "--ignore", "H003", folder=self.folder))
 
     def codes_listed(self, *words):
         return [line[-5:-1] for line in lint(*words, folder=self.folder)[1]]

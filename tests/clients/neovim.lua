@@ -52,7 +52,7 @@ local function shown_in(buffer)
   return shown
 end
 
-local record = { steps = {}, files = {} }
+local record = { steps = {}, files = {}, library = {} }
 
 -- Does an edit in the current buffer, waits for its diagnostics and writes them down.
 local function step(name, edit)
@@ -153,8 +153,9 @@ local function edits()
   step('lines that are no comments any more', function() vim.cmd('1,3HlasmComment') end)
 end
 
--- Each file beside the first: whether it counts as HLASM, and what is published for it.
+-- Each file beside the first: whether it counts as HLASM, and what is published for it; nothing is for a member of a library.
 local function files()
+  local members = vim.fn.split(vim.env.HLASM_TEST_MEMBERS, '\n')
   for _, name in ipairs(vim.fn.split(vim.env.HLASM_TEST_FILES, '\n')) do
     vim.cmd('silent edit ' .. vim.fn.fnameescape(name))
     local buffer = vim.api.nvim_get_current_buf()
@@ -162,14 +163,53 @@ local function files()
     if entry.filetype == 'hlasm' then
       assert(vim.wo.colorcolumn == '72', name .. ': the settings of the filetype are not there')
       assert(vim.bo.expandtab and vim.bo.varsofttabstop == '9,6,8' and not vim.wo.wrap, name .. ': typed otherwise')
-      local uri = vim.uri_from_bufnr(buffer)
-      await(name, function()
-        return published[uri]
-      end)
-      entry.diagnostics = published[uri].diagnostics
+      if not vim.tbl_contains(members, name) then
+        local uri = vim.uri_from_bufnr(buffer)
+        await(name, function()
+          return published[uri]
+        end)
+        entry.diagnostics = published[uri].diagnostics
+      end
     end
     table.insert(record.files, entry)
   end
+  for _, name in ipairs(members) do
+    assert(not published[vim.uri_from_fname(name)], name .. ': a list was published for a member')
+  end
+end
+
+-- A program, and a macro in a library that it calls: each thing that happens to the macro changes the program's list.
+local function library()
+  local root = vim.env.HLASM_TEST_LIBRARY
+  local program = vim.uri_from_fname(root .. '/p.hlasm')
+  local member, groups = root .. '/lib/SHR.mac', root .. '/.hlasmplugin/proc_grps.json'
+  local macro, settings = vim.fn.readfile(member), vim.fn.readfile(groups)
+  local function lists(what, code)
+    await(what, function()
+      local list = published[program]
+      return list and (code == nil and #list.diagnostics == 0 or #list.diagnostics == 1 and list.diagnostics[1].code == code)
+    end)
+    table.insert(record.library, { name = what, diagnostics = published[program].diagnostics })
+  end
+  vim.cmd('silent edit ' .. vim.fn.fnameescape(root .. '/p.hlasm'))
+  lists('the program is opened', nil)
+  vim.cmd('silent edit ' .. vim.fn.fnameescape(member))
+  keys("2Go         MNOTE 8,'x'<Esc>")
+  lists('the macro is edited', 'MNOTE')
+  vim.cmd('bdelete!')
+  lists('the macro is closed without being saved', nil)
+  vim.fn.writefile({ macro[1], macro[2], "         MNOTE 8,'y'", macro[3] }, member)
+  lists('the file of the macro is written', 'MNOTE')
+  vim.fn.delete(member)
+  lists('the file of the macro is deleted', 'H040')
+  vim.fn.writefile(macro, member)
+  lists('the file of the macro is there again', nil)
+  vim.fn.writefile({ '{"pgroups":[]}' }, groups)
+  lists('the settings have no library', 'H040')
+  vim.fn.writefile(settings, groups)
+  lists('the settings have the library again', nil)
+  vim.fn.delete(member)
+  lists('the file of the macro is deleted again', 'H040')
 end
 
 -- What the client offers to the user, and the folders of the workspaces.
@@ -191,6 +231,7 @@ local function run()
   edits()
   vim.cmd('silent write')
   files()
+  library()
   offers()
   vim.lsp.stop_client(clients())
   await('the end of the servers', function()

@@ -1,6 +1,7 @@
 #!/usr/bin/env python3
 """Neovim with the plugin and the built program: after each edit of a file, the diagnostics that Neovim has are those of a
-server that was started afresh with the same text. Where there is no Neovim it says so and ends with 77: skipped.
+server that was started afresh with the same text; and what is edited, written or deleted in a library shows in the list of the
+program that calls it. Where there is no Neovim it says so and ends with 77: skipped.
 
 Usage: neovim.py [--server PATH] [--nvim PATH]
 """
@@ -45,32 +46,56 @@ CODES = {
     "that undone": ["H001", "H001", "H003"],
     "that done again": ["H001", "H003"],
     "END typed below the last line": ["H001"],
-    "a mark deleted": ["H001"],
-    "a mark replaced by a blank": [],
-    "that undone too": ["H001"],
-    "many lines pasted": ["H002", "H001"],
+    "a mark deleted": ["H001", "H040"],
+    "a mark replaced by a blank": ["H040"],
+    "that undone too": ["H001", "H040"],
+    "many lines pasted": ["H002", "H001", "H040"],
     "all undone": ["H001", "H001", "H003"],
     "the file read again": ["H001", "H001", "H003"],
     "END typed once more": ["H001", "H001"],
-    "lines made comments": ["H001"],
+    "lines made comments": ["H001", "H040"],
     "lines that are no comments any more": ["H001", "H001"],
 }
 
-GROUPS = {"pgroups": [{"name": "G", "libs": ["lib/", {"path": "../shared"}, 7]}, {"libs": [{"path": "{room}/far"}]}, 1]}
+GROUPS = {"pgroups": [{"name": "G", "libs": ["lib/", {"path": "../shared"}]}, {"name": "H", "libs": [{"path": "{room}/far"}]}]}
 
-# Files, and whether they are HLASM.
+PROGRAM, MEMBER, OTHER = "a program", "a member of a library", "no HLASM"
+
+# Files, and what they are. The server resolves no "..", so for it a file in such a library is a program when it is opened.
 FILES = {
-    "work/b.HLASM": True,
-    "work/c.asm": True,
-    "work/d.mac": True,
-    "work/e.cpy": True,
-    "work/lib/MEMBER": True,
-    "work/lib/below/MEMBER": False,
-    "work/notes.txt": False,
-    "shared/MEMBER.txt": True,
-    "far/MEMBER": True,
-    "elsewhere/f.hlasm": True,
-    "elsewhere/MEMBER": False,
+    "work/b.HLASM": PROGRAM,
+    "work/c.asm": PROGRAM,
+    "work/d.mac": PROGRAM,
+    "work/e.cpy": PROGRAM,
+    "work/lib/MEMBER": MEMBER,
+    "work/lib/below/MEMBER": OTHER,
+    "work/notes.txt": OTHER,
+    "shared/MEMBER.txt": PROGRAM,
+    "far/MEMBER": MEMBER,
+    "elsewhere/f.hlasm": PROGRAM,
+    "elsewhere/MEMBER": OTHER,
+}
+
+# A workspace of its own, with a macro in its library.
+LIBRARY = {
+    ".hlasmplugin/proc_grps.json": '{"pgroups":[{"name":"G","libs":["lib"]}]}\n',
+    ".hlasmplugin/pgm_conf.json": '{"pgms":[{"program":"*.hlasm","pgroup":"G"}]}\n',
+    "lib/SHR.mac": "         MACRO\n         SHR\n         MEND\n",
+    "p.hlasm": "         SHR\n         END\n",
+}
+
+# The list of its program, as code, message, and the line of the library's macro that it arose by.
+NONE, UNKNOWN = [], [("H040", "operation SHR is not defined", [])]
+LISTED = {
+    "the program is opened": NONE,
+    "the macro is edited": [("MNOTE", "x", [("lib/SHR.mac", 2, "macro SHR")])],
+    "the macro is closed without being saved": NONE,
+    "the file of the macro is written": [("MNOTE", "y", [("lib/SHR.mac", 2, "macro SHR")])],
+    "the file of the macro is deleted": UNKNOWN,
+    "the file of the macro is there again": NONE,
+    "the settings have no library": UNKNOWN,
+    "the settings have the library again": NONE,
+    "the file of the macro is deleted again": UNKNOWN,
 }
 
 
@@ -107,6 +132,8 @@ def prepare(room, program):
     write(f"{room}/work/a.hlasm", FIRST)
     for name in FILES:
         write(f"{room}/{name}", FIRST)
+    for name, text in LIBRARY.items():
+        write(f"{room}/library/{name}", text)
     write(f"{room}/server", f"#!/bin/sh\n'{program}' serve\necho $? >> '{room}/statuses'\n")
     os.chmod(f"{room}/server", 0o755)
 
@@ -114,7 +141,9 @@ def prepare(room, program):
 def run_neovim(nvim, room):
     """Runs the edits; what Neovim wrote down."""
     environment = dict(os.environ, HOME=room, HLASM_TEST_FILE=f"{room}/work/a.hlasm", HLASM_TEST_RECORD=f"{room}/record",
-                       HLASM_TEST_FILES="\n".join(f"{room}/{name}" for name in FILES))
+                       HLASM_TEST_FILES="\n".join(f"{room}/{name}" for name in FILES),
+                       HLASM_TEST_MEMBERS="\n".join(f"{room}/{name}" for name in FILES if FILES[name] == MEMBER),
+                       HLASM_TEST_LIBRARY=f"{room}/library")
     for name in ("CONFIG", "DATA", "STATE", "CACHE"):
         environment[f"XDG_{name}_HOME"] = f"{room}/{name.lower()}"
     words = [nvim, "--clean", "--headless", "-n", "-i", "NONE", "--cmd", f"set runtimepath^={TOP}/clients/neovim",
@@ -156,19 +185,34 @@ def faults_of_files(lint, program, room, files, roots):
     wanted = fresh(lint, program, room, FIRST)
     if len(files) != len(FILES):
         yield f"only {len(files)} files were opened"
-    for entry, (name, is_hlasm) in zip(files, FILES.items()):
-        if (entry["filetype"] == "hlasm") != is_hlasm:
+    for entry, (name, kind) in zip(files, FILES.items()):
+        if (entry["filetype"] == "hlasm") != (kind != OTHER):
             yield f"{name}: the filetype is {entry['filetype']!r}"
-        elif is_hlasm and entry["diagnostics"] != wanted:
+        elif kind == PROGRAM and entry["diagnostics"] != wanted:
             yield f"{name}: Neovim has {entry['diagnostics']}\n  and a fresh server says {wanted}"
-    if sorted(roots) != ["", f"{room}/work"]:
+    if sorted(roots) != ["", f"{room}/library", f"{room}/work"]:
         yield f"the workspaces are {roots}"
+
+
+def arose_in(room, diagnostic):
+    """The places in the library that a diagnostic arose by."""
+    top = f"file://{room}/library/"
+    for it in diagnostic.get("relatedInformation", []):
+        place = it["location"]
+        yield place["uri"].replace(top, ""), place["range"]["start"]["line"], it["message"]
+
+
+def faults_of_library(room, library):
+    found = {step["name"]: [(it["code"], it["message"], list(arose_in(room, it))) for it in step["diagnostics"]] for step in library}
+    for name, wanted in LISTED.items():
+        if found.get(name) != wanted:
+            yield f"{name}: the list of the program is {found.get(name)}, not {wanted}"
 
 
 def faults_of_end(room):
     with open(f"{room}/statuses", encoding="utf-8") as file:
         statuses = file.read().split()
-    if statuses != ["0", "0"]:
+    if statuses != ["0", "0", "0"]:
         yield f"the servers ended with {statuses}"
 
 
@@ -178,7 +222,8 @@ def check(nvim, program, room):
     lint = lint_module()
     try:
         faults = [*faults_of_steps(lint, program, room, record["steps"]), *faults_of_end(room),
-                  *faults_of_files(lint, program, room, record["files"], record["roots"])]
+                  *faults_of_files(lint, program, room, record["files"], record["roots"]),
+                  *faults_of_library(room, record["library"])]
     except lint.ServerFault as fault:
         faults = [f"a fresh server: {fault}"]
     if "rror" in record["messages"] or "quit with" in record["messages"]:

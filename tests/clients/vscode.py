@@ -1,7 +1,7 @@
 #!/usr/bin/env python3
 """The extension for VS Code, started by node with a stand-in for the calls of VS Code and of its generic client: it starts the
-program, an opened file gets the list that hlasm-lint prints, nothing is asked that is not answered, and it ends in good order;
-the tab key goes to the columns where fields begin; and what the manifest names is there. If there is no node it says so and
+program, an opened file gets the list that hlasm-lint prints, what changes in a library shows in the list of the program that calls
+it, nothing is asked that is not answered, and it ends in good order; the tab key goes to the columns where fields begin; and what the manifest names is there. If there is no node it says so and
 ends with 77: skipped.
 
 Usage: vscode.py [--server PATH]
@@ -12,6 +12,7 @@ import os
 import shutil
 import subprocess
 import sys
+import tempfile
 import unittest
 
 TOP = os.path.normpath(os.path.join(os.path.dirname(os.path.realpath(__file__)), "../.."))
@@ -28,9 +29,9 @@ def read(path):
         return file.read()
 
 
-def started():
+def started(file=EXAMPLE, workspace=None):
     """What the stand-in found."""
-    words = ["node", os.path.join(TOP, "tests/clients/vscode.js"), EXTENSION, server, EXAMPLE]
+    words = ["node", os.path.join(TOP, "tests/clients/vscode.js"), EXTENSION, server, file, *([workspace] if workspace else [])]
     return json.loads(subprocess.run(words, capture_output=True, check=True, timeout=60, encoding="utf-8").stdout)
 
 
@@ -51,6 +52,23 @@ class Extension(unittest.TestCase):
         self.assertIsNone(found["lists"]["first.hlasm.txt"], "a file of another language is opened")
         self.assertEqual([], found["asked"], "asked without an answer")
         self.assertEqual((0, 1), (found["status"], found["disposables"]))
+
+    def test_changes_in_a_library_and_in_settings(self):
+        with tempfile.TemporaryDirectory(prefix="hlasm-vscode-") as room:
+            room = os.path.realpath(room)
+            for folder in (".hlasmplugin", "lib", "other"):
+                os.mkdir(os.path.join(room, folder))
+            for name, text in (
+                (".hlasmplugin/proc_grps.json", '{"pgroups":[{"name":"G","libs":["lib"]}]}'),
+                (".hlasmplugin/pgm_conf.json", '{"pgms":[{"program":"*.hlasm","pgroup":"G"}]}'),
+                ("p.hlasm", "         SHR\n         END\n"),
+            ):
+                with open(os.path.join(room, name), "w", encoding="utf-8") as file:
+                    file.write(text)
+            found = started(os.path.join(room, "p.hlasm"), room)
+        self.assertEqual(["H040"], [it["code"] for it in found["lists"]["p.hlasm"]])
+        self.assertEqual([["lib/SHR.mac", []], ["lib/SHR.mac", ["MNOTE"]], ["lib/SHR.mac", ["H040"]], ["other/SHR", []]], found["changes"])
+        self.assertEqual((0, 2), (found["status"], found["disposables"]))
 
     def test_the_tab_key_goes_to_the_next_field(self):
         stops = [(at, at + count) for at, count in started()["typed"]]

@@ -1,7 +1,7 @@
-//! The language server as a program, over standard input and output.
+//! The language server as a program, over standard input and output and the files of this machine.
 //!
-//! It hands the words after its name, standard input and standard output to `hlasm_server::run`, and ends with the
-//! number of the status. Where the status is not `Done`, its name is printed on standard error; standard output has
+//! It hands the words after its name, standard input, standard output and the file system to `hlasm_server::run`, and ends
+//! with the number of the status. Where the status is not `Done`, its name is printed on standard error; standard output has
 //! nothing but the session's frames. What a run writes is the contract of `run`; here is only what it runs on.
 #![tactic(auto)]
 
@@ -10,7 +10,7 @@ ghost use Rattle.hlasm_server.specs.Words.{command_of};
 
 use hl_base::{Ledger, OutOfMemory, Steps};
 use hlasm_server::{Status, run};
-use io_edge::{Failed, MemoryLibrary, Source, StdSink, StdSource};
+use io_edge::{Failed, FolderLibrary, Library, Source, StdSink, StdSource};
 use std::alloc::Global;
 use std::env;
 use std::io::{ErrorKind, Read, Write};
@@ -58,12 +58,13 @@ impl<S: Source> Source for AtOnce<S> {
     }
 }
 
-/// Runs the command over an input and an output, with no files and in a ledger that nothing else uses.
-fn run_on_streams<I: Read + Drop, O: Write + Drop, L: Ledger>(
+/// Runs the command over an input, an output and a library, in a ledger that nothing else uses.
+fn run_on_streams<I: Read + Drop, O: Write + Drop, B: Library + Drop, L: Ledger>(
     alloc: Global,
     words: &[String],
     input: I,
     output: O,
+    mut library: B,
     blank: Blank,
 ) -> Status
     requires name { blank.name ≡ L.name }
@@ -78,7 +79,6 @@ fn run_on_streams<I: Read + Drop, O: Write + Drop, L: Ledger>(
         Err(OutOfMemory) => return Status::OutOfMemory,
     };
     let mut sink = StdSink::new(output);
-    let mut library = MemoryLibrary::new(alloc, Vec::new(alloc), Vec::new(alloc), Vec::new(alloc));
     let mut steps = Steps::<L>::open(blank);
     run(
         alloc,
@@ -92,11 +92,12 @@ fn run_on_streams<I: Read + Drop, O: Write + Drop, L: Ledger>(
 
 fn main(rt: HostRuntime) -> ExitCode {
     let status = match words_after_name(&rt) {
-        Ok(words) => run_on_streams::<_, _, Brand>(
+        Ok(words) => run_on_streams::<_, _, _, Brand>(
             rt.alloc(),
             &words,
             rt.stdin(),
             rt.stdout(),
+            FolderLibrary::new(&rt),
             Blank::new(1),
         ),
         Err(status) => status,

@@ -10,7 +10,7 @@ use Rattle.session_core.specs.Message.{message}
 use Rattle.session_core.specs.State.{State}
 use Rattle.session_core.specs.Step as step
 use Rattle.session_core.specs.Turn.{turn}
-use Rattle.session_core.proofs.MessageLaws.{message_unanswered}
+use Rattle.session_core.proofs.ShortLaws.{message_unanswered}
 use Rattle.io_edge.specs.LibraryCall.{LibraryCall}
 use Rattle.rpc_framing.specs.Frames.{IsFrame, IsFrames, IsPartial, IsBadStart}
 use Rattle.hlasm_server.specs.declared.status.Status.{Status}

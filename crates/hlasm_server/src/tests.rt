@@ -4,7 +4,7 @@ ghost use Rattle.std.specs.Prelude.{◌≡◌, ◌<◌, ◌^◌, None, All, IfOk
 use crate::feeding::{LARGEST_PIECE, Next, next_body};
 use crate::{Status, run};
 use hl_base::{Ledger, Steps};
-use io_edge::{Failed, MemoryLibrary, MemorySink, MemorySource, Sink, Source};
+use io_edge::{Failed, Library, MemoryLibrary, MemorySink, MemorySource, Sink, Source};
 use rpc_framing::FrameReader;
 use std::alloc::{AllocError, Global};
 use std::cell::Cell;
@@ -66,20 +66,31 @@ fn first_bytes(alloc: Global, pieces: &[&str], count: usize) -> Result<Vec<u8>, 
 }
 
 /// Runs in a ledger that nothing else uses.
-fn run_counted<S: Source, K: Sink, L: Ledger>(
+fn run_counted<S: Source, K: Sink, B: Library, L: Ledger>(
     alloc: Global,
     words: &[String],
     source: &mut S,
     sink: &mut K,
+    library: &mut B,
     blank: Blank,
 ) -> Status
     requires name { blank.name ≡ L.name }
     requires parts { blank.parts ≡ L.parts }
     requires one { blank.parts ≡ 1 }
 {
-    let mut library = MemoryLibrary::new(alloc, Vec::new(alloc), Vec::new(alloc), Vec::new(alloc));
     let mut steps = Steps::<L>::open(blank);
-    run(alloc, words, source, sink, &mut library, &mut steps)
+    run(alloc, words, source, sink, library, &mut steps)
+}
+
+/// Runs over this library.
+pub(crate) fn run_over<S: Source, K: Sink, B: Library>(
+    alloc: Global,
+    words: &[String],
+    source: &mut S,
+    sink: &mut K,
+    library: &mut B,
+) -> Status {
+    run_counted::<S, K, B, Brand>(alloc, words, source, sink, library, Blank::new(1))
 }
 
 /// Runs with no files.
@@ -89,7 +100,8 @@ fn run_words<S: Source, K: Sink>(
     source: &mut S,
     sink: &mut K,
 ) -> Status {
-    run_counted::<S, K, Brand>(alloc, words, source, sink, Blank::new(1))
+    let mut library = MemoryLibrary::new(alloc, Vec::new(alloc), Vec::new(alloc), Vec::new(alloc));
+    run_over(alloc, words, source, sink, &mut library)
 }
 
 /// Runs `serve`.

@@ -1,5 +1,5 @@
 -- Steps of notifications, as the code makes them.
-use Rattle.std.proofs.Common.{◌≡◌, ◌≢◌, ℕ, ℤ, List, [], ◌∷◌, Option, Result, Err, sym, ap, ◌∙◌}
+use Rattle.std.proofs.Common.{◌≡◌, ◌≢◌, ℕ, ℤ, List, [], ◌∷◌, Option, Result, Ok, Err, sym, ap, ◌∙◌}
 use Rattle.hl_base.specs.declared.edit.Edit.{Edit}
 use Rattle.hl_base.specs.declared.place.PathId.{PathId}
 use Rattle.lsp_messages.specs.declared.incoming.LspIn.{LspIn}
@@ -8,12 +8,15 @@ use Rattle.document_store.specs.Store.{Store}
 use Rattle.document_store.specs.Changes.{Answers, opened, changed, closed}
 use Rattle.document_store.specs.declared.fault.StoreFault.{StoreFault}
 use Rattle.document_store.specs.declared.fault.StoreFault.TheVariants as fault
+use Rattle.library_folders.specs.declared.folders.Folder.{Folder}
+use Rattle.library_reading.specs.Asked.{answered}
 use Rattle.session_core.specs.Inside.{change_asked, closing_asked}
+use Rattle.session_core.specs.declared.state.LastList.{LastList}
 use Rattle.session_core.specs.declared.state.Stage.{Stage}
-use Rattle.session_core.specs.Message.{asked, asked_at}
+use Rattle.session_core.specs.Message.{asked, asked_at, queue_all, after_leaving, farewell_at}
 use Rattle.session_core.specs.Replies.{log_line, refusal_of}
-use Rattle.session_core.specs.State.{State}
-use Rattle.session_core.specs.Step.{Effect, IsEffect}
+use Rattle.session_core.specs.State.{State, libraries, programs, with_programs, without, published_without}
+use Rattle.session_core.specs.Step.{Effect, IsEffect, Acts}
 use Rattle.session_core.proofs.StoreLaws.{Answers-refused}
 
 -- a step whose bodies are told in other words
@@ -29,7 +32,8 @@ pub state_kept : (s old : State) (store : Store) (queue : List PathId) → old �
 state_kept s old store queue is kept same = ap (λ z. record old { store = z; queue = queue }) kept ∙ ap (λ q. record old { queue = q }) same ∙ is
 
 -- a message at a stage that is known
-pub asked_in : (stage : Stage) (s now : State) (told : Result LspIn Refusal) (bodies : List (List ℕ)) → s.stage ≡ stage → IsEffect (asked_at stage s told) now bodies → IsEffect (asked s told) now bodies
+pub asked_in : (stage : Stage) (s now : State) (told : Result LspIn Refusal) (bodies : List (List ℕ)) → s.stage ≡ stage → Acts (asked_at stage s told) now bodies
+    → Acts (asked s told) now bodies
 asked_in stage s now told bodies is step = ap (λ z. asked_at z s told) is ∙ step
 
 -- ---- what the store answers
@@ -54,16 +58,47 @@ Logs method refused bodies = (refused ≢ fault.OutOfMemory) × (bodies ≡ log_
 
 -- the store has refused a change
 pub change_refused : (s now : State) (method : List ℕ) (wanted asked : Result Store StoreFault) (refused : StoreFault) (new : Store) (bodies : List (List ℕ))
-    → wanted ≡ asked → Answers {T = Unit {0}} asked (Err refused) new → now ≡ s → Logs method refused bodies → IsEffect (change_asked s method wanted) now bodies
+    → wanted ≡ asked → Answers {T = Unit {0}} asked (Err refused) new → now ≡ s → Logs method refused bodies → Acts (change_asked s method wanted) now bodies
 change_refused s now method wanted asked refused new bodies same answers kept logs =
     let told : wanted ≡ Err refused = same ∙ Answers-refused asked refused new answers logs.0 in
-    ap (change_asked s method) told ∙ ap (λ z. record { state = z; bodies = log_line method (refusal_of refused) ∷ [] }) (sym kept)
-    ∙ ap (λ z. record { state = now; bodies = z }) (sym logs.1)
+    ap (change_asked s method) told ∙ ap (λ z. answered (record { state = z; bodies = log_line method (refusal_of refused) ∷ [] })) (sym kept)
+    ∙ ap (λ z. answered (record { state = now; bodies = z })) (sym logs.1)
 
 -- the store has refused to close
 pub closing_refused : (s now : State) (method : List ℕ) (n : Option PathId) (wanted asked : Result Store StoreFault) (refused : StoreFault) (new : Store) (bodies : List (List ℕ))
-    → wanted ≡ asked → Answers {T = Unit {0}} asked (Err refused) new → now ≡ s → Logs method refused bodies → IsEffect (closing_asked s method n wanted) now bodies
+    → wanted ≡ asked → Answers {T = Unit {0}} asked (Err refused) new → now ≡ s → Logs method refused bodies → Acts (closing_asked s method n wanted) now bodies
 closing_refused s now method n wanted asked refused new bodies same answers kept logs =
     let told : wanted ≡ Err refused = same ∙ Answers-refused asked refused new answers logs.0 in
-    ap (closing_asked s method n) told ∙ ap (λ z. record { state = z; bodies = log_line method (refusal_of refused) ∷ [] }) (sym kept)
-    ∙ ap (λ z. record { state = now; bodies = z }) (sym logs.1)
+    ap (closing_asked s method n) told ∙ ap (λ z. answered (record { state = z; bodies = log_line method (refusal_of refused) ∷ [] })) (sym kept)
+    ∙ ap (λ z. answered (record { state = now; bodies = z })) (sym logs.1)
+
+-- ---- what the store takes
+
+-- the store has taken a change
+pub change_taken : (s now : State) (method : List ℕ) (wanted : Result Store StoreFault) (new : Store) (bodies : List (List ℕ)) → wanted ≡ Ok new → now ≡ queue_all (record s { store = new }) → bodies ≡ []
+    → Acts (change_asked s method wanted) now bodies
+change_taken s now method wanted new bodies told is none =
+    ap (change_asked s method) told ∙ ap (λ z. answered (record { state = z; bodies = [] })) (sym is) ∙ ap (λ z. answered (record { state = now; bodies = z })) (sym none)
+
+-- every program was queued, by folders that are the library folders
+pub queued_as : (s old : State) (store : Store) (queue kept : List PathId) (folders : List Folder) → old ≡ s → kept ≡ old.queue → folders ≡ libraries old
+    → queue ≡ with_programs kept (programs folders store) → record old { store = store; queue = queue } ≡ queue_all (record s { store = store })
+queued_as s old store queue kept folders is same are told =
+    ap (λ q. record old { store = store; queue = q }) (told ∙ ap (λ k. with_programs k (programs folders store)) same ∙ ap (λ f. with_programs old.queue (programs f store)) are)
+    ∙ ap (λ z. queue_all (record z { store = store })) is
+
+-- the store has closed a document
+pub closing_taken : (s now : State) (method : List ℕ) (n : Option PathId) (wanted : Result Store StoreFault) (new : Store) (bodies : List (List ℕ)) → wanted ≡ Ok new
+    → now ≡ (after_leaving s n new).state → bodies ≡ farewell_at s n → Acts (closing_asked s method n wanted) now bodies
+closing_taken s now method n wanted new bodies told is farewell =
+    ap (closing_asked s method n) told ∙ ap (λ z. answered (record { state = z; bodies = farewell_at s n })) (sym is)
+    ∙ ap (λ z. answered (record { state = now; bodies = z })) (sym farewell)
+
+pub left_as : (s old : State) (store : Store) (queue kept : List PathId) (published : List LastList) (n : Option PathId) (folders : List Folder) → old ≡ s → kept ≡ without old.queue n
+    → published ≡ published_without old.published n → folders ≡ libraries old → queue ≡ with_programs kept (programs folders store)
+    → record old { store = store; queue = queue; published = published } ≡ (after_leaving s n store).state
+left_as s old store queue kept published n folders is same others are told =
+    ap (λ q. record old { store = store; queue = q; published = published })
+    (told ∙ ap (λ k. with_programs k (programs folders store)) same ∙ ap (λ f. with_programs (without old.queue n) (programs f store)) are)
+    ∙ ap (λ p. record old { store = store; queue = with_programs (without old.queue n) (programs (libraries old) store); published = p }) others
+    ∙ ap (λ z. (after_leaving z n store).state) is

@@ -6,30 +6,30 @@ use Rattle.std.specs.Cmp.Lexicographic.{pointwise}
 use Rattle.std.specs.Str.{bytes_eq}
 use Rattle.std.proofs.lemmas.Bool.Decides.{Decides-eqb, Decides-int_eq}
 use Rattle.std.proofs.lemmas.Slice.Eq.{bytes_eq-Decides}
-use Rattle.serde_json.specs.Data.{Data}
-use Rattle.json_view.specs.Texts.{reading}
 use Rattle.io_edge.specs.LibraryCall.{LibraryCall}
 use Rattle.hl_base.specs.declared.edit.Position.{Position}
 use Rattle.hl_base.specs.declared.place.PathId.{PathId}
 use Rattle.lsp_messages.specs.declared.incoming.LspIn.{LspIn}
 use Rattle.lsp_messages.specs.declared.incoming.LspIn.TheVariants.{Initialize, Shutdown, Initialized, Exit, DidOpen, DidChange, DidClose, DidSave, DidChangeConfiguration, DidChangeWatchedFiles}
-use Rattle.lsp_messages.specs.declared.incoming.Refusal.{Refusal}
 use Rattle.lsp_messages.specs.declared.outgoing.Diagnostic.{Diagnostic}
 use Rattle.lsp_messages.specs.declared.outgoing.Relation.{Relation}
 use Rattle.lsp_messages.specs.declared.outgoing.Span.{Span}
-use Rattle.lsp_messages.specs.Messages.{is_response, message_of}
 use Rattle.document_store.specs.Store.{Store, OpenDocument}
 use Rattle.document_store.specs.Changes.{opened, changed, closed}
 use Rattle.document_store.specs.declared.fault.StoreFault.{StoreFault}
+use Rattle.library_folders.specs.declared.folders.Folder.{Folder}
+use Rattle.library_reading.specs.Asked.{Asked, Came, Lacks, Differs}
 use Rattle.session_core.specs.declared.state.LastList.{LastList}
-use Rattle.session_core.specs.Diagnostics.{diagnostics_of}
+use Rattle.session_core.specs.declared.state.Stage.TheVariants.{Active}
+use Rattle.session_core.specs.Diagnostics.{list_of}
 use Rattle.session_core.specs.Laws.{is_listed, AreFresh, AllQueued, LeavesFresh, KeepsOrQueues}
-use Rattle.session_core.specs.Message.{message, event, received, asked, effect, effect_of, after_change, after_closing, queue_all, is_passed_over, unless_refused}
-use Rattle.session_core.specs.Refusals.{Refused, refusal, is_ended}
-use Rattle.session_core.specs.Replies.{list_body}
-use Rattle.session_core.specs.Same.{is_same_position, is_same_span, is_same_relation, is_same_diagnostic, is_same_list}
-use Rattle.session_core.specs.State.{State, start, number_at, number_named, is_number, is_program, is_queued, document_at, programs, with_programs, last_list, without_list, with_list, without, published_without}
-use Rattle.session_core.specs.Step.{Effect, quiet, says}
+use Rattle.session_core.specs.Message.{message, event, effect, after_change, after_closing, farewell_at, queue_all, root_of}
+use Rattle.session_core.specs.Refusals.{is_ended}
+use Rattle.session_core.specs.Replies.{initialize_reply, list_body}
+use Rattle.answers_feed.specs.Same.{is_same_position, is_same_span, is_same_relation, is_same_diagnostic, is_same_list}
+use Rattle.session_core.specs.State.{State, start, libraries, number_at, number_named, is_number, is_program, is_queued, document_at, programs, with_programs, last_list, without_list, with_list, without, published_without}
+use Rattle.session_core.specs.Step.{Effect, quiet, says, step_of}
+use Rattle.session_core.proofs.AskingLaws.{Whenever, whenever_event, HoldsOfQueues, whenever_begun, whenever_watched}
 use Rattle.session_core.proofs.TextLaws.{found_passes}
 use Rattle.session_core.specs.Turn.{is_published, publish, assemble_first, assemble_many, turn, turn_of, turn_at, without_first}
 
@@ -58,7 +58,7 @@ any_front p (x ∷ xs) ys here = by_first (p x) here (any_front p xs ys) where
   by_first true first later = refl
   by_first false first later = later first
 
-any_back : {X : Type 0} (p : X → Bool) (xs ys : List X) → list_any p ys ≡ true → list_any p (xs ++ ys) ≡ true
+pub any_back : {X : Type 0} (p : X → Bool) (xs ys : List X) → list_any p ys ≡ true → list_any p (xs ++ ys) ≡ true
 any_back p [] ys there = there
 any_back p (x ∷ xs) ys there = or_right (p x) (list_any p (xs ++ ys)) (any_back p xs ys there)
 
@@ -82,29 +82,30 @@ other_number a b differs = by_test (is_number a b) refl where
 -- ---- the queue
 
 -- a program that is open is among the programs
-among_programs : (store : Store) (n : PathId) (documents : List OpenDocument) (document : OpenDocument) → find (λ d. is_number (number_at store d) n) documents ≡ Some document → is_program document ≡ true
-    → list_any (is_number n) (map (number_at store) (filter is_program documents)) ≡ true
-among_programs store n [] document found program = cc
-among_programs store n (d ∷ rest) document found program =
-    by_number (is_number (number_at store d) n) refl found (λ behind. among_programs store n rest document behind program) where
+among_programs : (folders : List Folder) (store : Store) (n : PathId) (documents : List OpenDocument) (document : OpenDocument)
+    → find (λ d. is_number (number_at store d) n) documents ≡ Some document → is_program folders document ≡ true
+    → list_any (is_number n) (map (number_at store) (filter (is_program folders) documents)) ≡ true
+among_programs folders store n [] document found program = cc
+among_programs folders store n (d ∷ rest) document found program =
+    by_number (is_number (number_at store d) n) refl found (λ behind. among_programs folders store n rest document behind program) where
       others : List PathId
-      others = map (number_at store) (filter is_program rest)
+      others = map (number_at store) (filter (is_program folders) rest)
 
-      by_program : (b : Bool) → list_any (is_number n) others ≡ true → list_any (is_number n) (map (number_at store) (cond b (d ∷ filter is_program rest) (filter is_program rest))) ≡ true
+      by_program : (b : Bool) → list_any (is_number n) others ≡ true → list_any (is_number n) (map (number_at store) (cond b (d ∷ filter (is_program folders) rest) (filter (is_program folders) rest))) ≡ true
       by_program true there = or_right (is_number n (number_at store d)) (list_any (is_number n) others) there
       by_program false there = there
 
-      by_first : is_number (number_at store d) n ≡ true → (b : Bool) → b ≡ true → list_any (is_number n) (map (number_at store) (cond b (d ∷ filter is_program rest) (filter is_program rest))) ≡ true
+      by_first : is_number (number_at store d) n ≡ true → (b : Bool) → b ≡ true → list_any (is_number n) (map (number_at store) (cond b (d ∷ filter (is_program folders) rest) (filter (is_program folders) rest))) ≡ true
       by_first same true is = ap (λ c. c || list_any (is_number n) others) (number_back (number_at store d) n same)
       by_first same false is = cc
 
       by_number : (b : Bool) → is_number (number_at store d) n ≡ b → cond b (Some d) (find (λ e. is_number (number_at store e) n) rest) ≡ Some document
           → (find (λ e. is_number (number_at store e) n) rest ≡ Some document → list_any (is_number n) others ≡ true)
-          → list_any (is_number n) (map (number_at store) (cond (is_program d) (d ∷ filter is_program rest) (filter is_program rest))) ≡ true
+          → list_any (is_number n) (map (number_at store) (cond (is_program folders d) (d ∷ filter (is_program folders) rest) (filter (is_program folders) rest))) ≡ true
       by_number true same here later =
           let first : d ≡ document = cc in
-          by_first same (is_program d) (ap is_program first ∙ program)
-      by_number false same behind later = by_program (is_program d) (later behind)
+          by_first same (is_program folders d) (ap (is_program folders) first ∙ program)
+      by_number false same behind later = by_program (is_program folders d) (later behind)
 
 -- a program that is queued too is queued
 queued_too : (n : PathId) (queue others : List PathId) → list_any (is_number n) others ≡ true → is_queued (with_programs queue others) n ≡ true
@@ -135,7 +136,8 @@ queued_too n queue (m ∷ others) there = by_number (is_number n m) refl there (
 
 -- where every program is queued, each is
 all_queued : (s : State) → AllQueued (queue_all s)
-all_queued s n document found program = queued_too n s.queue (programs s.store) (among_programs s.store n s.store.documents document found program)
+all_queued s n document found program =
+    queued_too n s.queue (programs (libraries s) s.store) (among_programs (libraries s) s.store n s.store.documents document found program)
 
 fresh_queued : (s : State) → AllQueued s → AreFresh s
 fresh_queued s all n document found program free = absurd (not_both (is_queued s.queue n) (all n document found program) free)
@@ -208,10 +210,10 @@ last_newest (x ∷ published) last = by_kept (is_number x.path last.path) refl (
 
 -- the first program is listed, and the others are as they were
 fresh_publish : (s : State) (n : PathId) (rest : List PathId) (document : OpenDocument) → s.queue ≡ n ∷ rest → document_at s.store n ≡ Some document → AreFresh s
-    → AreFresh (publish (without_first s) n document (diagnostics_of s.budget n document.text)).state
-fresh_publish s n rest document queue found fresh = by_old (is_published (last_list s.published n) document.version (diagnostics_of s.budget n document.text)) refl where
+    → AreFresh (publish (without_first s) n document (list_of s n document)).state
+fresh_publish s n rest document queue found fresh = by_old (is_published (last_list s.published n) document.version (list_of s n document)) refl where
   list : List Diagnostic
-  list = diagnostics_of s.budget n document.text
+  list = list_of s n document
 
   newest : LastList
   newest = record { path = n; version = document.version; list = list }
@@ -243,7 +245,7 @@ fresh_publish s n rest document queue found fresh = by_old (is_published (last_l
         subst (λ z. is_listed (record s { published = with_list s.published newest }) m z ≡ true) document_is
         (subst (λ k. is_listed (record s { published = with_list s.published newest }) k document ≡ true) (sym number) here)
     by_number false differs =
-        ap (λ z. is_published z other.version (diagnostics_of s.budget m other.text)) (last_other s.published newest m (other_number n m differs)) ∙ fresh m other at program (others m differs free)
+        ap (λ z. is_published z other.version (list_of s m other)) (last_other s.published newest m (other_number n m differs)) ∙ fresh m other at program (others m differs free)
 
 -- a number without a document leaves the queue
 fresh_without : (s : State) (n : PathId) (rest : List PathId) → s.queue ≡ n ∷ rest → document_at s.store n ≡ None → AreFresh s → AreFresh (without_first s)
@@ -280,120 +282,118 @@ fresh_many (suc n) s fresh = fresh_many n (assemble_first s).state (fresh_first 
 abbrev IsGood : Effect → Type 0
 IsGood step = is_ended step.state.stage ≡ false → AreFresh step.state
 
-good_cond : (b : Bool) (step other : Effect) → IsGood step → IsGood other → IsGood (cond b step other)
-good_cond true step other good also = good
-good_cond false step other good also = also
-
-good_unless : (s : State) (why : Option Refused) (step : Effect) → AreFresh s → IsGood step → IsGood (unless_refused s why step)
-good_unless s None step fresh good = good
-good_unless s (Some why) step fresh good = λ alive. fresh
-
-good_change : (s : State) (asked : Result Store StoreFault) → AreFresh s → IsGood (after_change s asked)
-good_change s (Ok store) fresh = λ alive. fresh_queued (queue_all (record s { store = store })) (all_queued (record s { store = store }))
-good_change s (Err fault) fresh = λ alive. fresh
-
 abbrev left_behind : State → Option PathId → Store → State
 left_behind s n store = record s { store = store; queue = without s.queue n; published = published_without s.published n }
 
+-- where every program is queued
+good_queues : (s : State) (bodies : List (List ℕ)) → IsGood (record { state = queue_all s; bodies = bodies })
+good_queues s bodies alive = fresh_queued (queue_all s) (all_queued s)
+
+good_change : (s : State) (asked : Result Store StoreFault) → AreFresh s → IsGood (after_change s asked)
+good_change s (Ok store) fresh = good_queues (record s { store = store }) []
+good_change s (Err fault) fresh = λ alive. fresh
+
 good_closing : (s : State) (n : Option PathId) (asked : Result Store StoreFault) → AreFresh s → IsGood (after_closing s n asked)
-good_closing s n (Ok store) fresh = λ alive. fresh_queued (queue_all (left_behind s n store)) (all_queued (left_behind s n store))
+good_closing s n (Ok store) fresh = good_queues (left_behind s n store) (farewell_at s n)
 good_closing s n (Err fault) fresh = λ alive. fresh
 
-good_effect : (s : State) (message : LspIn) → AreFresh s → IsGood (effect s message)
-good_effect s (Initialize id root) fresh = λ alive. fresh
-good_effect s (Shutdown id) fresh = λ alive. fresh_many (length s.queue) s fresh
-good_effect s Initialized fresh = λ alive. fresh_queued (queue_all s) (all_queued s)
-good_effect s Exit fresh = λ alive. cc
-good_effect s (DidOpen uri language version text) fresh = good_change s (opened s.store uri language version text) fresh
-good_effect s (DidChange uri version edits) fresh = good_change s (changed s.store uri version edits) fresh
-good_effect s (DidClose uri) fresh = good_closing s (number_named s.store uri) (closed s.store uri) fresh
-good_effect s DidSave fresh = λ alive. fresh
-good_effect s DidChangeConfiguration fresh = λ alive. fresh
-good_effect s (DidChangeWatchedFiles changes) fresh = λ alive. fresh
+good_files : (s : State) → AreFresh s → HoldsOfQueues IsGood s
+good_files s fresh = record { stays = λ bodies alive. fresh; queues = good_queues }
 
-good_of : (s : State) (told : Result LspIn Refusal) → AreFresh s → IsGood (effect_of s told)
-good_of s (Ok message) fresh = good_effect s message fresh
-good_of s (Err refusal) fresh = λ alive. fresh
+good_effect : (s : State) (message : LspIn) (calls : List LibraryCall) → AreFresh s → Whenever IsGood (effect s message calls)
+good_effect s (Initialize id root) calls fresh = good_queues (record s { stage = Active; root = root_of root }) (initialize_reply id ∷ [])
+good_effect s (Shutdown id) calls fresh = λ alive. fresh_many (length s.queue) s fresh
+good_effect s Initialized calls fresh = whenever_begun IsGood s s.root calls (good_files s fresh)
+good_effect s Exit calls fresh = λ alive. cc
+good_effect s (DidOpen uri language version text) calls fresh = good_change s (opened s.store uri language version text) fresh
+good_effect s (DidChange uri version edits) calls fresh = good_change s (changed s.store uri version edits) fresh
+good_effect s (DidClose uri) calls fresh = good_closing s (number_named s.store uri) (closed s.store uri) fresh
+good_effect s DidSave calls fresh = λ alive. fresh
+good_effect s DidChangeConfiguration calls fresh = λ alive. fresh
+good_effect s (DidChangeWatchedFiles changes) calls fresh = whenever_watched IsGood s changes calls (good_files s fresh)
 
-good_asked : (s : State) (told : Result LspIn Refusal) → AreFresh s → IsGood (asked s told)
-good_asked s told fresh =
-    good_cond (is_passed_over s.stage told) (quiet s) _ (λ alive. fresh) (good_unless s (refusal s.stage s.store (Some told)) (effect_of s told) fresh (good_of s told fresh))
-
-good_received : (s : State) (value : Option Data) → AreFresh s → IsGood (received s value)
-good_received s None fresh = λ alive. fresh
-good_received s (Some value) fresh = good_cond (is_response value) (quiet s) (asked s (message_of value)) (λ alive. fresh) (good_asked s (message_of value) fresh)
+good_leaves : (asked : Asked Effect) → Whenever IsGood asked → LeavesFresh (step_of asked)
+good_leaves (Came effect rest) good = good
+good_leaves Lacks good = tt
+good_leaves Differs good = tt
 
 pub fresh_message : (s : State) (body : List ℕ) (calls : List LibraryCall) → AreFresh s → LeavesFresh (message s body calls)
-unfolding event
-fresh_message s body calls fresh = good_cond (is_ended s.stage) (quiet s) (received s (reading body)) (λ alive. fresh) (good_received s (reading body) fresh)
+fresh_message s body calls fresh =
+    good_leaves (event s body calls)
+    (whenever_event IsGood s body calls (record {
+      nothing = λ alive. fresh;
+      refused = λ line alive. fresh;
+      taken = λ told more. good_effect s told more fresh;
+    }))
 
 pub fresh_start : (budget : ℕ) → AreFresh (start budget)
 fresh_start budget n document found program free = cc
 
 -- ---- changes
 
--- the documents are as they were, or every program is queued
+-- the documents, the files and the configuration are as they were
+abbrev IsAsBefore : State → State → Type 0
+IsAsBefore s t = (t.store ≡ s.store) × (t.configuration ≡ s.configuration)
+
+-- or every program is queued
 abbrev KeepsThemOrQueues : State → Effect → Type 0
-KeepsThemOrQueues s effect = (effect.state.store ≡ s.store) ⊎ AllQueued effect.state
-
-keeps_cond : (s : State) (b : Bool) (step other : Effect) → KeepsThemOrQueues s step → KeepsThemOrQueues s other → KeepsThemOrQueues s (cond b step other)
-keeps_cond s true step other keeps also = keeps
-keeps_cond s false step other keeps also = also
-
-keeps_unless : (s : State) (why : Option Refused) (step : Effect) → KeepsThemOrQueues s step → KeepsThemOrQueues s (unless_refused s why step)
-keeps_unless s None step keeps = keeps
-keeps_unless s (Some why) step keeps = inl refl
+KeepsThemOrQueues s effect = IsAsBefore s effect.state ⊎ AllQueued effect.state
 
 keeps_change : (s : State) (asked : Result Store StoreFault) → KeepsThemOrQueues s (after_change s asked)
 keeps_change s (Ok store) = inr (all_queued (record s { store = store }))
-keeps_change s (Err fault) = inl refl
+keeps_change s (Err fault) = inl (refl, refl)
 
 keeps_closing : (s : State) (n : Option PathId) (asked : Result Store StoreFault) → KeepsThemOrQueues s (after_closing s n asked)
 keeps_closing s n (Ok store) = inr (all_queued (left_behind s n store))
-keeps_closing s n (Err fault) = inl refl
+keeps_closing s n (Err fault) = inl (refl, refl)
 
-store_of_cond : (b : Bool) (s t : State) (body : List ℕ) → t.store ≡ s.store → (cond b (quiet s) (says t body)).state.store ≡ s.store
-store_of_cond true s t body same = refl
-store_of_cond false s t body same = same
+kept_cond : (b : Bool) (s t : State) (body : List ℕ) → IsAsBefore s t → IsAsBefore s (cond b (quiet s) (says t body)).state
+kept_cond true s t body same = (refl, refl)
+kept_cond false s t body same = same
 
-store_of_turn_at : (s : State) (n : PathId) (document : Option OpenDocument) → (turn_at s n document).state.store ≡ s.store
-store_of_turn_at s n None = refl
-store_of_turn_at s n (Some document) = store_of_cond (is_published (last_list s.published n) document.version (diagnostics_of s.budget n document.text)) s _ _ refl
+kept_turn_at : (s : State) (n : PathId) (document : Option OpenDocument) → IsAsBefore s (turn_at s n document).state
+kept_turn_at s n None = (refl, refl)
+kept_turn_at s n (Some document) = kept_cond (is_published (last_list s.published n) document.version (list_of s n document)) s _ _ (refl, refl)
 
-store_of_first : (s : State) → (assemble_first s).state.store ≡ s.store
+kept_first : (s : State) → IsAsBefore s (assemble_first s).state
 unfolding assemble_first
-store_of_first s = by_queue (slice_get s.queue 0) where
-  by_queue : (first : Option PathId) → (turn_of s first).state.store ≡ s.store
-  by_queue None = refl
-  by_queue (Some n) = store_of_turn_at (without_first s) n (document_at s.store n)
+kept_first s = by_queue (slice_get s.queue 0) where
+  by_queue : (first : Option PathId) → IsAsBefore s (turn_of s first).state
+  by_queue None = (refl, refl)
+  by_queue (Some n) = kept_turn_at (without_first s) n (document_at s.store n)
 
-store_of_many : (n : ℕ) (s : State) → (assemble_many n s).state.store ≡ s.store
-store_of_many zero s = refl
-store_of_many (suc n) s = store_of_many n (assemble_first s).state ∙ store_of_first s
+kept_many : (n : ℕ) (s : State) → IsAsBefore s (assemble_many n s).state
+kept_many zero s = (refl, refl)
+kept_many (suc n) s =
+    let first = kept_first s in
+    let others = kept_many n (assemble_first s).state in
+    (others.0 ∙ first.0, others.1 ∙ first.1)
 
-keeps_effect : (s : State) (message : LspIn) → KeepsThemOrQueues s (effect s message)
-keeps_effect s (Initialize id root) = inl refl
-keeps_effect s (Shutdown id) = inl (store_of_many (length s.queue) s)
-keeps_effect s Initialized = inl refl
-keeps_effect s Exit = inl refl
-keeps_effect s (DidOpen uri language version text) = keeps_change s (opened s.store uri language version text)
-keeps_effect s (DidChange uri version edits) = keeps_change s (changed s.store uri version edits)
-keeps_effect s (DidClose uri) = keeps_closing s (number_named s.store uri) (closed s.store uri)
-keeps_effect s DidSave = inl refl
-keeps_effect s DidChangeConfiguration = inl refl
-keeps_effect s (DidChangeWatchedFiles changes) = inl refl
+keeps_files : (s : State) → HoldsOfQueues (KeepsThemOrQueues s) s
+keeps_files s = record { stays = λ bodies. inl (refl, refl); queues = λ t bodies. inr (all_queued t) }
 
-keeps_of : (s : State) (told : Result LspIn Refusal) → KeepsThemOrQueues s (effect_of s told)
-keeps_of s (Ok message) = keeps_effect s message
-keeps_of s (Err refusal) = inl refl
+keeps_effect : (s : State) (message : LspIn) (calls : List LibraryCall) → Whenever (KeepsThemOrQueues s) (effect s message calls)
+keeps_effect s (Initialize id root) calls = inr (all_queued (record s { stage = Active; root = root_of root }))
+keeps_effect s (Shutdown id) calls = inl (kept_many (length s.queue) s)
+keeps_effect s Initialized calls = whenever_begun (KeepsThemOrQueues s) s s.root calls (keeps_files s)
+keeps_effect s Exit calls = inl (refl, refl)
+keeps_effect s (DidOpen uri language version text) calls = keeps_change s (opened s.store uri language version text)
+keeps_effect s (DidChange uri version edits) calls = keeps_change s (changed s.store uri version edits)
+keeps_effect s (DidClose uri) calls = keeps_closing s (number_named s.store uri) (closed s.store uri)
+keeps_effect s DidSave calls = inl (refl, refl)
+keeps_effect s DidChangeConfiguration calls = inl (refl, refl)
+keeps_effect s (DidChangeWatchedFiles changes) calls = whenever_watched (KeepsThemOrQueues s) s changes calls (keeps_files s)
 
-keeps_asked : (s : State) (told : Result LspIn Refusal) → KeepsThemOrQueues s (asked s told)
-keeps_asked s told = keeps_cond s (is_passed_over s.stage told) (quiet s) _ (inl refl) (keeps_unless s (refusal s.stage s.store (Some told)) (effect_of s told) (keeps_of s told))
-
-keeps_received : (s : State) (value : Option Data) → KeepsThemOrQueues s (received s value)
-keeps_received s None = inl refl
-keeps_received s (Some value) = keeps_cond s (is_response value) (quiet s) (asked s (message_of value)) (inl refl) (keeps_asked s (message_of value))
+keeps_leaves : (s : State) (asked : Asked Effect) → Whenever (KeepsThemOrQueues s) asked → KeepsOrQueues s (step_of asked)
+keeps_leaves s (Came effect rest) keeps = keeps
+keeps_leaves s Lacks keeps = tt
+keeps_leaves s Differs keeps = tt
 
 pub change_queues : (s : State) (body : List ℕ) (calls : List LibraryCall) → KeepsOrQueues s (message s body calls)
-unfolding event
-change_queues s body calls = keeps_cond s (is_ended s.stage) (quiet s) (received s (reading body)) (inl refl) (keeps_received s (reading body))
+change_queues s body calls =
+    keeps_leaves s (event s body calls)
+    (whenever_event (KeepsThemOrQueues s) s body calls (record {
+      nothing = inl (refl, refl);
+      refused = λ line. inl (refl, refl);
+      taken = keeps_effect s;
+    }))

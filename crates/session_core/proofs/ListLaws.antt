@@ -1,13 +1,6 @@
 -- Lists from an index on.
-use Rattle.std.proofs.Common.{◌≡◌, ℕ, ◌+◌, ◌<◌, ◌≤◌, Bool, ◌&&◌, List, [], ◌∷◌, length, drop, take, ◌++◌, get_or, Some, None, zero, suc, refl, ap, ◌∙◌, slice_get, arith, cond, find, true, false, Result, Ok, Err, OnOk, IfOk}
+use Rattle.std.proofs.Common.{◌≡◌, ℕ, ◌+◌, ◌≤◌, Bool, List, [], ◌∷◌, length, drop, take, ◌++◌, Some, None, zero, suc, refl, ap, ◌∙◌, slice_get, arith, cond, find, true, false, Result, Ok, Err, OnOk, IfOk}
 use Rattle.std.specs.List.{remove}
-use Rattle.std.specs.Cmp.Lexicographic.{pointwise}
-use Rattle.std.proofs.lemmas.List.{drop_more}
-
--- two lists from an index on are alike where their next elements are, and the others are
-pub pointwise_next : {X : Type 0} (E : X → X → Bool) (xs ys : List X) (i : ℕ) (d e : X) → i < length xs → i < length ys
-    → pointwise E (drop i xs) (drop i ys) ≡ (E (get_or xs i d) (get_or ys i e) && pointwise E (drop (i + 1) xs) (drop (i + 1) ys))
-pointwise_next E xs ys i d e within within_other = rw (drop_more xs i d within, drop_more ys i e within_other) refl
 
 later : {X : Type 0} (xs : List X) (y : X) (i : ℕ) → drop (i + 1) xs ≡ drop (suc i + 1) (y ∷ xs)
 later xs y i = ap (λ k. drop k (y ∷ xs)) (let e : suc (i + 1) ≡ suc i + 1 = omega arith in e)

@@ -1,9 +1,10 @@
 -- What a message that is refused leaves, and what stands behind the end.
-use Rattle.std.proofs.Common.{◌≡◌, ℕ, Bool, true, false, not, cond, ◌≤◌, List, [], ◌∷◌, length, Option, Some, None, Result, Ok, Err, refl, ap, arith, codes}
+use Rattle.std.proofs.Common.{◌≡◌, ℕ, Bool, true, false, not, cond, List, [], ◌∷◌, Option, Some, None, Result, Ok, Err, refl, ap, arith, codes}
 use Rattle.std.specs.Prelude.{is_err}
 use Rattle.serde_json.specs.Data.{Data}
 use Rattle.json_view.specs.Texts.{reading}
 use Rattle.io_edge.specs.LibraryCall.{LibraryCall}
+use Rattle.library_reading.specs.Asked.{Asking, answered}
 use Rattle.lsp_messages.specs.declared.incoming.Id.{Id}
 use Rattle.lsp_messages.specs.declared.incoming.LspIn.{LspIn}
 use Rattle.lsp_messages.specs.declared.incoming.LspIn.TheVariants.{Initialize, Shutdown, Initialized, Exit, DidOpen, DidChange, DidClose, DidSave, DidChangeConfiguration, DidChangeWatchedFiles}
@@ -20,24 +21,24 @@ use Rattle.session_core.specs.Laws.{is_refused, is_refused_value, is_refused_bod
 use Rattle.session_core.specs.Message.{message, event, received, asked, effect_of, is_passed_over, unless_refused}
 use Rattle.session_core.specs.Refusals.{Refused, OutOfPlace, TooEarly, where_so, first_of, refusal, log_fault, is_fresh, is_active, is_closed, is_ended}
 use Rattle.session_core.specs.State.{State}
-use Rattle.session_core.specs.Step.{Effect, quiet, Goes, MakesAll}
+use Rattle.session_core.specs.Step.{Effect, quiet, Goes, step_of}
 
--- the state is left, and one body may be written
-abbrev LeavesState : Effect → State → Type 0
-LeavesState effect s = (effect.state ≡ s) × (length effect.bodies ≤ 1)
+-- the state is left, one body may be written, and the library is asked nothing
+abbrev LeavesState : Asking Effect → State → Type 0
+LeavesState event s = (calls : List LibraryCall) → Keeps (step_of (event calls)) s calls
 
-keeps_quiet : (s : State) → LeavesState (quiet s) s
-keeps_quiet s = (refl, omega arith)
+keeps_quiet : (s : State) → LeavesState (answered (quiet s)) s
+keeps_quiet s calls = (refl, omega arith, refl)
 
 -- what keeps the state in either case keeps it
-keeps_cond : (s : State) (b : Bool) (step other : Effect) → LeavesState step s → LeavesState other s → LeavesState (cond b step other) s
-keeps_cond s true step other keeps also = keeps
-keeps_cond s false step other keeps also = also
+keeps_cond : (s : State) (b : Bool) (event other : Asking Effect) → LeavesState event s → LeavesState other s → LeavesState (cond b event other) s
+keeps_cond s true event other keeps also = keeps
+keeps_cond s false event other keeps also = also
 
 -- what is refused keeps it
-keeps_refused : (s : State) (why : Option Refused) (step : Effect) → (why ≡ None → LeavesState step s) → LeavesState (unless_refused s why step) s
-keeps_refused s None step keeps = keeps refl
-keeps_refused s (Some why) step keeps = (refl, omega arith)
+keeps_refused : (s : State) (why : Option Refused) (event : Asking Effect) → (why ≡ None → LeavesState event s) → LeavesState (unless_refused s why event) s
+keeps_refused s None event keeps = keeps refl
+keeps_refused s (Some why) event keeps = λ calls. (refl, omega arith, refl)
 
 -- there is a reason
 refused_early : (stage : Stage) (id : Id) (others : List (Option Refused)) → not (is_fresh stage) ≡ true → first_of (where_so (not (is_fresh stage)) (OutOfPlace id) ∷ others) ≡ None → ⊥
@@ -77,7 +78,7 @@ asked_kept s told refused =
     (keeps_refused s (refusal s.stage s.store (Some told)) (effect_of s told) (refused_keeps s told refused))
 
 received_kept : (s : State) (value : Option Data) → is_refused_value s value ≡ true → LeavesState (received s value) s
-received_kept s None refused = (refl, omega arith)
+received_kept s None refused = λ calls. (refl, omega arith, refl)
 received_kept s (Some value) refused = keeps_cond s (is_response value) _ _ (keeps_quiet s) (asked_kept s (message_of value) refused)
 
 event_kept : (s : State) (body : List ℕ) → is_refused_body s body ≡ true → LeavesState (event s body) s
@@ -85,20 +86,16 @@ unfolding event
 event_kept s body refused = keeps_cond s (is_ended s.stage) _ _ (keeps_quiet s) (received_kept s (reading body) refused)
 
 pub message_kept : (s : State) (body : List ℕ) (calls : List LibraryCall) → is_refused_body s body ≡ true → Keeps (message s body calls) s calls
-message_kept s body calls refused = let kept = event_kept s body refused in (kept.0, kept.1, refl)
+message_kept s body calls refused = event_kept s body refused calls
 
--- where no call is to come, none is another
-pub message_unanswered : (s : State) (body : List ℕ) → MakesAll (message s body [])
-message_unanswered s body = refl
-
-event_ended : (s : State) (closed : Bool) (body : List ℕ) → phase_of s ≡ phases.Exit closed → event s body ≡ quiet s
+event_ended : (s : State) (closed : Bool) (body : List ℕ) → phase_of s ≡ phases.Exit closed → event s body ≡ answered (quiet s)
 unfolding event
 event_ended s closed body ends = by_stage s.stage refl where
-  by_stage : (stage : Stage) → s.stage ≡ stage → cond (is_ended stage) (quiet s) (received s (reading body)) ≡ quiet s
+  by_stage : (stage : Stage) → s.stage ≡ stage → cond (is_ended stage) (answered (quiet s)) (received s (reading body)) ≡ answered (quiet s)
   by_stage Fresh e = let h = rw e at ends in cc
   by_stage Active e = let h = rw e at ends in cc
   by_stage Closing e = let h = rw e at ends in cc
   by_stage (Ended c) e = refl
 
 pub message_ended : (s : State) (closed : Bool) (body : List ℕ) (calls : List LibraryCall) → phase_of s ≡ phases.Exit closed → message s body calls ≡ Goes s [] calls
-message_ended s closed body calls ends = ap (λ (z : Effect). Goes z.state z.bodies calls) (event_ended s closed body ends)
+message_ended s closed body calls ends = ap (λ (z : Asking Effect). step_of (z calls)) (event_ended s closed body ends)

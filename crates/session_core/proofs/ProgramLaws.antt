@@ -1,11 +1,14 @@
 -- The open documents by the numbers of their paths, and the queue of programs.
 use Rattle.std.proofs.Common.{◌≡◌, ℕ, ◌+◌, ◌≤◌, Bool, true, false, not, ◌&&◌, ◌==◌, cond, List, [], ◌∷◌, ◌++◌, length, drop, take, map, filter, find, Option, Some, None, refl, sym, ap, ◌∙◌, subst, slice_get, append_assoc}
-use Rattle.std.specs.Str.{chars}
+use Rattle.std.specs.Prelude.{codes, encode_utf8_all}
+use Rattle.std.specs.Str.{bytes_eq}
 use Rattle.std.proofs.lemmas.List.{append-nil}
 use Rattle.hl_base.specs.declared.place.PathId.{PathId}
 use Rattle.document_store.specs.Store.{Store, OpenDocument}
 use Rattle.document_store.specs.Shown.{IsShown, Shows}
 use Rattle.document_store.specs.declared.document.Document.{Document}
+use Rattle.library_folders.specs.declared.folders.Folder.{Folder}
+use Rattle.library_folders.specs.Folders.{is_member}
 use Rattle.session_core.specs.Inside.{wanted_of, wanted_from}
 use Rattle.session_core.specs.State.{number_at, is_number, is_program, is_queued, document_at, programs, with_programs}
 use Rattle.session_core.proofs.ListLaws.{drop_some, drop_none, drop_all, take_front, find_first, find_later}
@@ -70,11 +73,23 @@ search_ends s n i searched few =
     let none = drop_all s.documents i few in
     subst (λ z. IsShown s.paths z None) (sym (searched ∙ ap (find (λ d. is_number (number_at s d) n)) none)) tt
 
+-- ---- programs
+
+-- a document of the language of programs is one where it stands in no library folder
+pub program_by_path : (folders : List Folder) (shown : OpenDocument) (path : List ℕ) (member : Bool) → bytes_eq (encode_utf8_all shown.language) (codes "hlasm") ≡ true
+    → member ≡ is_member folders path → path ≡ shown.path → not member ≡ is_program folders shown
+program_by_path folders shown path member language is same =
+    ap not (is ∙ ap (is_member folders) same) ∙ sym (ap (λ b. b && not (is_member folders shown.path)) language)
+
+-- and one of another language is none
+pub program_by_language : (folders : List Folder) (shown : OpenDocument) → bytes_eq (encode_utf8_all shown.language) (codes "hlasm") ≡ false → false ≡ is_program folders shown
+program_by_language folders shown other = sym (ap (λ b. b && not (is_member folders shown.path)) other)
+
 -- ---- the queue
 
-wanted_next : (queue : List PathId) (s : Store) (document : OpenDocument) (rest : List OpenDocument)
-    → wanted_from queue s (document ∷ rest) ≡ wanted_of queue document (number_at s document) ++ wanted_from queue s rest
-wanted_next queue s document rest = by_program (is_program document) where
+wanted_next : (folders : List Folder) (queue : List PathId) (s : Store) (document : OpenDocument) (rest : List OpenDocument)
+    → wanted_from folders queue s (document ∷ rest) ≡ wanted_of folders queue document (number_at s document) ++ wanted_from folders queue s rest
+wanted_next folders queue s document rest = by_program (is_program folders document) where
   number : PathId
   number = number_at s document
 
@@ -82,43 +97,46 @@ wanted_next queue s document rest = by_program (is_program document) where
   by_queued true others = refl
   by_queued false others = refl
 
-  by_program : (b : Bool) → filter (λ n. not (is_queued queue n)) (map (number_at s) (cond b (document ∷ filter is_program rest) (filter is_program rest)))
-      ≡ cond (b && not (is_queued queue number)) (number ∷ []) [] ++ wanted_from queue s rest
-  by_program true = by_queued (not (is_queued queue number)) (wanted_from queue s rest)
+  by_program : (b : Bool) → filter (λ n. not (is_queued queue n)) (map (number_at s) (cond b (document ∷ filter (is_program folders) rest) (filter (is_program folders) rest)))
+      ≡ cond (b && not (is_queued queue number)) (number ∷ []) [] ++ wanted_from folders queue s rest
+  by_program true = by_queued (not (is_queued queue number)) (wanted_from folders queue s rest)
   by_program false = refl
 
 -- the documents before this place are queued, where they are wanted
-pub record IsQueuing (s : Store) (queue now : List PathId) (i : ℕ) : Type 0 where
+pub record IsQueuing (folders : List Folder) (s : Store) (queue now : List PathId) (i : ℕ) : Type 0 where
   pub more : List PathId
   pub is : now ≡ queue ++ more
-  pub others : more ++ wanted_from queue s (drop i s.documents) ≡ wanted_from queue s s.documents
+  pub others : more ++ wanted_from folders queue s (drop i s.documents) ≡ wanted_from folders queue s s.documents
 
-pub queuing_begins : (s : Store) (queue : List PathId) → IsQueuing s queue queue 0
-queuing_begins s queue = record { more = []; is = sym (append-nil queue); others = refl }
+pub queuing_begins : (folders : List Folder) (s : Store) (queue : List PathId) → IsQueuing folders s queue queue 0
+queuing_begins folders s queue = record { more = []; is = sym (append-nil queue); others = refl }
 
-pub queuing_goes_on : (s : Store) (queue now next : List PathId) (i : ℕ) (shown : Document) → IsQueuing s queue now i → IsShown s.paths (slice_get s.documents i) (Some shown)
-    → ((document : OpenDocument) → chars shown.language.now ≡ document.language → next ≡ now ++ wanted_of (take (length queue) now) document shown.path)
-    → IsQueuing s queue next (i + 1)
-queuing_goes_on s queue now next i shown queuing is grown =
+pub queuing_goes_on : (folders : List Folder) (s : Store) (queue now next : List PathId) (i : ℕ) (shown : Document) → IsQueuing folders s queue now i
+    → IsShown s.paths (slice_get s.documents i) (Some shown)
+    → ((document : OpenDocument) → Shows s.paths document shown → next ≡ now ++ wanted_of folders (take (length queue) now) document shown.path)
+    → IsQueuing folders s queue next (i + 1)
+queuing_goes_on folders s queue now next i shown queuing is grown =
     let at = shows_at s i shown is in
     let number = number_shown s at.document shown at.shows in
     let front : take (length queue) now ≡ queue = ap (take (length queue)) queuing.is ∙ take_front queue queuing.more in
-    let added : next ≡ now ++ wanted_of queue at.document shown.path =
-    grown at.document at.shows.language ∙ ap (λ z. now ++ wanted_of z at.document shown.path) front in
+    let added : next ≡ now ++ wanted_of folders queue at.document shown.path =
+    grown at.document at.shows ∙ ap (λ z. now ++ wanted_of folders z at.document shown.path) front in
     record {
-      more = queuing.more ++ wanted_of queue at.document shown.path;
-      is = added ∙ ap (λ z. z ++ wanted_of queue at.document shown.path) queuing.is ∙ append_assoc queue queuing.more (wanted_of queue at.document shown.path);
-      others = append_assoc queuing.more (wanted_of queue at.document shown.path) (wanted_from queue s (drop (i + 1) s.documents))
+      more = queuing.more ++ wanted_of folders queue at.document shown.path;
+      is = added ∙ ap (λ z. z ++ wanted_of folders queue at.document shown.path) queuing.is ∙ append_assoc queue queuing.more (wanted_of folders queue at.document shown.path);
+      others = append_assoc queuing.more (wanted_of folders queue at.document shown.path) (wanted_from folders queue s (drop (i + 1) s.documents))
           ∙ ap (λ z. queuing.more ++ z)
-          (ap (λ z. wanted_of queue at.document z ++ wanted_from queue s (drop (i + 1) s.documents)) (sym number)
-          ∙ sym (wanted_next queue s at.document (drop (i + 1) s.documents)))
-          ∙ ap (λ z. queuing.more ++ wanted_from queue s z) (sym (drop_some s.documents i at.document at.is))
+          (ap (λ z. wanted_of folders queue at.document z ++ wanted_from folders queue s (drop (i + 1) s.documents)) (sym number)
+          ∙ sym (wanted_next folders queue s at.document (drop (i + 1) s.documents)))
+          ∙ ap (λ z. queuing.more ++ wanted_from folders queue s z) (sym (drop_some s.documents i at.document at.is))
           ∙ queuing.others;
     }
 
-pub queuing_ends : (s : Store) (queue now : List PathId) (i : ℕ) → IsQueuing s queue now i → drop i s.documents ≡ [] → now ≡ with_programs queue (programs s)
-queuing_ends s queue now i queuing none =
-    let all : queuing.more ≡ wanted_from queue s s.documents = sym (append-nil queuing.more) ∙ ap (λ z. queuing.more ++ wanted_from queue s z) (sym none) ∙ queuing.others in
+pub queuing_ends : (folders : List Folder) (s : Store) (queue now : List PathId) (i : ℕ) → IsQueuing folders s queue now i → drop i s.documents ≡ []
+    → now ≡ with_programs queue (programs folders s)
+queuing_ends folders s queue now i queuing none =
+    let all : queuing.more ≡ wanted_from folders queue s s.documents =
+    sym (append-nil queuing.more) ∙ ap (λ z. queuing.more ++ wanted_from folders queue s z) (sym none) ∙ queuing.others in
     queuing.is ∙ ap (λ z. queue ++ z) all
 
 -- nothing is shown at the end of the documents

@@ -1,7 +1,8 @@
 -- The text of a document that is found by its number, and its list.
-use Rattle.std.proofs.Common.{◌≡◌, ℕ, Bool, true, false, cond, ◌==◌, List, [], ◌∷◌, find, Option, Some, None, refl, sym, ap, ◌∙◌, subst, slice_get}
+use Rattle.std.proofs.Common.{◌≡◌, ℕ, ◌<◌, Bool, true, false, cond, ◌==◌, List, [], ◌∷◌, find, length, Option, Some, None, refl, sym, ap, ◌∙◌, subst, slice_get}
 use Rattle.std.specs.Str.{chars}
 use Rattle.std.proofs.lemmas.Bool.Decides.{Decides-eqb}
+use Rattle.std.proofs.lemmas.List.Quantifiers.{position-Some}
 use Rattle.std.proofs.lemmas.Slice.Eq.{bytes_eq-Decides}
 use Rattle.std.specs.Prelude.{unwrap_or}
 use Rattle.std.specs.Str.{bytes_eq}
@@ -9,13 +10,13 @@ use Rattle.hl_base.specs.declared.place.PathId.{PathId}
 use Rattle.document_store.specs.Store.{Store, OpenDocument, number_of, document_of, is_at, file_of, present, present_at, File, Readable}
 use Rattle.std.specs.Option.{option_and_then}
 use Rattle.text_pool.specs.Pool.{Pool}
-use Rattle.document_store.specs.Shown.{IsPresent, IsShown}
+use Rattle.document_store.specs.Shown.{IsPresent, IsShown, Shows}
 use Rattle.document_store.specs.declared.document.Document.{Document}
 use Rattle.document_store.specs.declared.document.MemberText.{MemberText}
 use Rattle.lsp_messages.specs.declared.outgoing.Diagnostic.{Diagnostic}
 use Rattle.session_core.specs.declared.state.LastList.{LastList}
 use Rattle.session_core.specs.Replies.{list_body}
-use Rattle.session_core.specs.Diagnostics.{diagnostics_of}
+use Rattle.session_core.specs.Diagnostics.{list_of}
 use Rattle.session_core.specs.State.{State, number_at, is_number, document_at, last_list, with_list}
 use Rattle.session_core.specs.Step.{quiet, says, IsEffect}
 use Rattle.session_core.specs.Turn.{turn_at, publish, is_published}
@@ -76,40 +77,57 @@ found_passes test (y ∷ xs) x found = by_test (test y) refl found (λ behind. f
   by_test true passes here later = let same : y ≡ x = cc in ap test (sym same) ∙ passes
   by_test false fails behind later = later behind
 
+-- the document of a number, as it is shown, has that number
+pub record IsNumbered (s : Store) (n : PathId) (document : OpenDocument) : Type 0 where
+  pub path : slice_get s.paths n.0 ≡ Some document.path
+  pub number : number_of s.paths document.path ≡ Some n.0
+
+pub numbered : (s : Store) (n : PathId) (document : OpenDocument) (shown : Document) → document_at s n ≡ Some document → Shows s.paths document shown
+    → IsNumbered s n document
+numbered s n document shown found shows =
+    let passes = found_passes (λ d. is_number (number_at s d) n) s.documents document found in
+    let same : shown.path.0 ≡ n.0 = (Decides-eqb shown.path.0 n.0).0 (ap (λ (m : PathId). m.0 == n.0) (sym (number_shown s document shown shows)) ∙ passes) in
+    record { path = ap (slice_get s.paths) (sym same) ∙ shows.path; number = shows.number ∙ ap (λ z. Some z) same }
+
+-- so the number is one of a path
+pub number_within : (s : Store) (n : PathId) (shown : Document) → IsShown s.paths (document_at s n) (Some shown) → n.0 < length s.paths
+number_within s n shown is = by_document (document_at s n) refl is where
+  by_document : (document : Option OpenDocument) → document_at s n ≡ document → IsShown s.paths document (Some shown) → n.0 < length s.paths
+  by_document None e f = absurd f
+  by_document (Some document) e shows = (position-Some (bytes_eq document.path) s.paths n.0 [] (numbered s n document shown e shows).number).0
+
+-- and it is the one of its path
+pub found_of : (s : Store) (n : PathId) (document : OpenDocument) → document_at s n ≡ Some document → IsNumbered s n document → document_of s document.path ≡ Some document
+found_of s n document found is = found_at s.documents s.paths n.0 document is.number found
+
 -- the Turn of a number publishes this list of this document
 pub record IsListed (s : State) (n : PathId) (shown : Document) (list : List Diagnostic) : Type 0 where
   pub document : OpenDocument
   pub found : document_at s.store n ≡ Some document
   pub number : number_of s.store.paths document.path ≡ Some n.0
-  pub made : list ≡ diagnostics_of s.budget n document.text
+  pub made : list ≡ list_of s n document
   pub turn : turn_at s n (document_at s.store n) ≡ publish s n document list
   pub uri : chars shown.uri.now ≡ document.uri
   pub version : shown.version ≡ document.version
 
--- what text is told of a document that is found
-abbrev pub TellsText : Store → PathId → List ℕ → Type 0
-TellsText s n text = (document : OpenDocument) → document_at s n ≡ Some document → slice_get s.paths n.0 ≡ Some document.path
-    → number_of s.paths document.path ≡ Some n.0 → text ≡ document.text
+-- what list is told of a document that is found and shown
+abbrev pub TellsList : State → PathId → (shown : Document) → List Diagnostic → Type 0
+TellsList s n shown list = (document : OpenDocument) → document_at s.store n ≡ Some document → Shows s.store.paths document shown → list ≡ list_of s n document
 
-pub listed : (s : State) (n : PathId) (shown : Document) (text : List ℕ) (list : List Diagnostic) → IsShown s.store.paths (document_at s.store n) (Some shown)
-    → TellsText s.store n text → list ≡ diagnostics_of s.budget n text → IsListed s n shown list
-listed s n shown text list is tells made = by_document (document_at s.store n) refl is where
+pub listed : (s : State) (n : PathId) (shown : Document) (list : List Diagnostic) → IsShown s.store.paths (document_at s.store n) (Some shown)
+    → TellsList s n shown list → IsListed s n shown list
+listed s n shown list is tells = by_document (document_at s.store n) refl is where
   by_document : (document : Option OpenDocument) → document_at s.store n ≡ document → IsShown s.store.paths document (Some shown) → IsListed s n shown list
   by_document None e f = absurd f
-  by_document (Some document) e shows =
-      let passes = found_passes (λ d. is_number (number_at s.store d) n) s.store.documents document e in
-      let same : shown.path.0 ≡ n.0 = (Decides-eqb shown.path.0 n.0).0 (ap (λ (m : PathId). m.0 == n.0) (sym (number_shown s.store document shown shows)) ∙ passes) in
-      let path : slice_get s.store.paths n.0 ≡ Some document.path = ap (slice_get s.store.paths) (sym same) ∙ shows.path in
-      let number : number_of s.store.paths document.path ≡ Some n.0 = shows.number ∙ ap (λ z. Some z) same in
-      record {
-        document = document;
-        found = e;
-        number = number;
-        made = made ∙ ap (diagnostics_of s.budget n) (tells document e path number);
-        turn = ap (turn_at s n) e ∙ ap (publish s n document) (ap (diagnostics_of s.budget n) (sym (tells document e path number)) ∙ sym made);
-        uri = shows.uri;
-        version = shows.version;
-      }
+  by_document (Some document) e shows = record {
+    document = document;
+    found = e;
+    number = (numbered s.store n document shown e shows).number;
+    made = tells document e shows;
+    turn = ap (turn_at s n) e ∙ ap (publish s n document) (sym (tells document e shows));
+    uri = shows.uri;
+    version = shows.version;
+  }
 
 -- it was published already
 pub publish_again : (s : State) (n : PathId) (shown : Document) (list : List Diagnostic) → IsListed s n shown list

@@ -5,7 +5,7 @@ use Rattle.hl_base.specs.declared.place.PathId.{PathId}
 use Rattle.document_store.specs.Store.{OpenDocument}
 use Rattle.lsp_messages.specs.declared.outgoing.Diagnostic.{Diagnostic}
 use Rattle.session_core.specs.declared.state.LastList.{LastList}
-use Rattle.session_core.specs.Diagnostics.{diagnostics_of}
+use Rattle.session_core.specs.Diagnostics.{list_of}
 use Rattle.session_core.specs.State.{State, document_at, last_list}
 use Rattle.session_core.specs.Step.{Effect, quiet, says, and_then, IsEffect}
 use Rattle.session_core.specs.Turn.{assemble_first, turn_of, assemble_many, assemble_all, answer_waiting, turn, turn_at, publish, is_published, without_first}
@@ -25,7 +25,7 @@ publish_first s n document list = by_test (is_published (last_list s.published n
 
 turn_at_first : (s : State) (n : PathId) (document : Option OpenDocument) → turn_at (without_first s) n document ≡ without_first_of (turn_at s n document)
 turn_at_first s n None = refl
-turn_at_first s n (Some document) = publish_first s n document (diagnostics_of s.budget n document.text)
+turn_at_first s n (Some document) = publish_first s n document (list_of s n document)
 
 -- a program's list, and then it leaves the queue
 pub turn_first : (s now : State) (n : PathId) (bodies : List (List ℕ)) → slice_get s.queue 0 ≡ Some n
@@ -47,7 +47,7 @@ publish_queue s n document list = by_test (is_published (last_list s.published n
 
 turn_at_queue : (s : State) (n : PathId) (document : Option OpenDocument) → (turn_at s n document).state.queue ≡ s.queue
 turn_at_queue s n None = refl
-turn_at_queue s n (Some document) = publish_queue s n document (diagnostics_of s.budget n document.text)
+turn_at_queue s n (Some document) = publish_queue s n document (list_of s n document)
 
 -- the first program has left the queue
 pub turn_queue : (s : State) → s.queue ≢ [] → (assemble_first s).state.queue ≡ drop 1 s.queue

@@ -11,8 +11,8 @@ use Rattle.hl_base.specs.declared.place.PathId.{PathId}
 use Rattle.document_store.specs.Store.{OpenDocument}
 use Rattle.document_store.specs.Changes.{opened, changed, closed}
 use Rattle.session_core.specs.Refusals.{is_fresh, is_active, is_ended}
-use Rattle.session_core.specs.Diagnostics.{diagnostics_of}
-use Rattle.session_core.specs.State.{State, document_at, is_program, is_queued, last_list}
+use Rattle.session_core.specs.Diagnostics.{list_of}
+use Rattle.session_core.specs.State.{State, libraries, document_at, is_program, is_queued, last_list}
 use Rattle.session_core.specs.Step.{Step, Goes, Stopped, Other}
 use Rattle.session_core.specs.Turn.{is_published}
 
@@ -39,6 +39,33 @@ is_refused_value s (Some value) = is_refused s (message_of value)
 abbrev pub is_refused_body : State → List ℕ → Bool
 is_refused_body s body = is_refused_value s (reading body)
 
+-- a message is on files: the client is ready, so that the configuration is read, or files have changed
+abbrev pub is_on_files : Result LspIn Refusal → Bool
+is_on_files (Err refusal) = false
+is_on_files (Ok (Initialize id root)) = false
+is_on_files (Ok (Shutdown id)) = false
+is_on_files (Ok Initialized) = true
+is_on_files (Ok Exit) = false
+is_on_files (Ok (DidOpen uri language version text)) = false
+is_on_files (Ok (DidChange uri version edits)) = false
+is_on_files (Ok (DidClose uri)) = false
+is_on_files (Ok DidSave) = false
+is_on_files (Ok DidChangeConfiguration) = false
+is_on_files (Ok (DidChangeWatchedFiles changes)) = true
+
+abbrev pub is_value_on_files : Option Data → Bool
+is_value_on_files None = false
+is_value_on_files (Some value) = is_on_files (message_of value)
+
+abbrev pub is_body_on_files : List ℕ → Bool
+is_body_on_files body = is_value_on_files (reading body)
+
+-- the library was asked nothing: all calls to come are left
+abbrev pub LeavesCalls : Step → List LibraryCall → Type 0
+LeavesCalls (Goes t bodies rest) calls = rest ≡ calls
+LeavesCalls Stopped calls = ⊥
+LeavesCalls Other calls = ⊥
+
 -- nothing has changed but that one body may be written, and the library was asked nothing
 abbrev pub Keeps : Step → State → List LibraryCall → Type 0
 Keeps (Goes t bodies rest) s calls = (t ≡ s) × (length bodies ≤ 1) × (rest ≡ calls)
@@ -47,18 +74,19 @@ Keeps Other s calls = ⊥
 
 -- ---- lists
 
--- what was last published of the document of a number is its list, of its version and its text as they are
+-- what was last published of the document of a number is its list, of its version and its text as they are, with the members
+-- as they are
 abbrev pub is_listed : State → PathId → OpenDocument → Bool
-is_listed s n document = is_published (last_list s.published n) document.version (diagnostics_of s.budget n document.text)
+is_listed s n document = is_published (last_list s.published n) document.version (list_of s n document)
 
 -- Lists are fresh: every open program is listed, unless it is queued.
 abbrev pub AreFresh : State → Type 0
-AreFresh s = (n : PathId) (document : OpenDocument) → document_at s.store n ≡ Some document → is_program document ≡ true
+AreFresh s = (n : PathId) (document : OpenDocument) → document_at s.store n ≡ Some document → is_program (libraries s) document ≡ true
     → is_queued s.queue n ≡ false → is_listed s n document ≡ true
 
 -- every open program is queued
 abbrev pub AllQueued : State → Type 0
-AllQueued s = (n : PathId) (document : OpenDocument) → document_at s.store n ≡ Some document → is_program document ≡ true → is_queued s.queue n ≡ true
+AllQueued s = (n : PathId) (document : OpenDocument) → document_at s.store n ≡ Some document → is_program (libraries s) document ≡ true → is_queued s.queue n ≡ true
 
 -- where the session goes on and is not at its end, lists are fresh
 abbrev pub LeavesFresh : Step → Type 0
@@ -66,8 +94,8 @@ LeavesFresh (Goes t bodies rest) = is_ended t.stage ≡ false → AreFresh t
 LeavesFresh Stopped = Unit {0}
 LeavesFresh Other = Unit {0}
 
--- where the session goes on, the documents are as they were, or every open program is queued
+-- where the session goes on, the documents, the files and the configuration are as they were, or every open program is queued
 abbrev pub KeepsOrQueues : State → Step → Type 0
-KeepsOrQueues s (Goes t bodies rest) = (t.store ≡ s.store) ⊎ AllQueued t
+KeepsOrQueues s (Goes t bodies rest) = ((t.store ≡ s.store) × (t.configuration ≡ s.configuration)) ⊎ AllQueued t
 KeepsOrQueues s Stopped = Unit {0}
 KeepsOrQueues s Other = Unit {0}

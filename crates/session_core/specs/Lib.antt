@@ -6,7 +6,6 @@ pub mod Laws
 pub mod Message
 pub mod Refusals
 pub mod Replies
-pub mod Same
 pub mod State
 pub mod Step
 pub mod Turn

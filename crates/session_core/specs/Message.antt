@@ -1,14 +1,28 @@
--- One message (JSON-RPC 2.0; LSP 3.17, "Base Protocol", "Lifecycle Messages", "Text Document Synchronization"): the
--- state behind it and what is written for it, for every body and from every state.
-use Rattle.std.specs.Prelude.{ℕ, Bool, true, false, not, ◌&&◌, ◌||◌, List, [], ◌∷◌, codes, take, Option, Some, None, Result, Ok, Err, encode_utf8_all, if◌then◌else◌}
+-- One message (JSON-RPC 2.0; LSP 3.17, "Base Protocol", "Lifecycle Messages", "Text Document Synchronization",
+-- "DidChangeWatchedFiles Notification"): the state behind it and what is written for it, for every body, from every state,
+-- and over the calls of the library that are to come.
+use Rattle.std.specs.Prelude.{ℕ, Bool, true, false, not, ◌&&◌, ◌||◌, List, [], ◌∷◌, ◌++◌, codes, take, map, filter, Option, Some, None, option_map, option_and_then, is_some, Result, Ok, Err, encode_utf8_all, if◌then◌else◌}
+use Rattle.std.specs.List.{list_any, flat_map}
 use Rattle.std.specs.Str.{bytes_eq}
 use Rattle.serde_json.specs.Data.{Data}
 use Rattle.json_view.specs.Texts.{reading}
 use Rattle.io_edge.specs.LibraryCall.{LibraryCall}
+use Rattle.file_uri.specs.Paths.{path_of}
+use Rattle.member_paths.specs.Paths.{file_name_of, member_name, without_slash}
+use Rattle.library_folders.specs.declared.folders.Folder.{Folder}
+use Rattle.library_folders.specs.Folders.{is_member}
+use Rattle.library_reading.specs.Asked.{Asking, answered, ◌>>=◌}
+use Rattle.library_reading.specs.Log.{Log, empty_log, without_lines}
+use Rattle.library_reading.specs.Rows.{groups_path, programs_path}
+use Rattle.library_reading.specs.Taking.{Taking, path_dropped, member_read}
+use Rattle.library_reading.specs.Reading.{Reading, configuration_read}
 use Rattle.hl_base.specs.declared.place.PathId.{PathId}
 use Rattle.lsp_messages.specs.declared.incoming.Id.{Id}
 use Rattle.lsp_messages.specs.declared.incoming.LspIn.{LspIn}
 use Rattle.lsp_messages.specs.declared.incoming.LspIn.TheVariants.{Initialize, Shutdown, Initialized, Exit, DidOpen, DidChange, DidClose, DidSave, DidChangeConfiguration, DidChangeWatchedFiles}
+use Rattle.lsp_messages.specs.declared.incoming.ChangeKind.{ChangeKind}
+use Rattle.lsp_messages.specs.declared.incoming.ChangeKind.TheVariants.{Created, Changed, Deleted}
+use Rattle.lsp_messages.specs.declared.incoming.FileChange.{FileChange}
 use Rattle.lsp_messages.specs.declared.incoming.Refusal.{Refusal}
 use Rattle.lsp_messages.specs.declared.incoming.Refusal.TheVariants.{NotRequest, UnknownMethod, BadParams, OutOfMemory}
 use Rattle.lsp_messages.specs.Messages.{is_response, message_of}
@@ -19,16 +33,16 @@ use Rattle.session_core.specs.declared.state.LastList.{LastList}
 use Rattle.session_core.specs.declared.state.Stage.{Stage}
 use Rattle.session_core.specs.declared.state.Stage.TheVariants.{Active, Closing, Ended}
 use Rattle.session_core.specs.Refusals.{Kind, Opens, Asks, Ends, Tells, Neither, kind_of, Refused, reply, refusal, is_active, is_closing, is_ended}
-use Rattle.session_core.specs.Replies.{initialize_reply, shutdown_reply, list_body}
-use Rattle.session_core.specs.State.{State, document_at, number_named, programs, with_programs, without, last_list, published_without, is_empty}
-use Rattle.session_core.specs.Step.{Effect, quiet, says, and_then, Step, asking_nothing}
+use Rattle.session_core.specs.Replies.{initialize_reply, shutdown_reply, list_body, logged_line}
+use Rattle.session_core.specs.State.{State, libraries, is_number, number_at, is_program, document_at, number_named, programs, with_programs, without, last_list, published_without, is_empty}
+use Rattle.session_core.specs.Step.{Effect, quiet, says, and_then, Step, step_of}
 use Rattle.session_core.specs.Turn.{assemble_all}
 
--- ---- what an accepted message does
+-- ---- programs
 
 -- every open program is queued, in order of opening
 abbrev pub queue_all : State → State
-queue_all s = record s { queue = with_programs s.queue (programs s.store) }
+queue_all s = record s { queue = with_programs s.queue (programs (libraries s) s.store) }
 
 -- the documents have changed; where they refuse, nothing more is done
 abbrev pub after_change : State → Result Store StoreFault → Effect
@@ -58,6 +72,105 @@ abbrev pub after_closing : State → Option PathId → Result Store StoreFault �
 after_closing s n (Ok store) = after_leaving s n store
 after_closing s n (Err fault) = quiet s
 
+-- ---- the library
+
+-- the number of an open program
+abbrev pub is_program_at : State → PathId → Bool
+is_program_at s n = list_any (is_number n) (programs (libraries s) s.store)
+
+-- what is written for each document that is no program, in order of opening, where a list of it was published
+abbrev pub farewells : State → List (List ℕ)
+farewells s =
+    flat_map (λ document. farewell (Some document) (last_list s.published (number_at s.store document)))
+    (filter (λ document. not (is_program (libraries s) document)) s.store.documents)
+
+-- documents that are no programs any more leave the queue, and nothing is published of them
+abbrev pub settled : State → Effect
+settled s = record {
+  state = record s { queue = filter (is_program_at s) s.queue; published = filter (λ (last : LastList). is_program_at s last.path) s.published };
+  bodies = farewells s;
+}
+
+-- A message on files, as far as it has come: the state, what is written so far, what was said of the library, and whether
+-- it concerned the configuration or a member.
+pub record Watching : Type 0 where
+  pub state : State
+  pub bodies : List (List ℕ)
+  pub log : Log
+  pub concerned : Bool
+
+-- before anything is looked at
+abbrev pub unconcerned : State → Watching
+unconcerned s = record { state = s; bodies = []; log = empty_log; concerned = false }
+
+-- this was said of the library, and then this came of the state
+abbrev pub concerned_by : Watching → Effect → Log → Watching
+concerned_by w effect log = record {
+  state = effect.state;
+  bodies = w.bodies ++ (map logged_line log.lines ++ effect.bodies);
+  log = without_lines log;
+  concerned = true;
+}
+
+-- what the session has where questions to the library begin
+abbrev pub taking_of : Watching → Taking
+taking_of w = record { store = w.state.store; log = w.log }
+
+-- the configuration was read: it stands in place of the one before, with its files
+abbrev pub after_reading : Watching → Reading → Watching
+after_reading w reading =
+    concerned_by w (settled (record w.state { configuration = reading.configuration; store = reading.taking.store })) reading.taking.log
+
+-- the configuration is read
+abbrev pub configured : (root : List ℕ) → Watching → Asking Watching
+configured root w = configuration_read root (taking_of w) >>= (λ reading. answered (after_reading w reading))
+
+-- a member was read, or dropped
+abbrev pub after_member : Watching → Taking → Watching
+after_member w taking = concerned_by w (quiet (record w.state { store = taking.store })) taking.log
+
+-- a file of a library folder is read again, or dropped where it was deleted
+abbrev pub member_changed : (path : List ℕ) → ChangeKind → Watching → Asking Watching
+member_changed path Deleted w = answered (after_member w (record (taking_of w) { store = path_dropped w.state.store path }))
+member_changed path Created w = member_read path (taking_of w) >>= (λ passed. answered (after_member w passed.taking))
+member_changed path Changed w = member_read path (taking_of w) >>= (λ passed. answered (after_member w passed.taking))
+
+-- a path is that of a configuration file
+abbrev pub is_configuration : (root path : List ℕ) → Bool
+is_configuration root path = bytes_eq path (groups_path root) || bytes_eq path (programs_path root)
+
+-- a path is that of a file of a library folder whose name spells a symbol
+abbrev pub is_member_file : List Folder → (path : List ℕ) → Bool
+is_member_file folders path = is_member folders path && is_some (member_name (file_name_of path))
+
+-- a file has changed, where the session has a root
+abbrev pub file_changed : (root path : List ℕ) → ChangeKind → Watching → Asking Watching
+file_changed root path kind w =
+    if is_configuration root path then configured root w
+    else (if is_member_file (libraries w.state) path then member_changed path kind w else answered w)
+
+-- a change is of nothing where there is no root, or its URI names no file
+abbrev pub change_told : Option (List ℕ) → Option (List ℕ) → ChangeKind → Watching → Asking Watching
+change_told None path kind w = answered w
+change_told (Some root) None kind w = answered w
+change_told (Some root) (Some path) kind w = file_changed root path kind w
+
+-- the changes of a message, in turn
+abbrev pub changes_told : List FileChange → Watching → Asking Watching
+changes_told [] w = answered w
+changes_told (change ∷ changes) w = change_told w.state.root (path_of change.uri) change.kind w >>= changes_told changes
+
+-- behind a message on files: where it concerned any, every open program is queued
+abbrev pub after_watching : Watching → Effect
+after_watching w = record { state = if w.concerned then queue_all w.state else w.state; bodies = w.bodies }
+
+-- the client is ready: the configuration is read, where there is a root, and every open program is queued
+abbrev pub begun : Option (List ℕ) → State → Asking Effect
+begun None s = answered (quiet (queue_all s))
+begun (Some root) s = configured root (unconcerned s) >>= (λ w. answered (after_watching w))
+
+-- ---- what an accepted message does
+
 -- the lists of all queued programs, and then the reply
 abbrev pub shut : State → Id → Effect
 shut s id = and_then (assemble_all s) (λ t. says (record t { stage = Closing }) (shutdown_reply id))
@@ -66,23 +179,31 @@ shut s id = and_then (assemble_all s) (λ t. says (record t { stage = Closing })
 abbrev pub ended : State → State
 ended s = record s { stage = Ended (is_closing s.stage); queue = [] }
 
+-- the path of the root that a URI names, without the slash at its end
+abbrev pub root_of : Option (List ℕ) → Option (List ℕ)
+root_of uri = option_map without_slash (option_and_then path_of uri)
+
+-- the session begins in a folder, if the client names one
+abbrev pub opened_in : State → Option (List ℕ) → State
+opened_in s root = queue_all (record s { stage = Active; root = root_of root })
+
 -- each message has its line
-abbrev pub effect : State → LspIn → Effect
-effect s (Initialize id root) = says (record s { stage = Active; root = root }) (initialize_reply id)
-effect s (Shutdown id) = shut s id
-effect s Initialized = quiet (queue_all s)
-effect s Exit = quiet (ended s)
-effect s (DidOpen uri language version text) = after_change s (opened s.store uri language version text)
-effect s (DidChange uri version edits) = after_change s (changed s.store uri version edits)
-effect s (DidClose uri) = after_closing s (number_named s.store uri) (closed s.store uri)
-effect s DidSave = quiet s
-effect s DidChangeConfiguration = quiet s
-effect s (DidChangeWatchedFiles changes) = quiet s
+abbrev pub effect : State → LspIn → Asking Effect
+effect s (Initialize id root) = answered (says (opened_in s root) (initialize_reply id))
+effect s (Shutdown id) = answered (shut s id)
+effect s Initialized = begun s.root s
+effect s Exit = answered (quiet (ended s))
+effect s (DidOpen uri language version text) = answered (after_change s (opened s.store uri language version text))
+effect s (DidChange uri version edits) = answered (after_change s (changed s.store uri version edits))
+effect s (DidClose uri) = answered (after_closing s (number_named s.store uri) (closed s.store uri))
+effect s DidSave = answered (quiet s)
+effect s DidChangeConfiguration = answered (quiet s)
+effect s (DidChangeWatchedFiles changes) = changes_told changes (unconcerned s) >>= (λ w. answered (after_watching w))
 
 -- what was read in place of a message does nothing
-abbrev pub effect_of : State → Result LspIn Refusal → Effect
+abbrev pub effect_of : State → Result LspIn Refusal → Asking Effect
 effect_of s (Ok message) = effect s message
-effect_of s (Err refusal) = quiet s
+effect_of s (Err refusal) = answered (quiet s)
 
 -- ---- what is passed over
 
@@ -113,30 +234,31 @@ is_passed_over stage told = is_notice (kind_of told) && (not (is_active stage) |
 -- ---- messages
 
 -- what is refused is answered by that alone, and the state stays
-abbrev pub unless_refused : State → Option Refused → Effect → Effect
-unless_refused s (Some why) step = says s (reply why)
-unless_refused s None step = step
+abbrev pub unless_refused : State → Option Refused → Asking Effect → Asking Effect
+unless_refused s (Some why) event = answered (says s (reply why))
+unless_refused s None event = event
 
 -- a message at a stage: its refusal, or its effect
-abbrev pub asked_at : Stage → State → Result LspIn Refusal → Effect
-asked_at stage s told = if is_passed_over stage told then quiet s else unless_refused s (refusal stage s.store (Some told)) (effect_of s told)
+abbrev pub asked_at : Stage → State → Result LspIn Refusal → Asking Effect
+asked_at stage s told =
+    if is_passed_over stage told then answered (quiet s) else unless_refused s (refusal stage s.store (Some told)) (effect_of s told)
 
-abbrev pub asked : State → Result LspIn Refusal → Effect
+abbrev pub asked : State → Result LspIn Refusal → Asking Effect
 asked s told = asked_at s.stage s told
 
 -- a value: the answers of a client are passed over, since nothing was asked of it
-abbrev pub heard : State → Data → Effect
-heard s value = if is_response value then quiet s else asked s (message_of value)
+abbrev pub heard : State → Data → Asking Effect
+heard s value = if is_response value then answered (quiet s) else asked s (message_of value)
 
 -- a body: its refusal where it is no JSON, or that of the message that it is
-abbrev pub received : State → Option Data → Effect
-received s None = unless_refused s (refusal s.stage s.store None) (quiet s)
+abbrev pub received : State → Option Data → Asking Effect
+received s None = unless_refused s (refusal s.stage s.store None) (answered (quiet s))
 received s (Some value) = heard s value
 
 -- what a message does; behind the end nothing changes
-unfoldable pub event : State → List ℕ → Effect
-event s body = if is_ended s.stage then quiet s else received s (reading body)
+unfoldable pub event : State → List ℕ → Asking Effect
+event s body = if is_ended s.stage then answered (quiet s) else received s (reading body)
 
--- One message, where these are the calls of the library to come. No message asks the library yet.
+-- One message, where these are the calls of the library to come.
 abbrev pub message : State → List ℕ → List LibraryCall → Step
-message s body calls = asking_nothing (event s body) calls
+message s body calls = step_of (event s body calls)

@@ -52,6 +52,10 @@ bad_parameter id name = refusal (Some id) (neg_ℤ (pos 32602)) (codes "bad para
 abbrev pub log_line : (method why : List ℕ) → List ℕ
 log_line method why = text_of (Log (chars (method ++ (codes ": " ++ why))))
 
+-- a line that is written as it is
+abbrev pub logged_line : (line : List ℕ) → List ℕ
+logged_line line = text_of (Log line)
+
 -- a notification's parameter is missing or of a wrong kind
 abbrev pub bad_params : (name : List ℕ) → List ℕ
 bad_params name = codes "BadParams(" ++ (encode_utf8_all name ++ codes ")")

@@ -1,29 +1,47 @@
 -- What a session knows between two events (this project).
-use Rattle.std.specs.Prelude.{ℕ, ◌==◌, Bool, true, not, false, List, [], ◌∷◌, ◌++◌, Option, Some, None, codes, map, filter, find, unwrap_or, option_map, option_and_then, encode_utf8_all}
+use Rattle.std.specs.Prelude.{ℕ, ◌==◌, ◌&&◌, Bool, true, not, false, List, [], ◌∷◌, ◌++◌, Option, Some, None, codes, map, filter, find, unwrap_or, option_map, option_and_then, encode_utf8_all}
 use Rattle.std.specs.List.{list_any}
 use Rattle.std.specs.Str.{bytes_eq}
 use Rattle.hl_base.specs.declared.place.PathId.{PathId}
 use Rattle.file_uri.specs.Paths.{path_of}
 use Rattle.document_store.specs.Store.{Store, OpenDocument, empty_store, number_of}
+use Rattle.library_folders.specs.declared.configuration.Configuration.{Configuration}
+use Rattle.library_folders.specs.declared.folders.Folder.{Folder}
+use Rattle.library_folders.specs.Folders.{folders_of, is_member}
 use Rattle.lsp_messages.specs.declared.outgoing.Diagnostic.{Diagnostic}
 use Rattle.session_core.specs.declared.state.Stage.{Stage}
 use Rattle.session_core.specs.declared.state.Stage.TheVariants.{Fresh}
 use Rattle.session_core.specs.declared.state.LastList.{LastList}
 
--- How far the session has come, the URI of the folder that the client works in, how many statements a program may be given,
--- the documents, the programs whose list is still to be made, in order, and what was last published of each program since it
--- was opened. A program is named by the number of its path.
+-- How far the session has come, the path of the folder that the client works in, how many statements a program may be given,
+-- the configuration as it was last read, the documents and files, the programs whose list is still to be made, in order, and
+-- what was last published of each program since it was opened or became one. A program is named by the number of its path.
 pub record State : Type 0 where
   pub stage : Stage
   pub root : Option (List ℕ)
   pub budget : ℕ
+  pub configuration : Configuration
   pub store : Store
   pub queue : List PathId
   pub published : List LastList
 
+-- where no configuration was read
+abbrev pub no_configuration : Configuration
+no_configuration = record { groups = []; programs = [] }
+
 -- before the first message, where a program may be given so many statements
 abbrev pub start : (budget : ℕ) → State
-start budget = record { stage = Fresh; root = None; budget = budget; store = empty_store; queue = []; published = [] }
+start budget = record { stage = Fresh; root = None; budget = budget; configuration = no_configuration; store = empty_store; queue = []; published = [] }
+
+-- ---- library folders
+
+-- the library folders of a configuration; without a root there is none
+abbrev pub libraries_of : (root : Option (List ℕ)) → Configuration → List Folder
+libraries_of None configuration = []
+libraries_of (Some root) configuration = folders_of root configuration.groups
+
+abbrev pub libraries : State → List Folder
+libraries s = libraries_of s.root s.configuration
 
 -- ---- programs
 
@@ -43,13 +61,13 @@ number_named store uri = option_map (λ n. record { 0 = n }) (option_and_then (n
 abbrev pub document_at : Store → PathId → Option OpenDocument
 document_at store n = find (λ d. is_number (number_at store d) n) store.documents
 
--- a document is a program where its language is HLASM
-abbrev pub is_program : OpenDocument → Bool
-is_program document = bytes_eq (encode_utf8_all document.language) (codes "hlasm")
+-- a document is a program where its language is HLASM and it stands in no library folder
+abbrev pub is_program : List Folder → OpenDocument → Bool
+is_program folders document = bytes_eq (encode_utf8_all document.language) (codes "hlasm") && not (is_member folders document.path)
 
 -- the open programs, in order of opening
-abbrev pub programs : Store → List PathId
-programs store = map (number_at store) (filter is_program store.documents)
+abbrev pub programs : List Folder → Store → List PathId
+programs folders store = map (number_at store) (filter (is_program folders) store.documents)
 
 -- ---- the queue
 

@@ -2,6 +2,7 @@
 use Rattle.std.specs.Prelude.{◌≡◌, ℕ, List, [], ◌∷◌, ◌++◌}
 use Rattle.std.specs.List.{flat_map}
 use Rattle.io_edge.specs.LibraryCall.{LibraryCall}
+use Rattle.library_reading.specs.Asked.{Asked, Came, Lacks, Differs, Asking, answered}
 use Rattle.rpc_framing.specs.Frames.{frame}
 use Rattle.session_core.specs.State.{State}
 
@@ -32,17 +33,21 @@ written bodies = flat_map frame bodies
 abbrev pub IsEffect : Effect → State → List (List ℕ) → Type 0
 IsEffect effect s bodies = effect ≡ record { state = s; bodies = bodies }
 
+-- an event that may ask the library asked nothing, came to this state, and these bodies are written for it
+abbrev pub Acts : Asking Effect → State → List (List ℕ) → Type 0
+Acts asking s bodies = asking ≡ answered (record { state = s; bodies = bodies })
+
 -- ---- over the library's calls
 
 -- What an event comes to where these are the calls of the library to come, with their answers: the state behind it, the
--- bodies that are written for it, and the calls that are left; or a call is made for which no answer is left, and nothing is
--- written; or the next answer is of another call than the one that is made.
+-- bodies that are written for it, and the calls that are left; or no answer was left for it, and nothing was written; or the
+-- next answer is of another call than the one that is made.
 pub data Step : Type 0 where
   Goes : (state : State) (bodies : List (List ℕ)) (rest : List LibraryCall) → Step
   Stopped : Step
   Other : Step
 
--- the library is asked nothing, so all calls are left
+-- a Turn asks the library nothing, so all calls are left
 abbrev pub asking_nothing : Effect → List LibraryCall → Step
 asking_nothing effect calls = Goes effect.state effect.bodies calls
 
@@ -52,3 +57,9 @@ abbrev pub MakesAll : Step → Type 0
 MakesAll (Goes state bodies rest) = rest ≡ []
 MakesAll Stopped = Unit {0}
 MakesAll Other = ⊥
+
+-- an event, by what its questions came to
+abbrev pub step_of : Asked Effect → Step
+step_of (Came effect rest) = Goes effect.state effect.bodies rest
+step_of Lacks = Stopped
+step_of Differs = Other

@@ -6,8 +6,8 @@ use Rattle.hl_base.specs.declared.place.PathId.{PathId}
 use Rattle.document_store.specs.Store.{OpenDocument}
 use Rattle.lsp_messages.specs.declared.outgoing.Diagnostic.{Diagnostic}
 use Rattle.session_core.specs.declared.state.LastList.{LastList}
-use Rattle.session_core.specs.Diagnostics.{diagnostics_of}
-use Rattle.session_core.specs.Same.{is_same_list}
+use Rattle.session_core.specs.Diagnostics.{list_of}
+use Rattle.answers_feed.specs.Same.{is_same_list}
 use Rattle.session_core.specs.State.{State, document_at, last_list, with_list}
 use Rattle.session_core.specs.Step.{Effect, quiet, says, and_then}
 use Rattle.session_core.specs.Replies.{list_body}
@@ -28,7 +28,7 @@ publish s n document list =
 -- the list of the document of a number
 abbrev pub turn_at : State → PathId → Option OpenDocument → Effect
 turn_at s n None = quiet s
-turn_at s n (Some document) = publish s n document (diagnostics_of s.budget n document.text)
+turn_at s n (Some document) = publish s n document (list_of s n document)
 
 -- the state without the first queued program
 abbrev pub without_first : State → State

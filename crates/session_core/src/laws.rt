@@ -1,9 +1,9 @@
 //! Laws of the definitions, each the contract of a function with no body.
-ghost use Rattle.std.specs.Prelude.{◌≡◌, ℕ, List, [], Bool, true};
+ghost use Rattle.std.specs.Prelude.{◌≡◌, ℕ, List, [], Bool, true, false};
 ghost use Rattle.io_edge.specs.LibraryCall.{LibraryCall};
 ghost use Rattle.session_core.specs.declared.phase.Phase.TheVariants.{Exit};
 ghost use Rattle.session_core.specs.Held.{phase_of};
-ghost use Rattle.session_core.specs.Laws.{is_refused_body, Keeps, AreFresh, LeavesFresh, KeepsOrQueues};
+ghost use Rattle.session_core.specs.Laws.{is_refused_body, is_body_on_files, Keeps, LeavesCalls, AreFresh, LeavesFresh, KeepsOrQueues};
 ghost use Rattle.session_core.specs.Message.{message};
 ghost use Rattle.session_core.specs.State.{State, start};
 ghost use Rattle.session_core.specs.Step.{Goes, MakesAll};
@@ -35,7 +35,12 @@ pub fn no_answer_is_never_other()
     ensures { (s : State) (body : List ℕ) → MakesAll (message s body []) }
 {}
 
-/// A message that changes the documents queues every open program.
+/// A message that changes the documents, the files or the configuration queues every open program.
 pub fn changes_queue_every_program()
     ensures { (s : State) (body : List ℕ) (calls : List LibraryCall) → KeepsOrQueues s (message s body calls) }
+{}
+
+/// Only `initialized` and a change of watched files ask the library: any other message makes no call of it, as a keystroke.
+pub fn only_messages_on_files_ask()
+    ensures { (s : State) (body : List ℕ) (calls : List LibraryCall) → is_body_on_files body ≡ false → LeavesCalls (message s body calls) calls }
 {}

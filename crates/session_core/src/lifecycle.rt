@@ -1,18 +1,63 @@
 //! How a session begins and ends (LSP 3.17, "Lifecycle Messages").
 ghost use Rattle.std.specs.Prelude.{◌≡◌, Ok, IfOk};
+ghost use Rattle.std.specs.Option.{option_copied};
+ghost use Rattle.std.specs.Str.{chars};
+ghost use Rattle.member_paths.specs.Paths.{without_slash};
 ghost use Rattle.lsp_messages.specs.declared.incoming.LspIn.TheVariants as said;
 ghost use Rattle.session_core.specs.Message as messages;
 ghost use Rattle.session_core.specs.Refusals.{is_active};
-ghost use Rattle.session_core.specs.Step.{IsEffect};
+ghost use Rattle.session_core.specs.State.{libraries_of};
+ghost use Rattle.session_core.specs.Step.{Acts, IsEffect};
 
 use crate::bodies::Bodies;
+use crate::programs::{forget_members, queue_programs};
 use crate::replies;
 use crate::requests::{out_of_place, too_early};
 use crate::standing::Standing;
 use crate::state::Stage;
+use file_uri::{UriFault, file_path};
 use hl_base::{Ledger, OutOfMemory, Steps, Text};
+use library_folders::{Configuration, Folder, folders_of};
 use lsp_messages::Id;
 use std::alloc::Global;
+
+/// A path without the slash at its end, if it has one.
+fn without_slash(path: &str) -> &str
+    ensures { chars result.now ≡ without_slash (chars path.now) }
+{
+    match path.strip_suffix('/') {
+        Some(front) => front,
+        None => path,
+    }
+}
+
+/// The path of the root that a URI names.
+fn root_of(alloc: Global, uri: Option<Text>) -> Result<Option<Text>, OutOfMemory>
+    ensures { IfOk result (λ root. root ≡ messages.root_of uri) }
+{
+    let Some(uri) = uri else {
+        return Ok(None);
+    };
+    match file_path(alloc, uri.as_str()) {
+        Ok(path) => Ok(Some(Text::of(alloc, without_slash(path.as_str()))?)),
+        Err(UriFault::BadUri) => Ok(None),
+        Err(UriFault::OutOfMemory) => Err(OutOfMemory),
+    }
+}
+
+/// The library folders of a configuration; without a root there is none.
+pub(crate) fn folders_in(
+    alloc: Global,
+    root: Option<&Text>,
+    configuration: &Configuration,
+) -> Result<Vec<Folder>, OutOfMemory>
+    ensures { IfOk result (λ folders. folders.items ≡ libraries_of (option_copied root.entry) configuration.now) }
+{
+    match root {
+        Some(root) => folders_of(alloc, root.as_str(), configuration.groups.as_slice()),
+        None => Ok(Vec::new(alloc)),
+    }
+}
 
 impl Standing {
     /// Whether `initialize` was answered, and `shutdown` was not.
@@ -34,7 +79,7 @@ impl Standing {
         id: Id,
         root: Option<Text>,
     ) -> Result<Bodies, OutOfMemory>
-        ensures { IfOk result (λ bodies. IsEffect (messages.asked self.old (Ok (said.Initialize id root))) self.new bodies) }
+        ensures { IfOk result (λ bodies. Acts (messages.asked self.old (Ok (said.Initialize id root))) self.new bodies) }
     {
         match self.stage {
             Stage::Fresh => self.begin(alloc, id, root),
@@ -44,14 +89,19 @@ impl Standing {
         }
     }
 
-    /// The session begins.
+    /// The session begins in the folder of a URI, if the client names one.
     fn begin(&mut self, alloc: Global, id: Id, root: Option<Text>) -> Result<Bodies, OutOfMemory>
-        ensures { IfOk result (λ bodies. IsEffect (messages.effect self.old (said.Initialize id root)) self.new bodies) }
+        ensures { IfOk result (λ bodies. Acts (messages.effect self.old (said.Initialize id root)) self.new bodies) }
     {
         let reply = replies::initialize_reply(alloc, id)?;
         let bodies = Bodies::one(alloc, reply)?;
+        let root = root_of(alloc, root)?;
+        let folders = folders_in(alloc, root.as_ref(), &self.configuration)?;
+        queue_programs(&folders, &self.store, &mut self.queue)?;
+        forget_members(&mut self.listed, &mut self.index);
         self.stage = Stage::Active;
         self.root = root;
+        self.folders = folders;
         Ok(bodies)
     }
 
@@ -62,7 +112,7 @@ impl Standing {
         id: Id,
         steps: &mut Steps<L>,
     ) -> Result<Bodies, OutOfMemory>
-        ensures { IfOk result (λ bodies. IsEffect (messages.asked self.old (Ok (said.Shutdown id))) self.new bodies) }
+        ensures { IfOk result (λ bodies. Acts (messages.asked self.old (Ok (said.Shutdown id))) self.new bodies) }
     {
         match self.stage {
             Stage::Fresh => too_early(alloc, id),
@@ -90,7 +140,7 @@ impl Standing {
 
     /// `exit`, at every stage.
     pub(crate) fn exit(&mut self, alloc: Global) -> Bodies
-        ensures { IsEffect (messages.asked self.old (Ok said.Exit)) self.new result }
+        ensures { Acts (messages.asked self.old (Ok said.Exit)) self.new result }
     {
         let closed = self.stage == Stage::Closing;
         self.stage = Stage::Ended { closed };

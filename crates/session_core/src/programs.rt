@@ -1,5 +1,5 @@
 //! The open documents, by the numbers of their paths, and the queue of programs.
-ghost use Rattle.std.specs.Prelude.{◌≡◌, ◌≤◌, ◌++◌, length, map, filter, not, Some, OnOk, OnErr, IfOk, Option, option_map, slice_get, take};
+ghost use Rattle.std.specs.Prelude.{◌≡◌, ◌≤◌, ◌++◌, [], length, map, filter, not, Some, None, OnOk, OnErr, IfOk, Option, option_map, slice_get, take};
 ghost use Rattle.std.specs.Rc.{rc_str_bytes};
 ghost use Rattle.std.specs.Borrow.{Bor};
 ghost use Rattle.std.specs.List.{list_any};
@@ -15,7 +15,9 @@ ghost use Rattle.session_core.specs.declared.state.LastList.{LastList as Last};
 use crate::state::LastList;
 use document_store::{Document, DocumentStore, MOST_DOCUMENTS, MemberText};
 use file_uri::{UriFault, file_path};
+use group_members::MemberIndex;
 use hl_base::{OutOfMemory, PathId};
+use library_folders::{Folder, is_member};
 use std::alloc::Global;
 use std::rc::RcStr;
 
@@ -75,11 +77,23 @@ pub(crate) fn number_named(
     }
 }
 
-/// Whether a document of a language is a program.
-fn is_program(language: &str) -> bool
-    ensures { (shown : OpenDocument) → chars language.now ≡ shown.language → result ≡ is_program shown }
+/// Whether a document of a path and a language is a program.
+fn is_program(folders: &[Folder], path: &str, language: &str) -> bool
+    ensures { (shown : OpenDocument) → chars path.now ≡ shown.path → chars language.now ≡ shown.language → result ≡ is_program folders.now shown }
 {
-    language == PROGRAM_LANGUAGE
+    language == PROGRAM_LANGUAGE && !is_member(folders, path)
+}
+
+/// Whether a document is a program, as the store shows it.
+pub(crate) fn is_program_shown(
+    folders: &[Folder],
+    store: &DocumentStore,
+    document: &Document<'_>,
+) -> bool
+    requires shown { (shown : OpenDocument) × Shows store.now.store.paths shown document.now }
+    ensures { (shown : OpenDocument) → Shows store.now.store.paths shown document.now → result ≡ is_program folders.now shown }
+{
+    is_program(folders, store.path_text(document.path), document.language)
 }
 
 /// Whether a program is among these.
@@ -91,15 +105,18 @@ pub(crate) fn is_queued(queue: &[PathId], path: PathId) -> bool
 
 /// Adds a document, if it is a program that is not among the first so many of the queue.
 fn queue_document(
-    document: &Document,
+    folders: &[Folder],
+    store: &DocumentStore,
+    document: &Document<'_>,
     kept: usize,
     queue: &mut Vec<PathId>,
 ) -> Result<(), OutOfMemory>
-    ensures { OnOk result ((shown : OpenDocument) → chars document.now.language.now ≡ shown.language
-        → queue.new.items ≡ queue.old.items ++ wanted_of (take kept queue.old.items) shown document.now.path) }
+    requires shown { (shown : OpenDocument) × Shows store.now.store.paths shown document.now }
+    ensures { OnOk result ((shown : OpenDocument) → Shows store.now.store.paths shown document.now
+        → queue.new.items ≡ queue.old.items ++ wanted_of folders.now (take kept queue.old.items) shown document.now.path) }
 {
     let queued = &queue[..kept.min(queue.len())];
-    if is_program(document.language) && !is_queued(queued, document.path) {
+    if is_program_shown(folders, store, document) && !is_queued(queued, document.path) {
         queue.push(document.path)?;
     }
     Ok(())
@@ -107,18 +124,19 @@ fn queue_document(
 
 /// Queues every open program, in order of opening; one that is queued keeps its place.
 pub(crate) fn queue_programs(
+    folders: &[Folder],
     store: &DocumentStore,
     queue: &mut Vec<PathId>,
 ) -> Result<(), OutOfMemory>
     requires few { length store.now.store.documents ≤ 64 }
-    ensures { OnOk result (queue.new.items ≡ with_programs queue.old.items (programs store.now.store)) }
+    ensures { OnOk result (queue.new.items ≡ with_programs queue.old.items (programs folders.now store.now.store)) }
 {
     let kept = queue.as_slice().len();
     for index in 0..MOST_DOCUMENTS as u32 {
         let Some(document) = store.document(index) else {
             return Ok(());
         };
-        queue_document(&document, kept, queue)?;
+        queue_document(folders, store, &document, kept, queue)?;
     }
     Ok(())
 }
@@ -164,6 +182,15 @@ pub(crate) fn forget(queue: &mut Vec<PathId>, published: &mut Vec<LastList>, pat
         drop_program(queue, path);
         drop_list(published, path);
     }
+}
+
+/// No list counts as that of what is there any more, and where members are found is to be made anew.
+pub(crate) fn forget_members(listed: &mut Vec<PathId>, index: &mut Option<MemberIndex>)
+    ensures listed { listed.new.items ≡ [] }
+    ensures index { index.new ≡ None }
+{
+    listed.clear();
+    *index = None;
 }
 
 /// Keeps this as the last list of its program. An `Err` changes nothing.

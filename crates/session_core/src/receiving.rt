@@ -1,19 +1,21 @@
 //! One message, from its body to what it does (JSON-RPC 2.0; LSP 3.17, "Base Protocol"). After an `Err` the state is not
 //! to be used.
-ghost use Rattle.std.specs.Prelude.{◌≡◌, ◌≢◌, [], IfOk, Result, Ok, Err};
+ghost use Rattle.std.specs.Prelude.{◌≡◌, ◌≢◌, IfOk, Result, Ok, Err};
 ghost use Rattle.serde_json.specs.View.{view};
 ghost use Rattle.lsp_messages.specs.Messages.{IsReading};
 ghost use Rattle.lsp_messages.specs.declared.incoming.LspIn.{LspIn};
 ghost use Rattle.lsp_messages.specs.declared.incoming.Refusal.{Refusal};
 ghost use Rattle.session_core.specs.Message as messages;
 ghost use Rattle.session_core.specs.Refusals.{is_ended};
-ghost use Rattle.session_core.specs.Step.{IsEffect};
+ghost use Rattle.session_core.specs.Step.{Acts};
+ghost use Rattle.library_reading.specs.Asked.{AsksOver};
 
 use crate::bodies::Bodies;
 use crate::replies;
 use crate::standing::Standing;
 use crate::state::Stage;
 use hl_base::{Ledger, OutOfMemory, Steps};
+use io_edge::Library;
 use json_view::{ParseFault, parse};
 use lsp_messages::{LspIn, Refusal, is_response, read_lsp};
 use serde_json::Value;
@@ -22,19 +24,21 @@ use std::alloc::Global;
 impl Standing {
     /// Takes one message, and answers what is written for it.
     #[tactic(auto, unfolding(crate::specs::Message::event))]
-    pub(crate) fn message<L: Ledger>(
+    pub(crate) fn message<B: Library, L: Ledger>(
         &mut self,
         alloc: Global,
         body: &[u8],
+        library: &mut B,
         steps: &mut Steps<L>,
     ) -> Result<Bodies, OutOfMemory>
-        ensures { IfOk result (λ bodies. IsEffect (messages.event self.old body.now) self.new bodies) }
+        ensures { AsksOver (messages.event self.old body.now) (λ bodies. record { state = self.new; bodies = bodies }) result
+            (B.calls library.old) (B.calls library.new) (B.faults library.old) (B.faults library.new) }
     {
         if self.is_ended() {
             return Ok(Bodies::none(alloc));
         }
         match parse(alloc, body) {
-            Ok(value) => self.take_value(alloc, &value, steps),
+            Ok(value) => self.take_value(alloc, &value, library, steps),
             Err(ParseFault::NotJson) => {
                 let refusal = replies::parse_error(alloc)?;
                 Bodies::one(alloc, refusal)
@@ -56,51 +60,56 @@ impl Standing {
     }
 
     /// Takes a value; the answers of a client are passed over, since nothing was asked of it.
-    fn take_value<L: Ledger>(
+    fn take_value<B: Library, L: Ledger>(
         &mut self,
         alloc: Global,
         value: &Value,
+        library: &mut B,
         steps: &mut Steps<L>,
     ) -> Result<Bodies, OutOfMemory>
-        ensures { IfOk result (λ bodies. IsEffect (messages.heard self.old (view value.now)) self.new bodies) }
+        ensures { AsksOver (messages.heard self.old (view value.now)) (λ bodies. record { state = self.new; bodies = bodies }) result
+            (B.calls library.old) (B.calls library.new) (B.faults library.old) (B.faults library.new) }
     {
         if is_response(value) {
             return Ok(Bodies::none(alloc));
         }
         let told = read_lsp(alloc, value);
-        self.answer(alloc, told, steps)
+        self.answer(alloc, told, library, steps)
     }
 
     /// Takes a message, or what was read in place of one.
-    fn answer<L: Ledger>(
+    fn answer<B: Library, L: Ledger>(
         &mut self,
         alloc: Global,
         told: Result<LspIn, Refusal>,
+        library: &mut B,
         steps: &mut Steps<L>,
     ) -> Result<Bodies, OutOfMemory>
-        ensures { IfOk result (λ bodies. (wanted : Result LspIn Refusal) → IsReading told wanted
-            → IsEffect (messages.asked self.old wanted) self.new bodies) }
+        ensures { (wanted : Result LspIn Refusal) → IsReading told wanted → AsksOver (messages.asked self.old wanted) (λ bodies. record { state = self.new; bodies = bodies }) result
+            (B.calls library.old) (B.calls library.new) (B.faults library.old) (B.faults library.new) }
     {
         match told {
-            Ok(message) => self.take(alloc, message, steps),
+            Ok(message) => self.take(alloc, message, library, steps),
             Err(refusal) => self.refuse(alloc, refusal),
         }
     }
 
     /// Takes a message of a known method with right parameters.
-    fn take<L: Ledger>(
+    fn take<B: Library, L: Ledger>(
         &mut self,
         alloc: Global,
         message: LspIn,
+        library: &mut B,
         steps: &mut Steps<L>,
     ) -> Result<Bodies, OutOfMemory>
-        ensures { IfOk result (λ bodies. IsEffect (messages.asked self.old (Ok message)) self.new bodies) }
+        ensures { AsksOver (messages.asked self.old (Ok message)) (λ bodies. record { state = self.new; bodies = bodies }) result
+            (B.calls library.old) (B.calls library.new) (B.faults library.old) (B.faults library.new) }
     {
         match message {
             LspIn::Initialize { id, root } => self.initialize(alloc, id, root),
             LspIn::Shutdown { id } => self.shutdown(alloc, id, steps),
             LspIn::Exit => Ok(self.exit(alloc)),
-            LspIn::Initialized => self.initialized(alloc),
+            LspIn::Initialized => self.initialized(alloc, library),
             LspIn::DidOpen {
                 uri,
                 language,
@@ -115,13 +124,15 @@ impl Standing {
             LspIn::DidClose { uri } => self.closed(alloc, &uri),
             LspIn::DidSave => Ok(Bodies::none(alloc)),
             LspIn::DidChangeConfiguration => Ok(Bodies::none(alloc)),
-            LspIn::DidChangeWatchedFiles { changes: _changes } => Ok(Bodies::none(alloc)),
+            LspIn::DidChangeWatchedFiles { changes } => {
+                self.watched(alloc, changes.as_slice(), library)
+            }
         }
     }
 
     /// Takes what is no message that is understood.
     fn refuse(&mut self, alloc: Global, refusal: Refusal) -> Result<Bodies, OutOfMemory>
-        ensures { IfOk result (λ bodies. (refusal ≢ Refusal.OutOfMemory) × IsEffect (messages.asked self.old (Err refusal)) self.new bodies) }
+        ensures { IfOk result (λ bodies. (refusal ≢ Refusal.OutOfMemory) × Acts (messages.asked self.old (Err refusal)) self.new bodies) }
     {
         match refusal {
             Refusal::NotRequest => {

@@ -1,8 +1,8 @@
 //! The bodies that a session writes (JSON-RPC 2.0, "Response object"; LSP 3.17, `ErrorCodes`).
 ghost use Rattle.std.specs.Prelude.{◌≡◌, ◌≢◌, ◌++◌, [], ◌∷◌, None, IfOk, OnOk, OnErr, codes, encode_utf8_all, string_bytes, IsSome, Some};
-ghost use Rattle.session_core.specs.Inside.{list_in};
+ghost use Rattle.session_core.specs.Inside.{list_told};
 ghost use Rattle.std.specs.Str.{chars};
-ghost use Rattle.session_core.specs.Replies.{initialize_reply, shutdown_reply, refusal, parse_error, invalid_request, not_initialized, unknown_method, bad_parameter, log_line, bad_params, refusal_of, list_body};
+ghost use Rattle.session_core.specs.Replies.{initialize_reply, shutdown_reply, refusal, parse_error, invalid_request, not_initialized, unknown_method, bad_parameter, log_line, logged_line, bad_params, refusal_of, list_body};
 
 use document_store::StoreFault;
 use hl_base::{OutOfMemory, Text};
@@ -88,6 +88,14 @@ pub(crate) fn log_line(alloc: Global, method: &str, why: &str) -> Result<Vec<u8>
     LspOut::Log { message }.text(alloc)
 }
 
+/// A line of the log as it is.
+pub(crate) fn logged_line(alloc: Global, line: &Text) -> Result<Vec<u8>, OutOfMemory>
+    ensures { IfOk result (λ body. body.items ≡ logged_line line.now) }
+{
+    let message = line.copy(alloc)?;
+    LspOut::Log { message }.text(alloc)
+}
+
 /// A parameter of a notification is missing or of a wrong kind, as the log has it.
 pub(crate) fn bad_params(alloc: Global, name: &Text) -> Result<String, OutOfMemory>
     ensures { IfOk result (λ text. string_bytes text ≡ bad_params name.now) }
@@ -107,16 +115,16 @@ pub(crate) fn refusal_of(alloc: Global, fault: StoreFault) -> Result<String, Out
         StoreFault::TooMany => Ok(String::from_str(alloc, "TooMany")?),
         StoreFault::TextTooLong => Ok(String::from_str(alloc, "TextTooLong")?),
         StoreFault::NotOpen => Ok(String::from_str(alloc, "NotOpen")?),
-        StoreFault::BadRange(number) => Ok(format!(in alloc; "BadRange({number})")?),
         StoreFault::LibraryTooLarge => Ok(String::from_str(alloc, "LibraryTooLarge")?),
+        StoreFault::BadRange(number) => Ok(format!(in alloc; "BadRange({number})")?),
         StoreFault::OutOfMemory => Err(OutOfMemory),
     }
 }
 
 /// The list of a message that publishes one.
-fn list_in(message: LspOut) -> Diagnostics
-    requires { IsSome (list_in message) }
-    ensures { list_in message ≡ Some result }
+fn list_told(message: LspOut) -> Diagnostics
+    requires { IsSome (list_told message) }
+    ensures { list_told message ≡ Some result }
 {
     match message {
         LspOut::Published {
@@ -154,6 +162,6 @@ pub(crate) fn list_body(
         diagnostics: list,
     };
     let body = message.text(alloc)?;
-    let list = list_in(message);
+    let list = list_told(message);
     Ok((body, list))
 }

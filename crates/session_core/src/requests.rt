@@ -2,7 +2,7 @@
 ghost use Rattle.std.specs.Prelude.{◌≡◌, [], ◌∷◌, ℕ, List, true, false, Some, IfOk};
 ghost use Rattle.session_core.specs.Inside.{unknown_asked, wrong_asked};
 ghost use Rattle.session_core.specs.Refusals.{TooEarly, OutOfPlace, is_initialize, reply};
-ghost use Rattle.session_core.specs.Step.{IsEffect};
+ghost use Rattle.session_core.specs.Step.{Acts};
 
 use crate::bodies::Bodies;
 use crate::replies;
@@ -42,7 +42,7 @@ impl Standing {
         alloc: Global,
         head: Head,
     ) -> Result<Bodies, OutOfMemory>
-        ensures { IfOk result (λ bodies. IsEffect (unknown_asked self.old head.id head.method) self.new bodies) }
+        ensures { IfOk result (λ bodies. Acts (unknown_asked self.old head.id head.method) self.new bodies) }
     {
         let Head { id, method } = head;
         match id {
@@ -52,7 +52,7 @@ impl Standing {
     }
 
     fn unknown_request(&mut self, alloc: Global, id: Id) -> Result<Bodies, OutOfMemory>
-        ensures { IfOk result (λ bodies. (method : List ℕ) → IsEffect (unknown_asked self.old (Some id) method) self.new bodies) }
+        ensures { IfOk result (λ bodies. (method : List ℕ) → Acts (unknown_asked self.old (Some id) method) self.new bodies) }
     {
         match self.stage {
             Stage::Fresh => too_early(alloc, id),
@@ -72,7 +72,7 @@ impl Standing {
         head: Head,
         name: Text,
     ) -> Result<Bodies, OutOfMemory>
-        ensures { IfOk result (λ bodies. IsEffect (wrong_asked self.old head.id head.method name) self.new bodies) }
+        ensures { IfOk result (λ bodies. Acts (wrong_asked self.old head.id head.method name) self.new bodies) }
     {
         let Head { id, method } = head;
         match id {
@@ -88,7 +88,7 @@ impl Standing {
         method: &Text,
         name: &Text,
     ) -> Result<Bodies, OutOfMemory>
-        ensures { IfOk result (λ bodies. IsEffect (wrong_asked self.old (Some id) method.now name.now) self.new bodies) }
+        ensures { IfOk result (λ bodies. Acts (wrong_asked self.old (Some id) method.now name.now) self.new bodies) }
     {
         if is_initialize(method) {
             self.bad_initialize(alloc, id, name)
@@ -100,7 +100,7 @@ impl Standing {
     /// `initialize` with a bad parameter.
     fn bad_initialize(&mut self, alloc: Global, id: Id, name: &Text) -> Result<Bodies, OutOfMemory>
         ensures { IfOk result (λ bodies. (method : List ℕ) → is_initialize method ≡ true
-            → IsEffect (wrong_asked self.old (Some id) method name.now) self.new bodies) }
+            → Acts (wrong_asked self.old (Some id) method name.now) self.new bodies) }
     {
         match self.stage {
             Stage::Fresh => {
@@ -116,7 +116,7 @@ impl Standing {
     /// Another request with a bad parameter.
     fn bad_other(&mut self, alloc: Global, id: Id, name: &Text) -> Result<Bodies, OutOfMemory>
         ensures { IfOk result (λ bodies. (method : List ℕ) → is_initialize method ≡ false
-            → IsEffect (wrong_asked self.old (Some id) method name.now) self.new bodies) }
+            → Acts (wrong_asked self.old (Some id) method name.now) self.new bodies) }
     {
         match self.stage {
             Stage::Fresh => too_early(alloc, id),

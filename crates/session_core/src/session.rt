@@ -1,7 +1,7 @@
 //! The session, as `run` drives it.
 ghost use Rattle.std.specs.Prelude.{◌≡◌, ◌≢◌, ◌≤◌, [], IfOk, OnOk, OnErr, MatchBool};
 ghost use Rattle.session_core.specs.Held.{beginning, phase_of, Comes, ComesOver};
-ghost use Rattle.session_core.specs.Inside.{Adds, KeepsOutput};
+ghost use Rattle.session_core.specs.Inside.{Adds, HearsOver, KeepsOutput};
 ghost use Rattle.session_core.specs.Message.{event, message};
 ghost use Rattle.session_core.specs.Turn.{turn};
 
@@ -60,16 +60,17 @@ impl Session {
     }
 
     /// Takes a message, and adds what is written for it to the output last.
-    fn add_message<L: Ledger>(
+    fn add_message<B: Library, L: Ledger>(
         &mut self,
         alloc: Global,
         body: &[u8],
+        library: &mut B,
         steps: &mut Steps<L>,
     ) -> Result<(), OutOfMemory>
-        ensures ok { OnOk result (Adds (event self.old.state body.now) self.old self.new) }
-        ensures err { OnErr result (KeepsOutput self.old self.new) }
+        ensures heard { HearsOver (event self.old.state body.now) result (B.calls library.old) (B.calls library.new) self.old self.new }
+        ensures later { B.faults library.old ≤ B.faults library.new }
     {
-        let bodies = self.standing.message(alloc, body, steps)?;
+        let bodies = self.standing.message(alloc, body, library, steps)?;
         bodies.write_to(alloc, &mut self.output)
     }
 
@@ -87,7 +88,7 @@ impl Session {
     }
 
     /// Takes the body of one message (LSP 3.17, "Base Protocol"): what it comes to is told by the calls of the library that it
-    /// makes, with their answers. A call that fails is an answer too. Nothing is asked of the library yet.
+    /// makes, with their answers. A call that fails is an answer too.
     pub fn message<B: Library, L: Ledger>(
         &mut self,
         alloc: Global,
@@ -99,11 +100,10 @@ impl Session {
         ensures phase { IfOk result (λ phase. phase ≡ phase_of self.new.state) }
         ensures later { B.faults library.old ≤ B.faults library.new }
     {
-        let _ = library;
         if self.spent {
             return Err(SessionFault::Spent);
         }
-        match self.add_message(alloc, body, steps) {
+        match self.add_message(alloc, body, library, steps) {
             Ok(()) => Ok(phase_of(&self.standing)),
             Err(_) => {
                 self.spent = true;

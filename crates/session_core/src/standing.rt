@@ -8,43 +8,59 @@ ghost use Rattle.session_core.specs.Step.{IsEffect};
 ghost use Rattle.session_core.specs.Turn.{turn, turn_at, assemble_first, assemble_all, answer_waiting, is_published};
 
 use crate::bodies::Bodies;
-use crate::diagnostics::diagnostics_of;
-use crate::programs::{document_at, is_queued, keep_list, last_list, text_at};
+use crate::lists::{Surroundings, taken_index};
+use crate::programs::{document_at, is_queued, keep_list, last_list};
 use crate::replies;
-use crate::same::is_same_list;
 use crate::state::{LastList, Stage};
+use answers_feed::is_same_list;
 use document_store::{Document, DocumentStore};
+use group_members::MemberIndex;
 use hl_base::{Ledger, OutOfMemory, PathId, Steps, Text};
+use library_folders::{Configuration, Folder};
 use lsp_messages::{Diagnostic, Diagnostics};
 use std::alloc::Global;
 use std::marker::Model;
 
-/// How far the session has come, the folder of the client, the budget of a program, the documents, the queue, what was
-/// published, and of which programs that is the list as it is now. Contracts see the state.
+/// How far the session has come, the folder of the client, the budget of a program, the configuration, the documents and
+/// files, the queue, what was published, and of which programs that is the list as it is now. Contracts see the state.
 #[derive(Drop)]
 pub(crate) struct Standing {
     pub(crate) stage: Stage,
     pub(crate) root: Option<Text>,
-    budget: u32,
+    pub(crate) budget: u32,
+    pub(crate) configuration: Configuration,
+    // The library folders of the configuration.
+    pub(crate) folders: Vec<Folder>,
     pub(crate) store: DocumentStore,
     pub(crate) queue: Vec<PathId>,
     pub(crate) published: Vec<LastList>,
-    // The programs whose last list is that of their version and their text as they are: their Turns make none.
+    // The programs whose last list is that of their version, their text and the members as they are: their Turns make none.
     pub(crate) listed: Vec<PathId>,
+    // Where each folder's members are found, unless it is to be made anew.
+    pub(crate) index: Option<MemberIndex>,
 }
 
 impl Model for Standing {
     ghost use Rattle.session_core.specs.Codes.{state_code};
-    ghost use Rattle.session_core.specs.Inside.{IsSound};
+    ghost use Rattle.session_core.specs.Inside.{IsWhole};
     ghost use Rattle.session_core.specs.State.{State};
 
     ghost Value = { State };
 
     ghost coded = { state_code };
 
-    ghost view = { λ s. record { stage = s.stage; root = s.root; budget = s.budget; store = s.store.store; queue = s.queue.items; published = s.published.items } };
+    ghost view = { λ s. record {
+      stage = s.stage;
+      root = s.root;
+      budget = s.budget;
+      configuration = s.configuration;
+      store = s.store.store;
+      queue = s.queue.items;
+      published = s.published.items;
+    } };
 
-    ghost invariant = { λ s. IsSound s.listed.items s.budget s.store.store s.published.items };
+    ghost invariant = { λ s. IsWhole s.listed.items s.folders.items s.index
+        (record { root = s.root; configuration = s.configuration; budget = s.budget }) s.store.store s.published.items };
 }
 
 /// Whether this version and this list of a program were the last to be published.
@@ -96,10 +112,13 @@ impl Standing {
             stage: Stage::Fresh,
             root: None,
             budget,
+            configuration: Configuration::new(alloc),
+            folders: Vec::new(alloc),
             store: DocumentStore::new(alloc),
             queue: Vec::new(alloc),
             published: Vec::new(alloc),
             listed: Vec::new(alloc),
+            index: None,
         }
     }
 
@@ -170,8 +189,17 @@ impl Standing {
         if is_queued(&self.listed, path) {
             return Ok(Bodies::none(alloc));
         }
-        let text = text_at(alloc, &self.store, path)?;
-        let list = diagnostics_of(alloc, self.budget, path, &text, self.store.pool(), steps)?;
+        let index = taken_index(alloc, &mut self.index, &self.store)?;
+        let around = Surroundings {
+            root: self.root.as_ref(),
+            configuration: &self.configuration,
+            folders: &self.folders,
+            store: &self.store,
+            index: &index,
+            budget: self.budget,
+        };
+        let list = around.list_of(alloc, path, &document, steps)?;
+        self.index = Some(index);
         self.listed.reserve(1)?;
         if is_published(&self.published, path, &document, list.as_slice()) {
             self.listed.push_reserved(path);

@@ -1,6 +1,7 @@
 --- The client of hlasm_ls. Settings, before the first file is opened:
 ---   vim.g.hlasm_ls_command = { '/path/to/hlasm_ls', 'serve' }   where the program is not on the PATH
 ---   vim.g.hlasm_ls_extensions = { 'hlasm', 'mac' }              where other files than .hlasm .asm .mac .cpy are HLASM
+local watching = require('hlasm_ls.watching')
 local workspace = require('hlasm_ls.workspace')
 
 local M = {}
@@ -22,6 +23,17 @@ local function without_answers(client)
   end
 end
 
+local function begin(client)
+  without_answers(client)
+  if client.config.root_dir then
+    watching.start(client.id, client.config.root_dir)
+  end
+end
+
+local function finish(_, _, number)
+  watching.stop(number)
+end
+
 -- The words that start the server.
 local function command()
   local words = vim.g.hlasm_ls_command or 'hlasm_ls'
@@ -40,8 +52,9 @@ local running = {}
 local function attach_old(config, buffer)
   local key = config.root_dir or ''
   if not running[key] then
-    config.on_exit = function()
+    config.on_exit = function(...)
       running[key] = nil
+      finish(...)
     end
     running[key] = vim.lsp.start_client(config)
   end
@@ -73,7 +86,8 @@ function M.start(buffer)
     get_language_id = function()
       return 'hlasm'
     end,
-    on_init = without_answers,
+    on_init = begin,
+    on_exit = finish,
   }
   local way = vim.lsp.start and attach or attach_old
   way(config, buffer)

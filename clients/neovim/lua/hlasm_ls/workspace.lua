@@ -52,17 +52,38 @@ function M.root_above(path)
   end
 end
 
---- The library folders of a workspace: `libs` of every group, each a text or an object with `path`, from the workspace's folder.
-function M.library_folders(root)
-  local ok, settings = pcall(vim.json.decode, read(root .. '/' .. GROUPS) or '')
+--- The file of a workspace that names its libraries.
+function M.groups_of(root)
+  return root .. '/' .. GROUPS
+end
+
+-- The library folders of a workspace, as the server names them: `libs` of every group, each a text or an object with `path`, from
+-- the workspace's folder, without a slash at the end.
+local function libraries_of(root)
+  local ok, settings = pcall(vim.json.decode, read(M.groups_of(root)) or '')
   local folders = {}
   for _, group in ipairs(list_in(ok and settings, 'pgroups')) do
     for _, library in ipairs(list_in(group, 'libs')) do
       local path = type(library) == 'table' and library.path or library
       if type(path) == 'string' then
-        table.insert(folders, plain(path:sub(1, 1) == '/' and path or root .. '/' .. path))
+        local whole = path:sub(1, 1) == '/' and path or root .. '/' .. path
+        table.insert(folders, (whole:gsub('/$', '')))
       end
     end
+  end
+  return folders
+end
+
+--- The library folders of a workspace, each under one name.
+function M.library_folders(root)
+  return vim.tbl_map(plain, libraries_of(root))
+end
+
+--- The folders whose files the server reads, as a set: the settings and the libraries.
+function M.watched_folders(root)
+  local folders = { [root .. '/' .. SETTINGS] = true }
+  for _, folder in ipairs(libraries_of(root)) do
+    folders[folder] = true
   end
   return folders
 end

@@ -1,12 +1,11 @@
-use Rattle.std.proofs.Common.{ap, codes, sym, ◌∙◌, subst, w32}
+use Rattle.std.proofs.Common.{ap, codes, w32}
 use Rattle.std.proofs.lemmas.Int.{to_z-of_z}
 use Rattle.std.specs.Str.{chars}
 use Rattle.document_store.specs.Holdings.{Holdings}
-use Rattle.session_core.specs.Inside.{IsSound}
-use Rattle.session_core.specs.State.{State, without}
+use Rattle.session_core.specs.State.{State}
 use Rattle.session_core.proofs.EventLaws.{change_refused, opened_same, state_kept}
 use Rattle.session_core.proofs.ListLaws.{if_ok}
-use Rattle.session_core.proofs.ListedLaws.{sound_opened}
+use Rattle.session_core.proofs.WholeLaws.{whole_opened}
 use Rattle.session_core.proofs.StoreLaws.{few_opened}
 use Rattle.session_core.proofs.standing.Standing.open.Goals as goal
 
@@ -16,16 +15,14 @@ queue_programs-requires c = record { few = few_opened c.self.inside.store.store 
 pub invariant_of-self-in_err-queue_programs-in-Ok : goal.invariant_of-self-in_err-queue_programs-in-Ok
 invariant_of-self-in_err-queue_programs-in-Ok c =
     let fields = c.self.inside in
-    let path = c.in_ok-path.ensures in
-    subst (λ l. IsSound l fields.budget c.open_text.new.self.store fields.published.items) (sym (c.drop_named.ensures ∙ ap (without fields.listed.items) path))
-    (sound_opened fields.listed.items fields.budget fields.store.store c.open_text.new.self.store fields.published.items _ _ _ _ c.in-Ok.ensures.answer c.self.invariant)
+    whole_opened fields.listed.items _ fields.folders.items _ fields.index _ fields.store.store c.open_text.new.self.store fields.published.items _ _ _ _ _ _
+    c.in-Ok.ensures.answer c.deref.ensures.value c.in_ok-member.ensures c.in_ok-path.ensures c.forget_lists.ensures c.self.invariant
 
 pub invariant_of-self-in-Ok : goal.invariant_of-self-in-Ok
 invariant_of-self-in-Ok c =
     let fields = c.self.inside in
-    let path = c.in_ok-path.ensures in
-    subst (λ l. IsSound l fields.budget c.open_text.new.self.store fields.published.items) (sym (c.drop_named.ensures ∙ ap (without fields.listed.items) path))
-    (sound_opened fields.listed.items fields.budget fields.store.store c.open_text.new.self.store fields.published.items _ _ _ _ c.in-Ok.ensures.answer c.self.invariant)
+    whole_opened fields.listed.items _ fields.folders.items _ fields.index _ fields.store.store c.open_text.new.self.store fields.published.items _ _ _ _ _ _
+    c.in-Ok.ensures.answer c.deref.ensures.value c.in_ok-member.ensures c.in_ok-path.ensures c.forget_lists.ensures c.self.invariant
 
 pub returns-in-Err : goal.returns-in-Err
 returns-in-Err c =

@@ -1,0 +1,78 @@
+#!/bin/sh
+# A library of 5,000 members, read at `initialized`, beside a plain program that lists the folder and reads each file; and a
+# keystroke in a program that calls one of its macros.
+set -eu
+. "$(dirname "$0")/served.sh"
+cat > "$work/plain.c" <<'PLAIN'
+/* Lists a folder, reads each file of it, and prints how many bytes there are. */
+#include <dirent.h>
+#include <stdio.h>
+int main(int count, char **words) {
+    DIR *folder = opendir(words[1]);
+    char path[4096], piece[65536];
+    long all = 0;
+    for (struct dirent *entry; (entry = readdir(folder)) != NULL;) {
+        snprintf(path, sizeof path, "%s/%s", words[1], entry->d_name);
+        FILE *file = fopen(path, "rb");
+        if (file == NULL)
+            continue;
+        for (size_t got; (got = fread(piece, 1, sizeof piece, file)) > 0;)
+            all += (long)got;
+        fclose(file);
+    }
+    printf("%ld\n", all);
+    return 0;
+}
+PLAIN
+cc -O2 -o "$work/plain" "$work/plain.c"
+python3 - "$server" "$work" "$bench" <<'RUNS'
+import os, subprocess, sys, time
+server, work, bench = sys.argv[1:]
+sys.path.insert(0, bench)
+sys.dont_write_bytecode = True
+from replay import frame, opened, run
+MEMBERS = 5000
+root, uri = f"{work}/root", "file:///w/a.hlasm"
+os.makedirs(f"{root}/.hlasmplugin")
+os.makedirs(f"{root}/lib")
+
+def write(path, text):
+    with open(path, "w") as out:
+        out.write(text)
+
+write(f"{root}/.hlasmplugin/proc_grps.json", '{"pgroups":[{"name":"G","libs":["lib"]}]}')
+write(f"{root}/.hlasmplugin/pgm_conf.json", '{"pgms":[{"program":"*","pgroup":"G"}]}')
+body = "".join(f"         MVC   F{n},G{n}  one field and then the next\n" for n in range(40))
+for n in range(MEMBERS):
+    write(f"{root}/lib/MAC{n:05}.mac", f"         MACRO\n&L       MAC{n:05} &P\n{body}         MEND\n")
+program = f"{root}/a.hlasm"
+text = "* a program\n         MAC04999 1\n" + "         LR    1,2\n" * 1000 + "         END\n"
+
+def session(name, reads, keystrokes):
+    messages = [frame({"id": 1, "method": "initialize", "params": {"rootUri": f"file://{root}"}})]
+    if reads:
+        messages.append(frame({"method": "initialized", "params": {}}))
+    messages.append(opened(f"file://{program}", text))
+    for number in range(keystrokes):
+        at = {"line": 0, "character": 11}
+        messages.append(frame({"method": "textDocument/didChange", "params": {"textDocument": {"uri": f"file://{program}", "version": number + 2},
+            "contentChanges": [{"range": {"start": at, "end": {"line": 0, "character": 11 + number % 2}}, "text": "" if number % 2 else "x"}]}}))
+    messages += [frame({"id": 2, "method": "shutdown"}), frame({"method": "exit"})]
+    path = f"{work}/{name}"
+    with open(path, "wb") as out:
+        out.write(b"".join(messages))
+    return path
+
+served = [server, "serve"]
+reading, without = session("reading", True, 0), session("without", False, 0)
+with_library = min(run(served, reading)[2] for _ in range(7)) - min(run(served, without)[2] for _ in range(7))
+plain = 1e9
+for _ in range(7):
+    start = time.perf_counter()
+    subprocess.run([f"{work}/plain", f"{root}/lib"], stdout=subprocess.DEVNULL, check=True)
+    plain = min(plain, time.perf_counter() - start)
+print(f"{MEMBERS} members read at initialized in {with_library * 1000:.1f} ms")
+print(f"  listed and read by a plain program, its start included, in {plain * 1000:.1f} ms")
+few, many = (min(run(served, session("keys", True, count))[2] for _ in range(5)) for count in (10, 110))
+print(f"a keystroke in a program that calls one of {MEMBERS} members: {(many - few) * 10:.2f} ms")
+RUNS

@@ -1,0 +1,96 @@
+//! The list of a program.
+ghost use Rattle.std.specs.Prelude.{◌≡◌, ◌<◌, length, Some, None, IfOk, IfSome, slice_get};
+ghost use Rattle.std.specs.Option.{option_copied};
+ghost use Rattle.std.specs.Rc.{rc_str_bytes};
+ghost use Rattle.std.specs.Str.{chars};
+ghost use Rattle.document_store.specs.Store.{OpenDocument};
+ghost use Rattle.document_store.specs.Shown.{Shows};
+ghost use Rattle.group_members.specs.Members.{Indexes};
+ghost use Rattle.library_folders.specs.Folders.{parm_for};
+ghost use Rattle.program_assembly.specs.Assembly.{assembly_notes};
+ghost use Rattle.session_core.specs.Diagnostics.{diagnostics_of, members_of};
+ghost use Rattle.session_core.specs.State.{document_at, libraries_of};
+
+use crate::programs::text_at;
+use answers_feed::published;
+use document_store::{Document, DocumentStore};
+use group_members::{GroupMembers, MemberIndex};
+use hl_base::{Ledger, Notes, OutOfMemory, PathId, Steps, Text};
+use library_folders::{Configuration, Folder, folders_for, parm_for};
+use lsp_messages::Diagnostics;
+use program_assembly::assembly_notes;
+use std::alloc::Global;
+use std::rc::RcStr;
+
+/// What surrounds the programs of a session: the folder of the client, the configuration with its library folders, the
+/// documents and files, where members are found, and how many statements a program may be given.
+#[derive(Drop)]
+pub(crate) struct Surroundings<'a> {
+    pub(crate) root: Option<&'a Text>,
+    pub(crate) configuration: &'a Configuration,
+    pub(crate) folders: &'a [Folder],
+    pub(crate) store: &'a DocumentStore,
+    pub(crate) index: &'a MemberIndex,
+    pub(crate) budget: u32,
+}
+
+/// Where members are found, out of its place: as it was kept, or made anew.
+pub(crate) fn taken_index(
+    alloc: Global,
+    kept: &mut Option<MemberIndex>,
+    store: &DocumentStore,
+) -> Result<MemberIndex, OutOfMemory>
+    requires kept { IfSome kept.old (Indexes store.now.store) }
+    ensures index { IfOk result (Indexes store.now.store) }
+    ensures taken { kept.new ≡ None }
+{
+    match kept.take() {
+        Some(index) => Ok(index),
+        None => MemberIndex::of(alloc, store),
+    }
+}
+
+impl Surroundings<'_> {
+    /// What is reported of the program of a path and a text.
+    fn notes<L: Ledger>(
+        &self,
+        alloc: Global,
+        path: PathId,
+        text: &RcStr,
+        steps: &mut Steps<L>,
+    ) -> Result<Notes, OutOfMemory>
+        requires given { path.0 < length self.now.store.now.store.paths }
+        requires index { Indexes self.now.store.now.store self.now.index.now }
+        ensures { IfOk result (λ notes. (document : OpenDocument) → slice_get self.now.store.now.store.paths path.0 ≡ Some document.path
+            → chars (rc_str_bytes text.now) ≡ document.text
+            → notes ≡ assembly_notes path.0 document.text (parm_for (option_copied self.now.root) self.now.configuration.now document.path)
+            (members_of (option_copied self.now.root) self.now.configuration.now self.now.store.now.store document) self.now.budget) }
+    {
+        let place = self.store.path_text(path);
+        let root = self.root.map(|root| root.as_str());
+        let folders = folders_for(alloc, root, self.configuration, place)?;
+        let parm = parm_for(root, self.configuration, place);
+        let members = GroupMembers::new(self.store, self.index, &folders);
+        assembly_notes(alloc, path, text, parm, &members, self.budget, steps)
+    }
+
+    /// The list of a program, as its document is shown.
+    pub(crate) fn list_of<L: Ledger>(
+        &self,
+        alloc: Global,
+        path: PathId,
+        document: &Document<'_>,
+        steps: &mut Steps<L>,
+    ) -> Result<Diagnostics, OutOfMemory>
+        requires given { path.0 < length self.now.store.now.store.paths }
+        requires index { Indexes self.now.store.now.store self.now.index.now }
+        requires folders { self.now.folders.now ≡ libraries_of (option_copied self.now.root) self.now.configuration.now }
+        ensures { IfOk result (λ list. (shown : OpenDocument) → document_at self.now.store.now.store path ≡ Some shown
+            → Shows self.now.store.now.store.paths shown document.now
+            → list ≡ diagnostics_of (option_copied self.now.root) self.now.configuration.now self.now.store.now.store self.now.budget path shown) }
+    {
+        let text = text_at(alloc, self.store, path)?;
+        let notes = self.notes(alloc, path, &text, steps)?;
+        published(alloc, notes.as_slice(), path, self.folders, self.store)
+    }
+}

@@ -1,0 +1,3 @@
+*  What every record begins with.
+NUMBER   FIELD P,4
+KIND     FIELD C,1
