@@ -31,8 +31,44 @@ const BAD_PROGRAMS: &str =
 const UNLISTED: &str =
     r#"{"jsonrpc":"2.0","method":"window/logMessage","params":{"message":"/w/mac: Unlisted","type":2}}"#;
 
+const OPEN_OTHER: &str =
+    r#"{"jsonrpc":"2.0","method":"textDocument/didOpen","params":{"textDocument":{"languageId":"hlasm","text":" MAC\n END","uri":"file:///w/b.hlasm","version":5}}}"#;
+
+const OPEN_COPYING: &str =
+    r#"{"jsonrpc":"2.0","method":"textDocument/didOpen","params":{"textDocument":{"languageId":"hlasm","text":" COPY C\n END","uri":"file:///w/a.hlasm","version":1}}}"#;
+
+const OPEN_MEMBER: &str =
+    r#"{"jsonrpc":"2.0","method":"textDocument/didOpen","params":{"textDocument":{"languageId":"hlasm","text":" MACRO\n MAC\n MEND\n","uri":"file:///w/mac/MAC.mac","version":7}}}"#;
+
+const CHANGE_MEMBER: &str =
+    r#"{"jsonrpc":"2.0","method":"textDocument/didChange","params":{"contentChanges":[{"range":{"end":{"character":0,"line":2},"start":{"character":0,"line":2}},"text":" MNOTE 8,'x'\n"}],"textDocument":{"uri":"file:///w/mac/MAC.mac","version":8}}}"#;
+
+const CLOSE_MEMBER: &str =
+    r#"{"jsonrpc":"2.0","method":"textDocument/didClose","params":{"textDocument":{"uri":"file:///w/mac/MAC.mac"}}}"#;
+
+const DELETE_MEMBER: &str =
+    r#"{"jsonrpc":"2.0","method":"workspace/didChangeWatchedFiles","params":{"changes":[{"type":3,"uri":"file:///w/mac/MAC.mac"}]}}"#;
+
+const OTHER_EMPTY: &str =
+    r#"{"jsonrpc":"2.0","method":"textDocument/publishDiagnostics","params":{"diagnostics":[],"uri":"file:///w/b.hlasm","version":5}}"#;
+
+const NOTED: &str =
+    r#"{"jsonrpc":"2.0","method":"textDocument/publishDiagnostics","params":{"diagnostics":[{"code":"MNOTE","message":"x","range":{"end":{"character":4,"line":0},"start":{"character":0,"line":0}},"relatedInformation":[{"location":{"range":{"end":{"character":12,"line":2},"start":{"character":0,"line":2}},"uri":"file:///w/mac/MAC.mac"},"message":"macro MAC"}],"severity":1,"source":"hlasm_ls"}],"uri":"file:///w/a.hlasm","version":1}}"#;
+
+const OTHER_NOTED: &str =
+    r#"{"jsonrpc":"2.0","method":"textDocument/publishDiagnostics","params":{"diagnostics":[{"code":"MNOTE","message":"x","range":{"end":{"character":4,"line":0},"start":{"character":0,"line":0}},"relatedInformation":[{"location":{"range":{"end":{"character":12,"line":2},"start":{"character":0,"line":2}},"uri":"file:///w/mac/MAC.mac"},"message":"macro MAC"}],"severity":1,"source":"hlasm_ls"}],"uri":"file:///w/b.hlasm","version":5}}"#;
+
+const OTHER_NOT_DEFINED: &str =
+    r#"{"jsonrpc":"2.0","method":"textDocument/publishDiagnostics","params":{"diagnostics":[{"code":"H040","message":"operation MAC is not defined","range":{"end":{"character":4,"line":0},"start":{"character":0,"line":0}},"severity":1,"source":"hlasm_ls"}],"uri":"file:///w/b.hlasm","version":5}}"#;
+
+const COPIES_ITSELF: &str =
+    r#"{"jsonrpc":"2.0","method":"textDocument/publishDiagnostics","params":{"diagnostics":[{"code":"H048","message":"member C copies itself","range":{"end":{"character":7,"line":0},"start":{"character":0,"line":0}},"relatedInformation":[{"location":{"range":{"end":{"character":7,"line":0},"start":{"character":0,"line":0}},"uri":"file:///w/mac/C.mac"},"message":"copy C"}],"severity":1,"source":"hlasm_ls"}],"uri":"file:///w/a.hlasm","version":1}}"#;
+
+const ABSENT: &str =
+    r#"{"jsonrpc":"2.0","method":"window/logMessage","params":{"message":"/w/mac: Absent","type":2}}"#;
+
 /// The files of the library by their paths.
-const FILES: [(&str, &str); 3] = [
+const FILES: [(&str, &str); 4] = [
     (
         "/w/.hlasmplugin/proc_grps.json",
         r#"{"pgroups":[{"name":"G","libs":["mac"]}]}"#,
@@ -42,17 +78,22 @@ const FILES: [(&str, &str); 3] = [
         r#"{"pgms":[{"program":"*.hlasm","pgroup":"G"}]}"#,
     ),
     ("/w/mac/MAC.mac", " MACRO\n MAC\n MEND\n"),
+    ("/w/mac/C.mac", " COPY C\n"),
 ];
 
-/// A library with a macro, of which the listed calls fail.
-fn library_of(alloc: Global, failing: &[u64]) -> Result<MemoryLibrary, Fail> {
-    let mut names = Vec::new(alloc);
-    names.push(String::from_str(alloc, "MAC.mac")?)?;
+/// A library of these files, whose folder of macros lists these names, if there are any; the listed calls fail.
+fn library_of(alloc: Global, names: &[&str], failing: &[u64]) -> Result<MemoryLibrary, Fail> {
+    let mut listed = Vec::new(alloc);
+    for name in names {
+        listed.push(String::from_str(alloc, name)?)?;
+    }
     let mut folders = Vec::new(alloc);
-    folders.push(MemoryFolder {
-        path: String::from_str(alloc, "/w/mac")?,
-        names,
-    })?;
+    if !names.is_empty() {
+        folders.push(MemoryFolder {
+            path: String::from_str(alloc, "/w/mac")?,
+            names: listed,
+        })?;
+    }
     let mut files = Vec::new(alloc);
     for (path, text) in FILES {
         files.push(MemoryFile {
@@ -64,40 +105,88 @@ fn library_of(alloc: Global, failing: &[u64]) -> Result<MemoryLibrary, Fail> {
     Ok(MemoryLibrary::new(alloc, folders, files, failing))
 }
 
-/// The calls that fail, how many there are of all, and the bodies that go out.
-const CALLS: [(&[u64], usize, &[&str]); 6] = [
-    (&[], 4, &[INITIALIZED, EMPTY_LIST, SHUT]),
-    (&[1], 2, &[INITIALIZED, BAD_GROUPS, NOT_DEFINED, SHUT]),
-    (&[2], 4, &[INITIALIZED, BAD_PROGRAMS, NOT_DEFINED, SHUT]),
-    (&[3], 3, &[INITIALIZED, UNLISTED, NOT_DEFINED, SHUT]),
-    (&[4], 4, &[INITIALIZED, NOT_READ, SHUT]),
+const MAC: &[&str] = &["MAC.mac"];
+
+/// Sessions over a library: the names in the folder of macros, which is not there where there are none; the calls that fail;
+/// what comes in between `initialized` and `shutdown`; what goes out between the first reply and the last; and how many
+/// calls are made.
+const ROWS: [(&[&str], &[u64], &[&str], &[&str], usize); 9] = [
+    // none of the four calls fails, or each in turn, or the first two
+    (MAC, &[], &[OPEN], &[EMPTY_LIST], 4),
+    (MAC, &[1], &[OPEN], &[BAD_GROUPS, NOT_DEFINED], 2),
+    (MAC, &[2], &[OPEN], &[BAD_PROGRAMS, NOT_DEFINED], 4),
+    (MAC, &[3], &[OPEN], &[UNLISTED, NOT_DEFINED], 3),
+    (MAC, &[4], &[OPEN], &[NOT_READ], 4),
     (
+        MAC,
         &[1, 2],
+        &[OPEN],
+        &[BAD_GROUPS, BAD_PROGRAMS, NOT_DEFINED],
         2,
-        &[INITIALIZED, BAD_GROUPS, BAD_PROGRAMS, NOT_DEFINED, SHUT],
+    ),
+    // a folder that is not there
+    (&[], &[], &[OPEN], &[ABSENT, NOT_DEFINED], 3),
+    // a member that copies itself
+    (&["C.mac"], &[], &[OPEN_COPYING], &[COPIES_ITSELF], 4),
+    // a member that is opened, edited, closed and deleted, seen in two programs
+    (
+        MAC,
+        &[],
+        &[
+            OPEN,
+            OPEN_OTHER,
+            OPEN_MEMBER,
+            CHANGE_MEMBER,
+            CLOSE_MEMBER,
+            DELETE_MEMBER,
+        ],
+        &[
+            EMPTY_LIST,
+            OTHER_EMPTY,
+            NOTED,
+            OTHER_NOTED,
+            EMPTY_LIST,
+            OTHER_EMPTY,
+            NOT_DEFINED,
+            OTHER_NOT_DEFINED,
+        ],
+        4,
     ),
 ];
 
+/// These bodies, with others before and behind them.
+fn between(
+    alloc: Global,
+    before: &[&str],
+    bodies: &[&str],
+    behind: &[&str],
+) -> Result<Vec<u8>, Fail> {
+    let mut bytes = framed(alloc, before)?;
+    bytes.extend_from_slice(framed(alloc, bodies)?.as_slice())?;
+    bytes.extend_from_slice(framed(alloc, behind)?.as_slice())?;
+    Ok(bytes)
+}
+
 #[test]
-fn a_call_that_fails_is_an_answer_and_ends_nothing(rt: HostRuntime) -> Result<(), Fail> {
+fn sessions_over_a_library_are_answered(rt: HostRuntime) -> Result<(), Fail> {
     let alloc = rt.alloc();
     let words = vec![in alloc; String::from_str(alloc, "serve")?]?;
-    for (failing, calls, replies) in CALLS {
-        let input = framed(alloc, &[INITIALIZE, READY, OPEN, SHUTDOWN, EXIT])?;
-        let output = framed(alloc, replies)?;
+    for (names, failing, bodies, replies, calls) in ROWS {
+        let input = between(alloc, &[INITIALIZE, READY], bodies, &[SHUTDOWN, EXIT])?;
+        let output = between(alloc, &[INITIALIZED], replies, &[SHUT])?;
         let mut source = MemorySource::new(
             input,
             Vec::new(alloc),
             Vec::new(alloc),
             Vec::new(alloc),
         );
-        let mut sink = sink_of(alloc, 4_000, 8_192, &[])?;
-        let mut library = library_of(alloc, failing)?;
+        let mut sink = sink_of(alloc, 8_192, 8_192, &[])?;
+        let mut library = library_of(alloc, names, failing)?;
         let status = run_over(alloc, &words, &mut source, &mut sink, &mut library);
-        assert_eq!(rt; status, Status::Done, "{failing:?}");
-        assert!(rt; sink.contents() == output.as_slice(), "{failing:?}");
-        assert_eq!(rt; library.noted().len(), calls, "{failing:?}");
-        assert_eq!(rt; library.refusals(), failing.len() as u64, "{failing:?}");
+        assert_eq!(rt; status, Status::Done, "{replies:?}");
+        assert!(rt; sink.contents() == output.as_slice(), "{replies:?}");
+        assert_eq!(rt; library.noted().len(), calls, "{replies:?}");
+        assert_eq!(rt; library.refusals(), failing.len() as u64, "{replies:?}");
     }
     Ok(())
 }
@@ -116,7 +205,7 @@ fn no_file_is_read_before_the_client_is_ready(rt: HostRuntime) -> Result<(), Fai
             Vec::new(alloc),
         );
         let mut sink = sink_of(alloc, 4_000, 8_192, &[])?;
-        let mut library = library_of(alloc, &[])?;
+        let mut library = library_of(alloc, MAC, &[])?;
         let status = run_over(alloc, &words, &mut source, &mut sink, &mut library);
         assert_eq!(rt; status, wanted, "{word}");
         assert!(rt; library.noted().is_empty(), "{word}");
