@@ -16,7 +16,7 @@ import time
 HERE = os.path.dirname(os.path.realpath(__file__))
 PAGE = os.path.join(HERE, "README.md")
 BEGIN, END = "<!-- figures, written by make bench -->\n", "<!-- end of the figures -->\n"
-SCRIPTS = ["statements.sh", "expressions.sh", "edits.sh", "session.sh", "definitions.sh", "open_code.sh", "macros.sh", "library.sh", "memo.sh"]
+SCRIPTS = ["statements.sh", "expressions.sh", "edits.sh", "session.sh", "definitions.sh", "open_code.sh", "macros.sh", "library.sh", "lookahead.sh", "memo.sh"]
 # More than so much of the processors' time in use: the figures would be those of a busy machine.
 MOST_BUSY = 0.05
 
@@ -87,6 +87,10 @@ ROWS = [
     Row("library.sh", "5,000 members read at `initialized`", r"members read at initialized in ([\d.]+) ms", "ms", "listing and reading them",
         r"listed and read by a plain program, its start included, in ([\d.]+) ms", most=1.5),
     Row("library.sh", "a keystroke in a program that calls one of 5,000 members", r"calls one of \d+ members: ([\d.]+) ms", "ms"),
+    Row("lookahead.sh", "the index of 50,000 statements", r"(?m)^the index of 50000 statements: made in ([\d.]+) ms", "ms"),
+    Row("lookahead.sh", "a question, of ten thousand", r"(?m)^ten thousand questions: (\d+) ns", "ns", most=1000),
+    Row("lookahead.sh", "50,000 lines with one T' of the last label", r"T' of the last label: ([\d.]+) ms", "ms", "without",
+        r"ms, without ([\d.]+):", most=1.3),
     Row("macros.sh", "10,000 calls of a macro with a counter and a constant", r"(?m)^10000 calls: (\d+) ms", "ms", "GNU as: 70 ms",
         most=70),
     Row("macros.sh", "100,000 such calls", r"(?m)^100000 calls: (\d+) ms", "ms", "GNU as: 980 ms", most=980),

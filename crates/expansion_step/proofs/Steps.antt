@@ -1,11 +1,11 @@
 -- What an action and the next place are, at the places of the model.
-use Rattle.std.proofs.Common.{◌≡◌, List, [], ◌∷◌, ◌++◌, map, reverse, Option, Some, None, refl, sym, ap, ◌∙◌, subst}
+use Rattle.std.proofs.Common.{◌≡◌, ◌-◌, List, [], ◌∷◌, ◌++◌, map, reverse, Option, Some, None, refl, sym, ap, ◌∙◌, subst}
 use Rattle.std.specs.Prelude.{option_map, slice_get, IfOk, Result, Ok, Err}
 use Rattle.kept_values.specs.Trees.{Tree, Pair, look_up}
 use Rattle.asking_core.specs.Machines.{Told, Ask}
 use Rattle.plain_expansion.specs.Questions.{Comes, led_by}
 use Rattle.plain_expansion.specs.Language.{Language, Effect, Level as LevelOf, Stack as StackOf}
-use Rattle.plain_expansion.specs.Expansion.{outermost}
+use Rattle.plain_expansion.specs.Expansion.{copier, outermost}
 use Rattle.plain_expansion.specs.Engine as engine
 use Rattle.plain_expansion.specs.Engine.{Ready, Doing, Deciding, next_place, opened, heard, entry_heard, step_by, led_move, led_next}
 use Rattle.expansion_step.specs.declared.stack.Level.{Level}
@@ -22,11 +22,11 @@ some-same : {X : Type 0} (a b : X) → Some a ≡ Some b → a ≡ b
 some-same a b is = cc
 
 -- the outermost of lists that are kept the other way round
-outermost-last : (L : Language) (l m : LevelOf L.words) (ls : List (LevelOf L.words)) → outermost l (ls ++ m ∷ []) ≡ m.position
+outermost-last : (L : Language) (l m : LevelOf L.words) (ls : List (LevelOf L.words)) → outermost l (ls ++ m ∷ []) ≡ m.position - 1
 outermost-last L l m [] = refl
-outermost-last L l m (n ∷ ls) = outermost-last L n m ls
+outermost-last L l m (n ∷ ls) = outermost-last L (copier n) m ls
 
-pub outermost-reverse : (L : Language) (l m : LevelOf L.words) (ls : List (LevelOf L.words)) → outermost l (reverse (m ∷ ls)) ≡ m.position
+pub outermost-reverse : (L : Language) (l m : LevelOf L.words) (ls : List (LevelOf L.words)) → outermost l (reverse (m ∷ ls)) ≡ m.position - 1
 outermost-reverse L l m ls = ap (outermost l) (reverse-append (m ∷ []) ls) ∙ outermost-last L l m (reverse ls)
 
 pub if_ok-map : {X E : Type 0} (r : Result X E) (P Q : X → Type 0) → ((x : X) → P x → Q x) → IfOk r P → IfOk r Q
@@ -36,11 +36,11 @@ if_ok-map (Err e) P Q go holds = holds
 module _ {L : Language} {T B N D S I C K V : Type 0} (m : Means L T B N D S I C K V) where
   -- the outermost list is the first that is kept
   pub outermost-some : (x : Stack T N) (xs : List (Level T)) (l : Level T) → slice_get xs 0 ≡ Some l →
-      l.position ≡ outermost (level_by m x.here) (reverse (map (level_by m) xs))
+      l.position - 1 ≡ outermost (level_by m x.here) (reverse (map (level_by m) xs))
   outermost-some x [] l is = cc
   outermost-some x (a ∷ xs) l is =
       let one : a ≡ l = some-same a l is in
-      sym (outermost-reverse L (level_by m x.here) (level_by m a) (map (level_by m) xs) ∙ ap (λ y. y.position) one)
+      sym (outermost-reverse L (level_by m x.here) (level_by m a) (map (level_by m) xs) ∙ ap (λ y. y.position - 1) one)
 
   pub outermost-none : (x : Stack T N) (xs : List (Level T)) → slice_get xs 0 ≡ None →
       x.here.position ≡ outermost (level_by m x.here) (reverse (map (level_by m) xs))

@@ -380,13 +380,13 @@ impl<X: CodedLanguage> Expander<X> {
         self.enter(alloc, stack, item, entry)
     }
 
-    /// The number of the outermost statement.
+    /// The number of the outermost statement: of the lists that copy others, that of the COPY in the outermost one.
     fn outermost(stack: &Stack<X::Listing, X::Known>) -> u32
         ensures { let m = meaning X.reads X.call_of X.Call.code X.Key.code X.Value.code in
             result ≡ outermost_of (stack_by m stack.now).here (stack_by m stack.now).below }
     {
         match stack.below.as_slice().first() {
-            Some(level) => level.position,
+            Some(level) => level.position.saturating_sub(1),
             None => stack.here.position,
         }
     }

@@ -1,14 +1,14 @@
 -- What comes of the act of a statement: what is said of it, what its call knows then, what is put, and what is entered, as trees of
 -- questions (HLASM Language Reference SC26-4940, "Conditional assembly instructions", "Model statements", "Macro definitions",
 -- "Macro call instructions", "COPY instruction", "MEXIT instruction", "MEND statement", "END instruction").
-use Rattle.std.specs.Prelude.{ℕ, Bool, true, false, List, [], ◌∷◌, ◌++◌, ◌||◌, chars, codes, is_some, Option, Some, None, option_map, Result, Ok, Err, unwrap_or, if◌then◌else◌}
+use Rattle.std.specs.Prelude.{ℕ, ◌==◌, Bool, true, false, List, [], ◌∷◌, ◌++◌, ◌||◌, map, chars, codes, is_some, Option, Some, None, option_map, Result, Ok, Err, unwrap_or, if◌then◌else◌}
 use Rattle.std.specs.Str.{bytes_eq}
 use Rattle.hl_base.specs.declared.set.Line.{Line}
 use Rattle.hl_base.specs.declared.note.Note.{Note}
 use Rattle.hl_base.specs.declared.place.Origin.{Origin}
-use Rattle.hl_base.specs.declared.set.Answer.TheVariants.{Chars}
+use Rattle.hl_base.specs.declared.set.Answer.TheVariants.{Chars, Meaning}
 use Rattle.hl_base.specs.declared.set.Key.TheVariants as key
-use Rattle.kept_values.specs.Trees.{Tree, Pair}
+use Rattle.kept_values.specs.Trees.{Tree, Leaf, Fork, Pair}
 use Rattle.kept_values.specs.Keys.{key_tree}
 use Rattle.kept_values.specs.Answers.{answer_tree}
 use Rattle.note_rows.specs.Table.{noted}
@@ -21,6 +21,8 @@ use Rattle.plain_expansion.specs.Language.{Vocabulary, Effect, Continues, Skips,
 use Rattle.conditional_asm.specs.declared.act.Act.{Act}
 use Rattle.conditional_asm.specs.declared.act.Act.TheVariants as act
 use Rattle.conditional_asm.specs.Repeating.{once}
+use Rattle.label_attributes.specs.Meanings.{meanings, of_call}
+use Rattle.label_attributes.specs.declared.symbols.SymbolMeaning.{SymbolMeaning}
 use Rattle.statement_listing.specs.Listings.{line_number, place_at}
 use Rattle.macro_binding.specs.Bindings.{binding_notes}
 use Rattle.macro_binding.specs.Prototypes.{name_of}
@@ -129,10 +131,18 @@ abbrev pub operation_puts : Option (List ℕ) → (label : List ℕ) → List Pa
 operation_puts None label = []
 operation_puts (Some op) label = section_puts op label
 
+-- what is put of a symbol from then on: what it means to attribute references
+abbrev pub symbol_put : SymbolMeaning → Pair
+symbol_put one = record { key = key_tree (key.Sym one.name); value = answer_tree (Meaning one.attr) }
+
+-- a generated statement puts the section that it begins, and what it tells of symbols
+abbrev pub line_puts : Line → List Pair
+line_puts line = operation_puts (name_of line.op) line.label ++ map symbol_put (meanings line)
+
 abbrev pub generated : Knowledge → Line → List Note → Effect words
 generated known line notes = record {
   said = record (quiet notes) { line = Some line };
-  act = Continues known (operation_puts (name_of line.op) line.label);
+  act = Continues known (line_puts line);
 }
 
 -- ---- macro definitions
@@ -173,21 +183,41 @@ said_call_at origin notes = record (quiet notes) { called = Some origin }
 abbrev pub said_call : Content → List Note → Said
 said_call content notes = said_call_at (place_in content.prototype) notes
 
--- The macro begins, with what the entries of the call come to; where one cannot be read there is no call. At the limit of depth
--- nothing of the entries is said.
-abbrev pub entered_with : Content → (before : List Note) → Called → List Note → Effect words
-entered_with content before None notes = record { said = said_call content notes; act = Enters (said_call content before) Nowhere }
-entered_with content before (Some values) notes = record {
+-- The macro begins, with what the entries of the call come to, behind these puts; where an entry cannot be read there is no
+-- call. At the limit of depth nothing of the entries is said.
+abbrev pub entered_with : Content → (before : List Note) → Called → List Note → List Pair → Effect words
+entered_with content before None notes puts = record { said = said_call content notes; act = Enters (said_call content before) Nowhere }
+entered_with content before (Some values) notes puts = record {
   said = said_call content (notes ++ binding_notes (parameters_in content) values.operands);
-  act = Enters (said_call content before) (Calling (macro_call content values.label values.operands) []);
+  act = Enters (said_call content before) (Calling (macro_call content values.label values.operands) puts);
 }
 
-abbrev pub entered : Content → List Note → Noted Called → Effect words
-entered content notes entries = entered_with content notes entries.value (once (notes ++ entries.notes))
+abbrev pub entered : Content → List Note → Noted Called → List Pair → Effect words
+entered content notes entries puts = entered_with content notes entries.value (once (notes ++ entries.notes)) puts
+
+-- the symbol that is the label of a call
+abbrev pub call_label : Called → Option (List ℕ)
+call_label None = None
+call_label (Some values) = name_of values.label
+
+-- whether nothing is known of a key
+abbrev pub is_nothing : Tree → Bool
+is_nothing (Leaf kind) = kind == 0
+is_nothing (Fork left right) = false
+
+-- the label of a call means a macro call until a statement defines it; a symbol that means something already keeps its meaning
+abbrev pub label_puts : (name : List ℕ) → (known : Tree) → List Pair
+label_puts name known = if is_nothing known then symbol_put (record { name = name; attr = of_call }) ∷ [] else []
+
+-- what its label means is asked before the macro begins
+abbrev pub labelling : Content → List Note → Noted Called → Option (List ℕ) → Comes
+labelling content notes entries None = done (entered content notes entries [])
+labelling content notes entries (Some name) = needs (key_tree (key.Sym name)) (λ known. done (entered content notes entries (label_puts name known)))
 
 abbrev pub calling : (label operands : List ℕ) → Knowledge → List Note → Content → Comes
 calling label operands known notes content =
-    and_then (over_trees (λ entries. entries) (call-asks (frame known) label operands).tree) (λ entries. done (entered content notes entries))
+    and_then (over_trees (λ entries. entries) (call-asks (frame known) label operands).tree)
+    (λ entries. labelling content notes entries (call_label entries.value))
 
 -- what an operation is that is not built in
 abbrev pub called_by : (label operands : List ℕ) → Knowledge → (name : List ℕ) → List Note → Sought → Comes

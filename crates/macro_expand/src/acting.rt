@@ -1,5 +1,5 @@
 //! What comes of the act of a statement: conditional assembly, generated statements and the ends of calls.
-ghost use Rattle.std.specs.Prelude.{◌≡◌, ◌++◌, [], ◌∷◌, IfOk, Some};
+ghost use Rattle.std.specs.Prelude.{◌≡◌, ◌++◌, [], ◌∷◌, map, IfOk, OnOk, Some};
 ghost use Rattle.kept_values.specs.Keys.{key_tree};
 ghost use Rattle.asking_core.specs.Places.{pairs_of};
 ghost use Rattle.plain_expansion.specs.Questions.{Comes};
@@ -16,8 +16,10 @@ use call_knowledge::{Change, Deed, Knowledge, Put};
 use call_sites::{CallSite, Known};
 use expansion_step::{Act as Acts, Performed};
 use hl_base::{Answer, Declarations, Frames, Key, Line, Name, Notes, OutOfMemory, Text};
+use label_attributes::{SymbolMeaning, meanings};
 use note_rows::{Row, note};
 use std::alloc::Global;
+use std::collections::VecDeque;
 use trace_values::Settings;
 
 pub(crate) type Done = Performed<Passage, Name, Change, Said, CallSite, Key, Known>;
@@ -139,7 +141,7 @@ fn section_named(alloc: Global, name: Option<Name>) -> Result<Text, OutOfMemory>
     }
 }
 
-/// What a generated statement puts: the name of the section that it begins, if it begins one.
+/// What a generated statement puts of sections: the name of the one that it begins, if it begins one.
 fn section_puts(alloc: Global, line: &Line) -> Result<Puts, OutOfMemory>
     ensures { IfOk result (λ ps. pairs_of key_tree known_tree ps.items ≡ acts.operation_puts (name_of line.now.op) line.now.label) }
 {
@@ -158,11 +160,43 @@ fn section_puts(alloc: Global, line: &Line) -> Result<Puts, OutOfMemory>
     Ok(puts)
 }
 
+/// Adds what is put of a symbol: what it means from then on.
+pub(crate) fn push_symbol(puts: &mut Puts, one: SymbolMeaning) -> Result<(), OutOfMemory>
+    ensures { OnOk result (pairs_of key_tree known_tree puts.new.items ≡ pairs_of key_tree known_tree puts.old.items ++ acts.symbol_put one ∷ []) }
+{
+    let SymbolMeaning { name, attr } = one;
+    puts.push(Noted {
+        key: Key::Sym(name),
+        value: Known::Plain(Answer::Meaning(attr)),
+    })?;
+    Ok(())
+}
+
+/// Adds what is put of some symbols.
+fn push_symbols(puts: &mut Puts, mut found: VecDeque<SymbolMeaning>) -> Result<(), OutOfMemory>
+    ensures { OnOk result (pairs_of key_tree known_tree puts.new.items
+        ≡ pairs_of key_tree known_tree puts.old.items ++ map acts.symbol_put found.items) }
+{
+    while let Some(one) = found.pop_front() {
+        push_symbol(puts, one)?;
+    }
+    Ok(())
+}
+
+/// What a generated statement puts: the name of the section that it begins, if it begins one, and what it tells of symbols.
+fn line_puts(alloc: Global, line: &Line) -> Result<Puts, OutOfMemory>
+    ensures { IfOk result (λ ps. pairs_of key_tree known_tree ps.items ≡ acts.line_puts line.now) }
+{
+    let mut puts = section_puts(alloc, line)?;
+    push_symbols(&mut puts, meanings(alloc, line)?)?;
+    Ok(puts)
+}
+
 /// A statement is generated.
 pub(crate) fn generating(alloc: Global, line: Line, notes: Notes) -> Result<Done, OutOfMemory>
     ensures { IfOk result (λ p. (k : Knowledge) → performed_by means k p ≡ Some (Comes (acts.generated k line notes))) }
 {
-    let puts = section_puts(alloc, &line)?;
+    let puts = line_puts(alloc, &line)?;
     let mut said = quiet(alloc, notes);
     said.line = Some(line);
     Ok(Performed::Does(said, Acts::Continues(Change::Nothing, puts)))

@@ -1,5 +1,9 @@
 //! Macro calls.
-ghost use Rattle.std.specs.Prelude.{◌≡◌, ◌++◌, Some, None, IfOk};
+ghost use Rattle.std.specs.Prelude.{◌≡◌, ◌++◌, [], Some, None, IfOk};
+ghost use Rattle.kept_values.specs.Answers.{answer_tree};
+ghost use Rattle.kept_values.specs.Keys.{key_tree};
+ghost use Rattle.asking_core.specs.Places.{pairs_of};
+ghost use Rattle.call_sites.specs.Values.{known_tree};
 ghost use Rattle.conditional_asm.specs.Repeating as repeating;
 ghost use Rattle.macro_library.specs.Contents.{content_of};
 ghost use Rattle.plain_expansion.specs.Questions.{Comes, and_then, led_by};
@@ -11,17 +15,18 @@ ghost use Rattle.macro_expand.specs.Acts as acts;
 ghost use Rattle.macro_expand.specs.Codes.{means, told_by};
 
 use crate::Said;
-use crate::acting::{Done, joined, quiet, refused};
+use crate::acting::{Done, Puts, joined, push_symbol, quiet, refused};
 use crate::definitions::row_of_fault;
-use asked_definitions::{AskedOperation, Sought, asked_operation};
+use asked_definitions::{AskedOperation, Sought, asked_operation, known_at};
 use asking_core::Noted;
 use call_knowledge::{Knowledge, Surroundings};
 use call_sites::{CallSite, Known, MacroCall};
 use conditional_asm::once;
 use expansion_step::{Act as Acts, Entry, Performed};
-use hl_base::{Key, Name, Notes, Origin, OutOfMemory, Text};
+use hl_base::{Answer, Key, Name, Notes, Origin, OutOfMemory, Text};
 use hlasm_statements::Statement;
 use kept_definitions::KeptDefinition;
+use label_attributes::{SymbolMeaning, of_call};
 use macro_binding::bind;
 use macro_operands::{CallOperands, CallValues, call_operands};
 use note_rows::Row;
@@ -46,16 +51,17 @@ fn once_joined(alloc: Global, notes: &Notes, more: &Notes) -> Result<Notes, OutO
     once(alloc, &all)
 }
 
-/// The macro begins, with these entries; the first notes are those of its statement.
+/// The macro begins, with these entries, behind these puts; the first notes are those of its statement.
 fn entered(
     alloc: Global,
     definition: KeptDefinition,
     values: CallValues,
     before: Notes,
     more: &Notes,
+    puts: Puts,
 ) -> Result<Done, OutOfMemory>
     ensures { IfOk result (λ p. (k : Knowledge) → performed_by means k p ≡ Some (Comes (acts.entered (content_of definition.definition.value) before
-        (record { value = Some values; notes = more.now })))) }
+        (record { value = Some values; notes = more.now }) (pairs_of key_tree known_tree puts.items)))) }
 {
     let origin = definition.definition.origin();
     let notes = once_joined(alloc, &before, more)?;
@@ -71,7 +77,7 @@ fn entered(
             operands,
         },
     )?);
-    let entry = Entry::Calling(call, Vec::new(alloc));
+    let entry = Entry::Calling(call, puts);
     let limited = said_call(alloc, origin, before);
     Ok(Performed::Does(
         said_call(alloc, origin, notes),
@@ -87,7 +93,7 @@ fn not_entered(
     more: &Notes,
 ) -> Result<Done, OutOfMemory>
     ensures { IfOk result (λ p. (k : Knowledge) → performed_by means k p ≡ Some (Comes (acts.entered (content_of definition.now.definition.value) before
-        (record { value = None; notes = more.now })))) }
+        (record { value = None; notes = more.now }) []))) }
 {
     let origin = definition.definition.origin();
     let notes = once_joined(alloc, &before, more)?;
@@ -96,6 +102,69 @@ fn not_entered(
         said_call(alloc, origin, notes),
         Acts::Enters(limited, Entry::Nowhere),
     ))
+}
+
+/// Whether an answer is that there is nothing.
+fn tells_nothing(answer: &Answer) -> bool
+    ensures { result ≡ acts.is_nothing (answer_tree answer.now) }
+{
+    match answer {
+        Answer::Nothing => true,
+        Answer::Number(_) => false,
+        Answer::Bit(_) => false,
+        Answer::Chars(_) => false,
+        Answer::Defined => false,
+        Answer::File(_, _) => false,
+        Answer::Unreadable => false,
+        Answer::Meaning(_) => false,
+    }
+}
+
+/// Whether nothing is known.
+fn is_nothing(known: &Known) -> bool
+    ensures { result ≡ acts.is_nothing (known_tree known.now) }
+{
+    match known {
+        Known::Plain(answer) => tells_nothing(answer),
+        Known::Macro(_) => false,
+        Known::Member(_) => false,
+    }
+}
+
+/// What is put of the label of a call, of which this is known: it means a macro call, unless it means something already.
+fn label_puts(alloc: Global, name: Name, known: &Known) -> Result<Puts, OutOfMemory>
+    ensures { IfOk result (λ ps. pairs_of key_tree known_tree ps.items ≡ acts.label_puts name (known_tree known.now)) }
+{
+    let mut puts = Vec::new(alloc);
+    if is_nothing(known) {
+        let attr = of_call();
+        push_symbol(&mut puts, SymbolMeaning { name, attr })?;
+    }
+    Ok(puts)
+}
+
+/// The macro begins, with these entries, as far as the answers lead: what its label means is asked before.
+fn labelling(
+    alloc: Global,
+    answers: &[Noted<Key, Known>],
+    definition: KeptDefinition,
+    values: CallValues,
+    before: Notes,
+    more: &Notes,
+) -> Result<Done, OutOfMemory>
+    ensures { IfOk result (λ p. (k : Knowledge) → performed_by means k p ≡ Some (led_by (told_by answers.now)
+        (acts.labelling (content_of definition.definition.value) before (record { value = Some values; notes = more.now })
+        (acts.call_label (Some values))))) }
+{
+    let Some(name) = Name::read(values.label.as_str()) else {
+        return entered(alloc, definition, values, before, more, Vec::new(alloc));
+    };
+    let key = Key::Sym(name.copy());
+    let Some(known) = known_at(answers, &key) else {
+        return Ok(Performed::Wants(key));
+    };
+    let puts = label_puts(alloc, name, known)?;
+    entered(alloc, definition, values, before, more, puts)
 }
 
 /// A macro is called by a statement, as far as the answers lead.
@@ -116,7 +185,9 @@ fn entering(
     };
     match call_operands(alloc, statement, &mut around)? {
         CallOperands::Wants(key) => Ok(Performed::Wants(key)),
-        CallOperands::Made(values, more) => entered(alloc, definition, values, notes, &more),
+        CallOperands::Made(values, more) => {
+            labelling(alloc, answers, definition, values, notes, &more)
+        }
         CallOperands::Unreadable(more) => not_entered(alloc, &definition, notes, &more),
     }
 }

@@ -79,10 +79,14 @@ met_from L (Some statement) l ls = Meets statement l ls
 met_from L None l [] = Over
 met_from L None l (m ∷ ls) = met_from L (statement_at L m) m ls
 
--- the number of the outermost statement
+-- the statement that copies a list: the one before the place where its own list goes on
+abbrev pub copier : {V : Vocabulary} → Level V → Level V
+copier l = record l { position = l.position - 1 }
+
+-- the number of the outermost statement: where lists are copied, of the one in the outermost list that copies
 abbrev pub outermost : {V : Vocabulary} → Level V → List (Level V) → ℕ
 outermost l [] = l.position
-outermost l (m ∷ ls) = outermost m ls
+outermost l (m ∷ ls) = outermost (copier m) ls
 
 -- a world after puts, in turn
 abbrev pub put_each : (W : WorldModel) → W.State → List Pair → W.State

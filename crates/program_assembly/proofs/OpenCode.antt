@@ -44,7 +44,7 @@ ran_as one other points_is ended_is unpaid_is = λ i. record { points = points_i
 module _ (runs : GivesExpansions) (path : ℕ) (text parm : List ℕ) (members : List ℕ → Member) (budget : ℕ) (nodes : List (Node TraceItem)) (root : NodeId) (notes : List Note)
     (is : IsReport open_code_machine rebased call_of (λ item. item) (λ frames. frames) path text parm members budget nodes root notes) where
   abbrev s : ProgramState
-  s = first_world parm members
+  s = first_world text parm members
 
   abbrev ran_at : Call → Ran
   ran_at c = let x = expansion hlasm program_world c s budget 0 in record { points = x.points; ended = x.ended; unpaid = x.unpaid }

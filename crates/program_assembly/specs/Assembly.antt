@@ -20,11 +20,11 @@ use Rattle.trace_paths.specs.Touched.{AreTouched}
 use Rattle.program_assembly.specs.Runs.{IsAssembly}
 use Rattle.program_assembly.specs.declared.assembly.Assembly.{Assembly}
 
--- The run of a program's open code: its plain expansion, with the whole budget, over the world in which nothing is put and
--- counted yet, and these members are found.
+-- The run of a program's open code: its plain expansion, with the whole budget, over the world of its text in which nothing is
+-- put and counted yet, and these members are found.
 abbrev pub open_code_run : (path : ℕ) (text parm : List ℕ) (members : List ℕ → Member) (budget : ℕ) → Ran
 open_code_run path text parm members budget =
-    let e = expansion hlasm program_world (open_code path text) (first_world parm members) budget 0 in
+    let e = expansion hlasm program_world (open_code path text) (first_world text parm members) budget 0 in
     record { points = e.points; ended = e.ended; unpaid = e.unpaid }
 
 -- what is reported of a program

@@ -24,14 +24,14 @@ abbrev pub ran_of : List (Node TraceItem) → Outcome (List Frame) → Ran
 ran_of nodes outcome = record { points = points nodes outcome.node.0; ended = ending_of outcome.ended; unpaid = outcome.unpaid.items }
 
 -- A report of a program, for a machine: its root has the points of the machine's plain run of the open code, with the whole
--- budget, over the world in which nothing is put and counted yet and these members are found, and the notes are what is
--- reported of that run.
+-- budget, over the world of this text in which nothing is put and counted yet and these members are found, and the notes are what
+-- is reported of that run.
 pub record IsReport (M : MachineModel) (rebased : Tree → Tree → ℕ → Tree) (call_of : Tree → M.Call) (item_of : TraceItem → M.Item)
     (frames_of : List Frame → M.Frames) (path : ℕ) (text parm : List ℕ) (members : List ℕ → Member) (budget : ℕ)
     (nodes : List (Node TraceItem)) (root : NodeId) (notes : List Note) : Type 0 where
   pub world : ProgramState
   pub outcome : Outcome (List Frame)
-  pub comes : ComesTo M program_world rebased item_of frames_of budget 0 (call_of (open_code_tree path text)) (first_world parm members) world
+  pub comes : ComesTo M program_world rebased item_of frames_of budget 0 (call_of (open_code_tree path text)) (first_world text parm members) world
       nodes outcome
   pub root_is : root ≡ outcome.node
   pub notes_are : notes ≡ notes_of path text (ran_of nodes outcome)

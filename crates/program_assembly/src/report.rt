@@ -55,7 +55,7 @@ pub(crate) fn report_of<
 {
     the_world_fits();
     let call = CallSite::OpenCode(path, text.clone()?);
-    let mut world = ProgramWorld::new(alloc, parm, present)?;
+    let mut world = ProgramWorld::new(alloc, text.clone()?, parm, present)?;
     let outcome = memo.expand(machine, alloc, &call, &mut world, budget, 0, arena, steps)?;
     Ok(Report {
         root: outcome.node,

@@ -2,3 +2,4 @@ pub mod BitLaws
 pub mod WorldLaws
 pub mod PairLaws
 mod MemberLaws
+mod AheadLaws

@@ -1,5 +1,5 @@
 -- The world of a program fits the rules on keys.
-use Rattle.std.proofs.Common.{◌≡◌, ℕ, ◌+◌, ◌==◌, ◌||◌, ◌<◌, Bool, true, false, cond, Option, Some, None, [], refl, sym, ap, ◌∙◌, subst, eqb-true}
+use Rattle.std.proofs.Common.{◌≡◌, ℕ, ◌+◌, ◌==◌, ◌||◌, ◌<◌, Bool, true, false, cond, Option, Some, [], refl, sym, ap, ◌∙◌, subst, eqb-true}
 use Rattle.std.specs.Prelude.{unwrap_or}
 use Rattle.std.proofs.lemmas.Bool.{ltb-true}
 use Rattle.hl_base.specs.declared.set.Answer.TheVariants as answer
@@ -10,7 +10,7 @@ use Rattle.asking_core.specs.Worlds.{Fits}
 use Rattle.asking_core.specs.Counters.{Round, round, Counted}
 use Rattle.asking_core.proofs.CounterLaws.{counters_fit}
 use Rattle.call_sites.specs.Rules.{is_moving, is_writable, number_tree, taken_back, rebased}
-use Rattle.program_world.specs.World.{ProgramState, is_member, member_answer, program_answer, program_world, with_put}
+use Rattle.program_world.specs.World.{ProgramState, is_look, is_member, look_answer, member_answer, program_answer, program_world, with_put}
 use Rattle.program_world.proofs.BitLaws.{taken_back-more, taken_back_once}
 
 -- counters that go round
@@ -37,7 +37,7 @@ below c = ltb-true c.number 4294967296 c.small
 
 -- an answer to a key that nobody may put
 abbrev looked_for : ProgramState → Tree → Tree
-looked_for s key = cond (is_member key) (member_answer s.members key) (answer_tree answer.Nothing)
+looked_for s key = cond (is_member key) (member_answer s.members key) (cond (is_look key) (look_answer s key) (answer_tree answer.Nothing))
 
 -- an answer by what was put for its key
 abbrev answered : Option Tree → ProgramState → Tree → Tree

@@ -13,6 +13,7 @@ state_of members w = record {
   calls = round w.calls;
   depth = round w.depth;
   statement = w.statement;
+  text = w.sources.text;
   parm = w.parm;
-  members = members w.members;
+  members = members w.sources.present;
 }

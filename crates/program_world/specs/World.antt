@@ -1,5 +1,6 @@
 -- The world of a program: what is answered to each key, and what each event makes of it. This project.
-use Rattle.std.specs.Prelude.{ℕ, ◌+◌, ◌==◌, Bool, false, List, [], Option, Some, None, unwrap_or, if◌then◌else◌}
+use Rattle.std.specs.Prelude.{ℕ, ◌+◌, Bool, false, List, [], Option, Some, None, unwrap_or, if◌then◌else◌}
+use Rattle.hl_base.specs.declared.set.Attr.{Attr}
 use Rattle.hl_base.specs.declared.set.Key.TheVariants as key
 use Rattle.hl_base.specs.declared.set.Answer.{Answer}
 use Rattle.hl_base.specs.declared.set.Answer.TheVariants as answer
@@ -11,15 +12,19 @@ use Rattle.asking_core.specs.Counters.{Round, round}
 use Rattle.call_sites.specs.Calls.{text_in}
 use Rattle.call_sites.specs.Rules.{is_writable, number_tree}
 use Rattle.call_sites.specs.Values.{member_known}
+use Rattle.hlasm_statements.specs.Statements.{statements_of}
+use Rattle.look_places.specs.Places.{look_behind}
 use Rattle.text_pool.specs.Members.{Member, Absent, Unreadable, File}
 
 -- what statements put for each key, how many calls were counted, how deep the call stands, which outermost statement is
--- processed, the text of SYSPARM, and what is found under the name of each member
+-- processed, by its place among those that are, the text of the program, that of SYSPARM, and what is found under the name of
+-- each member
 pub record ProgramState : Type 0 where
   pub put : Tree → Option Tree
   pub calls : Round
   pub depth : Round
   pub statement : ℕ
+  pub text : List ℕ
   pub parm : List ℕ
   pub members : List ℕ → Member
 
@@ -51,11 +56,29 @@ abbrev pub member_answer : (List ℕ → Member) → Tree → Tree
 member_answer members (Leaf kind) = answer_tree answer.Nothing
 member_answer members (Fork kind named) = member_tree (members (text_in named))
 
--- Global, Op and Sym are what was put, and Member is what is found; nobody looks ahead yet: Look is answered Nothing
+-- whether a key is that of lookahead, and what is answered to it: what the symbol means that is found behind the outermost
+-- statement, or nothing where none is
+abbrev pub is_look : Tree → Bool
+is_look (Leaf kind) = false
+is_look (Fork kind named) = same_tree kind (Leaf 4)
+
+abbrev pub meaning_tree : Option Attr → Tree
+meaning_tree None = answer_tree answer.Nothing
+meaning_tree (Some attr) = answer_tree (answer.Meaning attr)
+
+abbrev pub look_tree : ProgramState → (name : List ℕ) → Tree
+look_tree s name = meaning_tree (look_behind s.members (statements_of s.text) name s.statement)
+
+abbrev pub look_answer : ProgramState → Tree → Tree
+look_answer s (Leaf kind) = answer_tree answer.Nothing
+look_answer s (Fork kind named) = look_tree s (text_in named)
+
+-- Global, Op and Sym are what was put, Member is what is found under the name, and Look what is found ahead
 abbrev pub named_answer : ProgramState → Tree → Tree
 named_answer s named =
     if is_writable named then put_or s named answer.Nothing
-    else (if is_member named then member_answer s.members named else answer_tree answer.Nothing)
+    else (if is_member named then member_answer s.members named
+    else (if is_look named then look_answer s named else answer_tree answer.Nothing))
 
 abbrev pub program_answer : ProgramState → Tree → Tree
 program_answer s (Leaf kind) = plain_answer s kind
@@ -78,6 +101,6 @@ program_world = record {
 }
 
 -- nothing is put and counted yet
-abbrev pub first_world : (parm : List ℕ) → (List ℕ → Member) → ProgramState
-first_world parm members =
-    record { put = λ key. None; calls = round 0; depth = round 0; statement = 0; parm = parm; members = members }
+abbrev pub first_world : (text parm : List ℕ) → (List ℕ → Member) → ProgramState
+first_world text parm members =
+    record { put = λ key. None; calls = round 0; depth = round 0; statement = 0; text = text; parm = parm; members = members }

@@ -1,5 +1,6 @@
 //! The world of a program.
 ghost use Rattle.std.specs.Prelude.{◌≡◌, ◌%◌, IfOk, unwrap_or};
+ghost use Rattle.std.specs.Rc.{rc_str_bytes};
 ghost use Rattle.std.specs.Str.{chars};
 ghost use Rattle.kept_values.specs.Keys.{key_tree};
 ghost use Rattle.kept_values.specs.Answers.{answer_tree};
@@ -7,15 +8,16 @@ ghost use Rattle.asking_core.specs.Counters.{round};
 ghost use Rattle.call_sites.specs.Values.{known_tree};
 ghost use Rattle.call_sites.specs.Rules.{number_tree};
 ghost use Rattle.program_world.specs.Puts.{held_by};
-ghost use Rattle.program_world.specs.World.{program_world, first_world, program_answer};
+ghost use Rattle.program_world.specs.World.{program_world, first_world, meaning_tree, program_answer};
 
-use crate::members::FoundMembers;
 use crate::puts::Puts;
+use crate::sources::Sources;
 use asking_core::World;
 use call_sites::Known;
-use hl_base::{Answer, Key, OutOfMemory, Text};
+use hl_base::{Answer, Attr, Key, OutOfMemory, Text};
 use kept_values::Kept;
 use std::alloc::Global;
+use std::rc::RcStr;
 use text_pool::Present;
 
 /// What surrounds the open code of a program, and what is present for it. The counters of calls and of depth go round at 2^32.
@@ -26,7 +28,7 @@ pub struct ProgramWorld<'a, P: Present> {
     pub(crate) depth: u32,
     pub(crate) statement: u32,
     pub(crate) parm: Text,
-    pub(crate) members: FoundMembers<'a, P>,
+    pub(crate) sources: Sources<'a, P>,
 }
 
 /// A counter as it is answered.
@@ -43,6 +45,16 @@ fn gone_round(number: u32) -> u32
     number
 }
 
+/// What a symbol means, as it is answered.
+fn meaning(found: Option<Attr>) -> Known
+    ensures { known_tree result ≡ meaning_tree found }
+{
+    match found {
+        Some(attr) => Known::Plain(Answer::Meaning(attr)),
+        None => Known::Plain(Answer::Nothing),
+    }
+}
+
 /// What was put for a key, or else this.
 fn put_or(alloc: Global, puts: &Puts, key: &Key, otherwise: Known) -> Result<Known, OutOfMemory>
     ensures { IfOk result (λ v. known_tree v ≡ unwrap_or (held_by puts.now (key_tree key.now)) (known_tree otherwise)) }
@@ -56,13 +68,14 @@ fn put_or(alloc: Global, puts: &Puts, key: &Key, otherwise: Known) -> Result<Kno
 impl<'a, P: Present> ProgramWorld<'a, P> {
     ghost use Rattle.program_world.specs.States.{state_of};
 
-    /// The world in which nothing is put and counted, with this SYSPARM and these members.
+    /// The world in which nothing is put and counted, of a program of this text, with this SYSPARM and these members.
     pub fn new(
         alloc: Global,
+        text: RcStr,
         parm: &str,
         present: &'a P,
     ) -> Result<ProgramWorld<'a, P>, OutOfMemory>
-        ensures { IfOk result (λ w. state_of P.members w ≡ first_world (chars parm.now) (P.members present.now)) }
+        ensures { IfOk result (λ w. state_of P.members w ≡ first_world (chars (rc_str_bytes text)) (chars parm.now) (P.members present.now)) }
     {
         Ok(ProgramWorld {
             puts: Puts::new(alloc),
@@ -70,7 +83,7 @@ impl<'a, P: Present> ProgramWorld<'a, P> {
             depth: 0,
             statement: 0,
             parm: Text::of(alloc, parm)?,
-            members: FoundMembers::new(alloc, present),
+            sources: Sources::new(alloc, text, present),
         })
     }
 
@@ -83,8 +96,11 @@ impl<'a, P: Present> ProgramWorld<'a, P> {
             Key::Global(_, _, _) | Key::Op(_) | Key::Sym(_) => {
                 put_or(alloc, &self.puts, key, Known::Plain(Answer::Nothing))
             }
-            Key::Member(name) => self.members.get(alloc, name),
-            Key::Look(_) => Ok(Known::Plain(Answer::Nothing)),
+            Key::Member(name) => self.sources.member(alloc, name),
+            Key::Look(name) => {
+                let found = self.sources.ahead(alloc, name, self.statement)?;
+                Ok(meaning(found))
+            }
             Key::Sect => {
                 let none = Known::Plain(Answer::Chars(Text::new(alloc)));
                 put_or(alloc, &self.puts, key, none)

@@ -51,11 +51,10 @@ returns c = λ k.
     let made : MacroCall = record { definition = c.args.definition; name_entry = c.args.values.label; operands = operands } in
     let called : call_of (call_tree (site.Macro c.in_ok-new.field-0)) ≡ macro_called made =
     call_of-call_tree (site.Macro c.in_ok-new.field-0) ∙ ap (λ (m : MacroCall). macro_called m) c.in_ok-new.ensures.ok in
-    let puts : pairs_of key_tree known_tree c.new-2.result.items ≡ [] = ap (pairs_of key_tree known_tree) c.new-2.ensures.items in
+    let puts = pairs_of key_tree known_tree c.args.puts.items in
     let first = call_of (call_tree (site.Macro c.in_ok-new.field-0)) in
     let told = said_call_at D.origin (all ++ binding_notes (parameters_in (content_of D)) operands) in
     ap (λ e. Some (Comes e)) (
-    ap (λ s. shown s c.said_call-limited.result first (pairs_of key_tree known_tree c.new-2.result.items)) said
-    ∙ ap (λ l. shown told l first (pairs_of key_tree known_tree c.new-2.result.items)) limited
-    ∙ ap (λ x. shown told (said_call_at D.origin before) x (pairs_of key_tree known_tree c.new-2.result.items)) called
-    ∙ ap (λ ps. shown told (said_call_at D.origin before) (macro_called made) ps) puts)
+    ap (λ s. shown s c.said_call-limited.result first puts) said
+    ∙ ap (λ l. shown told l first puts) limited
+    ∙ ap (λ x. shown told (said_call_at D.origin before) x puts) called)

@@ -14,7 +14,7 @@ returns-in-Wants c =
     let notes = c.args.notes in
     ap Some (sym (
     calling-led told known s.label s.operands notes content
-    ∙ shown-wants content notes (entries told known s.label s.operands notes content) c.in-Wants.key (sym c.in-Wants.is ∙ c.in_ok-key.ensures.call)))
+    ∙ shown-wants told content notes (entries told known s.label s.operands notes content) c.in-Wants.key (sym c.in-Wants.is ∙ c.in_ok-key.ensures.call)))
 
 pub returns-in-Made : goal.returns-in-Made
 returns-in-Made c =
@@ -23,14 +23,14 @@ returns-in-Made c =
     let s = c.args.statement.now in
     let content = content_of c.args.definition.definition.value in
     let notes = c.args.notes in
-    IfOk-weaker c.entered.result _ _
+    IfOk-weaker c.labelling.result _ _
     (λ p is.
     is known
     ∙ ap Some (sym (
     calling-led told known s.label s.operands notes content
-    ∙ shown-made content notes (entries told known s.label s.operands notes content) c.in-Made.values c.in-Made.more
+    ∙ shown-made told content notes (entries told known s.label s.operands notes content) c.in-Made.values c.in-Made.more
     (sym c.in-Made.is ∙ c.in_ok-key.ensures.call))))
-    c.entered.ensures
+    c.labelling.ensures
 
 pub returns-in-Unreadable : goal.returns-in-Unreadable
 returns-in-Unreadable c =
@@ -44,6 +44,6 @@ returns-in-Unreadable c =
     is known
     ∙ ap Some (sym (
     calling-led told known s.label s.operands notes content
-    ∙ shown-unreadable content notes (entries told known s.label s.operands notes content) c.in-Unreadable.more
+    ∙ shown-unreadable told content notes (entries told known s.label s.operands notes content) c.in-Unreadable.more
     (sym c.in-Unreadable.is ∙ c.in_ok-key.ensures.call))))
     c.not_entered.ensures

@@ -1,4 +1,4 @@
-use Rattle.std.proofs.Common.{◌≡◌, Some, None, slice_get}
+use Rattle.std.proofs.Common.{◌≡◌, ◌∙◌, Some, None, slice_get}
 use Rattle.expansion_step.specs.Meaning.{meaning}
 use Rattle.expansion_step.proofs.Steps.{outermost-some, outermost-none}
 use Rattle.expansion_step.proofs.expander.Expander.outermost.Goals as goal
@@ -9,7 +9,7 @@ returns-in-Some g c =
     let x = c.args.stack.now in
     let at : slice_get x.below.items 0 ≡ Some c.in-Some.level.now = let a = c.in-Some.ensures.value in let b = c.as_slice.ensures.value in
     cc in
-    outermost-some m x x.below.items c.in-Some.level.now at
+    c.saturating_sub.ensures ∙ outermost-some m x x.below.items c.in-Some.level.now at
 
 pub returns-in-None : goal.returns-in-None
 returns-in-None g c =

@@ -8,5 +8,5 @@ use Rattle.program_world.proofs.world.ProgramWorldWorld.bump.Goals as goal
 pub returns : goal.returns
 returns g c =
     let now = c.args.self.now in
-    let with : Round → ProgramState = λ r. record { put = held_by now.puts; calls = r; depth = round now.depth; statement = now.statement; parm = now.parm; members = g.P.Present.members now.members } in
+    let with : Round → ProgramState = λ r. record { put = held_by now.puts; calls = r; depth = round now.depth; statement = now.statement; text = now.sources.text; parm = now.parm; members = g.P.Present.members now.sources.present } in
     ap with (round_more now.calls c.args.calls)

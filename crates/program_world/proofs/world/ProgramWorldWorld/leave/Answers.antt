@@ -8,5 +8,5 @@ use Rattle.program_world.proofs.world.ProgramWorldWorld.leave.Goals as goal
 pub returns : goal.returns
 returns g c =
     let now = c.args.self.now in
-    let with : Round → ProgramState = λ r. record { put = held_by now.puts; calls = round now.calls; depth = r; statement = now.statement; parm = now.parm; members = g.P.Present.members now.members } in
+    let with : Round → ProgramState = λ r. record { put = held_by now.puts; calls = round now.calls; depth = r; statement = now.statement; text = now.sources.text; parm = now.parm; members = g.P.Present.members now.sources.present } in
     ap with (round_more now.depth 4294967295)

@@ -10,5 +10,5 @@ pub returns-clause-err : goal.returns-clause-err
 returns-clause-err g c =
     let now = c.args.self.now in
     let with : (Tree → Option Tree) → ProgramState =
-    λ puts. record { put = puts; calls = round now.calls; depth = round now.depth; statement = now.statement; parm = now.parm; members = g.P.Present.members now.members } in
+    λ puts. record { put = puts; calls = round now.calls; depth = round now.depth; statement = now.statement; text = now.sources.text; parm = now.parm; members = g.P.Present.members now.sources.present } in
     IfErr-weaker c.put.result _ _ (λ _ same. ap with same) c.put.ensures.err
