@@ -1,0 +1,4 @@
+pub mod SearchLemmas
+pub mod LeastLemmas
+pub mod BreakLemmas
+pub mod FrameLemmas

@@ -1,0 +1,4 @@
+pub mod Stops
+pub mod Walks
+pub mod Seen
+pub mod Laws
