@@ -1,24 +1,22 @@
 -- The frames of the places on the way to a point are its stack, and each of them belongs to a call; a part of its variables.
-use Rattle.std.proofs.Common.{◌≡◌, ◌⊎◌, inl, inr, ℕ, zero, suc, ◌+◌, ◌-◌, ◌<◌, ◌≤◌, Bool, true, false, if◌then◌else◌, nat_le, Option, Some, None, List, [], ◌∷◌, ◌++◌, length, map, take, drop, reverse, append_assoc, append-nil, refl, sym, ap, subst, ◌∙◌, arith}
-use Rattle.std.specs.Prelude.{slice_get, unwrap_or, filter}
+use Rattle.std.proofs.Common.{◌≡◌, ℕ, zero, suc, ◌+◌, ◌-◌, ◌<◌, ◌≤◌, Bool, true, false, if◌then◌else◌, nat_le, Option, Some, None, List, [], ◌∷◌, ◌++◌, length, map, take, drop, reverse, append_assoc, append-nil, refl, sym, ap, subst, ◌∙◌, arith}
+use Rattle.std.specs.Prelude.{slice_get, filter}
 use Rattle.std.specs.Bool.{beq}
 use Rattle.std.specs.List.{flat_map}
 use Rattle.std.specs.Option.{option_map, option_map_or}
 use Rattle.std.proofs.lemmas.Bool.{leb-false}
 use Rattle.std.proofs.lemmas.List.{length-append, map-append, reverse-append, take_all}
-use Rattle.std.proofs.lemmas.Option.{none-some, same_Some, slice_get-map}
-use Rattle.hl_base.specs.declared.place.Frame.{Frame}
+use Rattle.std.proofs.lemmas.Option.{none-some, slice_get-map}
 use Rattle.trace_values.specs.CallFrames.{frames_of}
 use Rattle.trace_values.specs.declared.item.TraceItem.{TraceItem}
 use Rattle.trace_values.specs.declared.variable.Variable.{Variable}
 use Rattle.trace_arena.specs.Nodes.{Node, node_at}
-use Rattle.trace_arena.specs.Points.{Point, points}
+use Rattle.trace_arena.specs.Points.{points}
 use Rattle.trace_cursor.specs.declared.descent.ItemPlace.{ItemPlace}
 use Rattle.trace_cursor.specs.Stacks.{frames_in, stack_of}
 use Rattle.trace_cursor.specs.Pasts.{Past, pasts, traced, plain, past_at, IsPath}
 use Rattle.trace_cursor.proofs.PathLemmas.{traced_at}
 use Rattle.trace_cursor.proofs.TracedLemmas.{points_plain}
-use Rattle.trace_variables.specs.declared.call.Call.{Call}
 use Rattle.trace_variables.specs.Calls.{call_there, call_within, call_of}
 use Rattle.trace_variables.specs.Calls as calls
 use Rattle.trace_variables.specs.Shown.{HasNoFrame}

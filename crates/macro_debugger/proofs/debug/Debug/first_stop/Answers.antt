@@ -1,8 +1,7 @@
-use Rattle.std.proofs.Common.{◌≡◌, ℕ, ◌<◌, length, Some, sym, ap, ◌∙◌, arith}
+use Rattle.std.proofs.Common.{◌≡◌, ◌<◌, length, Some, sym, ap, ◌∙◌, arith}
 use Rattle.std.specs.Prelude.{slice_get}
-use Rattle.trace_values.specs.declared.item.TraceItem.{TraceItem}
 use Rattle.trace_arena.specs.declared.node.NodeId.{NodeId}
-use Rattle.trace_arena.specs.Points.{Point, points}
+use Rattle.trace_arena.specs.Points.{points}
 use Rattle.trace_cursor.proofs.PathLemmas.{get_some}
 use Rattle.trace_variables.proofs.ValueLemmas.{step_index}
 use Rattle.macro_debugger.specs.Stops.{reason_at}

@@ -1,4 +1,4 @@
-use Rattle.std.proofs.Common.{Option, Some, ℕ, sym, ap, subst}
+use Rattle.std.proofs.Common.{Option, ℕ, sym, ap, subst}
 use Rattle.std.specs.Prelude.{slice_get}
 use Rattle.std.specs.Option.{option_map}
 use Rattle.std.proofs.lemmas.Bool.{some_since}
