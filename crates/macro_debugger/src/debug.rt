@@ -157,6 +157,7 @@ impl Debug {
         requires trace { HasTrace arena.now.nodes self.old }
         ensures stop { result ≡ next_stop self.old (trace_of arena.now.nodes self.old) rule }
         ensures place { self.new ≡ stepped self.old result }
+        ensures trace { HasTrace arena.now.nodes self.new }
     {
         let from = self.depth(arena);
         let first = self.first_later();
