@@ -1,0 +1,21 @@
+//! What is said, in words.
+use hl_base::{Frames, OutOfMemory};
+use note_rows::{Row, note};
+use std::alloc::Global;
+
+/// Adds the code of a row.
+fn push_row(alloc: Global, row: &Row, words: &mut String) -> Result<(), OutOfMemory> {
+    let code = note(alloc, row, Frames::new(alloc))?.code;
+    let word = format!(in alloc; " {code}")?;
+    words.push_str(word.as_str())?;
+    Ok(())
+}
+
+/// The code of each row behind a semicolon.
+pub fn push_rows(alloc: Global, rows: &[Row], words: &mut String) -> Result<(), OutOfMemory> {
+    words.push_str(";")?;
+    for row in rows {
+        push_row(alloc, row, words)?;
+    }
+    Ok(())
+}
