@@ -15,7 +15,7 @@ program_of() {
         frames | pieces | written_frames) echo text_cases ;;
         statements | fields | places) echo text_cases ;;
         changes | columns | positions | store) echo text_cases ;;
-        instructions | operation_names) echo text_cases ;;
+        instructions | operation_names | operand_counts | operand_values) echo text_cases ;;
         arithmetic_trees | ordinary_trees | character_trees | logical_trees) echo expression_cases ;;
         numbers | truths | texts | note_texts) echo expression_cases ;;
         attributes | defining_operations) echo attribute_cases ;;

@@ -1,7 +1,7 @@
 #!/usr/bin/env python3
 """Makes what is written of the machine instructions from instructions.tsv beside it: the rows of the crate instruction_table
-(src/rows.rt), the page docs/INSTRUCTIONS.md and the table of cases tests/cases/instructions.txt. With --check it writes
-nothing, and fails if one of them differs from what it would write.
+(src/rows.rt), the page docs/INSTRUCTIONS.md and the tables of cases tests/cases/instructions.txt and
+tests/cases/operand_counts.txt. With --check it writes nothing, and fails if one of them differs from what it would write.
 
 The rows stand in the order of a perfect hash. The mnemonic of a row, eight characters with blanks behind, is a number of 64
 bits; with R rows and S shifts its row is number (n mod R + shift[n mod S]) mod R. That each row stands where this says is
@@ -277,12 +277,26 @@ def cases(rows):
     return "\n".join(head + lines + [""])
 
 
+def counts(rows):
+    """The table of cases on numbers of operands."""
+    head = [
+        "# The numbers of operands that each machine instruction may have, of those from 0 to 7. tools/instructions/make.py wrote",
+        "# this table from tools/instructions/instructions.tsv.",
+    ]
+    lines = []
+    for mnemonic, _, operands in sorted(rows):
+        least = sum(not kind.startswith("[") for kind in operands)
+        lines.append(f"{mnemonic} => {' '.join(str(count) for count in range(least, len(operands) + 1))}")
+    return "\n".join(head + lines + [""])
+
+
 def main():
     rows = read_table()
     wanted = {
         "crates/instruction_table/src/rows.rt": source(rows),
         "docs/INSTRUCTIONS.md": page(rows),
         "tests/cases/instructions.txt": cases(rows),
+        "tests/cases/operand_counts.txt": counts(rows),
     }
     status = 0
     for name, text in wanted.items():

@@ -1,6 +1,6 @@
-//! Compares tables of cases with what `rpc_framing`, `hlasm_statements`, `document_store` and `instruction_table` answer:
-//! `text_cases TABLE` reads the cases of one table from standard input, prints each whose answer differs, and at the end
-//! `N passed, M failed`.
+//! Compares tables of cases with what `rpc_framing`, `hlasm_statements`, `document_store`, `instruction_table` and
+//! `machine_check` answer: `text_cases TABLE` reads the cases of one table from standard input, prints each whose answer
+//! differs, and at the end `N passed, M failed`.
 //!
 //! tests/cases/README.md says what each table reads. What the crates promise stands on their own functions; here is only
 //! how an answer is written down.
@@ -8,6 +8,7 @@
 
 mod changes;
 mod frames;
+mod machine_operands;
 mod operations;
 mod places;
 mod scripts;

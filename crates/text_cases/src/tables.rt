@@ -1,5 +1,5 @@
 //! The tables by their words.
-use crate::{changes, frames, operations, places, scripts, statements};
+use crate::{changes, frames, machine_operands, operations, places, scripts, statements};
 use case_lines::CaseTable;
 use hl_base::OutOfMemory;
 use std::alloc::Global;
@@ -39,6 +39,12 @@ pub enum Table {
 
     /// What a name means as an operation.
     Operations,
+
+    /// How many operands a machine instruction may have.
+    OperandCounts,
+
+    /// What the operands of machine instructions may be.
+    OperandValues,
 }
 
 /// What is answered where the fields are not those of the table.
@@ -53,6 +59,7 @@ fn answer_of_text(alloc: Global, table: Table, text: &str) -> Result<String, Out
         Table::Statements => statements::shapes(alloc, text),
         Table::Fields => statements::fields(alloc, text),
         Table::Operations => operations::meaning(alloc, text),
+        Table::OperandCounts => machine_operands::counts(alloc, text),
         _ => other_fields(alloc),
     }
 }
@@ -68,6 +75,16 @@ fn answer_of_place(
         Table::Places => statements::place(alloc, text, place),
         Table::Columns => places::column_of(alloc, text, place),
         Table::Positions => places::position_of(alloc, text, place),
+        _ => other_fields(alloc),
+    }
+}
+
+/// What is answered to the value of an operand.
+fn answer_of_value(alloc: Global, fields: &[String]) -> Result<String, OutOfMemory> {
+    match fields {
+        [word, place, value] => {
+            machine_operands::value(alloc, word.as_str(), place.as_str(), value.as_str())
+        }
         _ => other_fields(alloc),
     }
 }
@@ -97,12 +114,15 @@ impl CaseTable for Table {
             "positions" => Some(Table::Positions),
             "store" => Some(Table::Store),
             "instructions" | "operation_names" => Some(Table::Operations),
+            "operand_counts" => Some(Table::OperandCounts),
+            "operand_values" => Some(Table::OperandValues),
             _ => None,
         }
     }
 
     fn answer(&self, alloc: Global, fields: &[String]) -> Result<String, OutOfMemory> {
         match (*self, fields) {
+            (Table::OperandValues, fields) => answer_of_value(alloc, fields),
             (table @ (Table::Pieces | Table::Written | Table::Changes | Table::Store), fields) =>
                 answer_of_list(alloc, table, fields),
             (table, [text]) => answer_of_text(alloc, table, text.as_str()),
