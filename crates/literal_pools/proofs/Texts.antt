@@ -1,5 +1,5 @@
 -- Literals by their texts and lengths.
-use Rattle.std.proofs.Common.{◌≡◌, ℕ, ◌+◌, ◌≤◌, Bool, true, false, cond, not, ◌||◌, List, [], ◌∷◌, ◌++◌, length, map, Some, None, refl, sym, ap, ◌∙◌, position, string_bytes, nat_lt, arith}
+use Rattle.std.proofs.Common.{◌≡◌, ℕ, suc, ◌+◌, ◌≤◌, Bool, true, false, cond, not, ◌||◌, List, [], ◌∷◌, ◌++◌, length, map, Some, None, refl, sym, ap, ◌∙◌, position, string_bytes, nat_lt, arith}
 use Rattle.std.specs.List.{prefix_len, list_any, position_or_len}
 use Rattle.std.specs.Str.{bytes_eq}
 use Rattle.std.specs.String.{string_eq}
@@ -21,6 +21,12 @@ lengths_joined [] [] alike = refl
 lengths_joined [] (n ∷ ns) alike = absurd (omega arith)
 lengths_joined (text ∷ texts) [] alike = absurd (omega arith)
 lengths_joined (text ∷ texts) (n ∷ ns) alike = ap (λ rest. n ∷ rest) (lengths_joined texts ns (omega arith))
+
+pub length_joined : (texts : List (List ℕ)) (ns : List ℕ) → length texts ≡ length ns → length (joined texts ns) ≡ length ns
+length_joined [] [] alike = refl
+length_joined [] (n ∷ ns) alike = absurd (omega arith)
+length_joined (text ∷ texts) [] alike = absurd (omega arith)
+length_joined (text ∷ texts) (n ∷ ns) alike = ap suc (length_joined texts ns (omega arith))
 
 pub joined-append : (texts : List (List ℕ)) (ns : List ℕ) (text : List ℕ) (n : ℕ) → length texts ≡ length ns →
     joined (texts ++ text ∷ []) (ns ++ n ∷ []) ≡ joined texts ns ++ record { text = text; length = n } ∷ []

@@ -1,5 +1,5 @@
 //! A pool of literals.
-ghost use Rattle.std.specs.Prelude.{◌≡◌, ◌<◌, ◌++◌, ◌∷◌, [], None, length, sum, IfOk, OnOk, OnErr, vec_len, vec_capacity};
+ghost use Rattle.std.specs.Prelude.{◌≡◌, ◌==◌, ◌<◌, ◌++◌, ◌∷◌, [], None, length, sum, IfOk, OnOk, OnErr, vec_len, vec_capacity};
 ghost use Rattle.literal_pools.specs.Pools as pools;
 ghost use Rattle.literal_pools.specs.Pools.{place_of, with_literal};
 
@@ -67,6 +67,13 @@ impl Pool {
         push_within(&mut self.lengths, length);
         self.size = size;
         Ok(())
+    }
+
+    /// Whether it has no literal.
+    pub fn is_empty(&self) -> bool
+        ensures { result ≡ (length (literals_of self.now) == 0) }
+    {
+        self.lengths.is_empty()
     }
 
     /// How many bytes the pool takes.
