@@ -1,0 +1,121 @@
+//! Constants and literals of a statement.
+ghost use Rattle.std.specs.Prelude.{◌≡◌, [], ◌∷◌, ◌++◌, map, IfOk, OnOk};
+ghost use Rattle.std.specs.Str.{chars};
+ghost use Rattle.std.specs.List.{filter_map};
+ghost use Rattle.std.specs.Option.{option_map};
+ghost use Rattle.constant_operands.specs.Operands.{operand};
+ghost use Rattle.constant_operands.specs.Views.{operand_of};
+ghost use Rattle.layout_statements.specs.Lists as spec;
+ghost use Rattle.layout_statements.specs.Views.{read_literal_of};
+
+use constant_operands::{ConstantOperand, ConstantUse};
+use hl_base::{OutOfMemory, Text};
+use literal_operands::literal_operand;
+use std::alloc::Global;
+
+/// A literal in an operand: its text behind the equals sign, and what that is as a constant.
+#[derive(Drop)]
+pub struct ReadLiteral {
+    pub text: Text,
+    pub constant: ConstantOperand,
+}
+
+/// Adds an operand behind others.
+fn push_constant(
+    constants: &mut Vec<ConstantOperand>,
+    constant: ConstantOperand,
+) -> Result<(), OutOfMemory>
+    ensures { OnOk result (constants.new.items ≡ constants.old.items ++ constant ∷ []) }
+{
+    constants.push(constant)?;
+    Ok(())
+}
+
+/// Reads each operand as one of DC or DS.
+#[tactic(auto, using(crate::proofs::Maps::mapped_more))]
+fn read_each(
+    alloc: Global,
+    used: ConstantUse,
+    operands: &[Text],
+) -> Result<Vec<ConstantOperand>, OutOfMemory>
+    ensures { IfOk result (λ constants. map operand_of constants.items ≡ map (operand used) operands.now) }
+{
+    let mut constants = Vec::new(alloc);
+    for text in operands {
+        push_constant(
+            &mut constants,
+            ConstantOperand::read(alloc, used, text.as_str())?,
+        )?;
+    }
+    Ok(constants)
+}
+
+/// Reads an empty operand.
+fn read_empty(alloc: Global, used: ConstantUse) -> Result<ConstantOperand, OutOfMemory>
+    ensures { IfOk result (λ constant. operand_of constant ≡ operand used []) }
+{
+    ConstantOperand::read(alloc, used, "")
+}
+
+/// The operands where there is none.
+fn read_missing(alloc: Global, used: ConstantUse) -> Result<Vec<ConstantOperand>, OutOfMemory>
+    ensures { IfOk result (λ constants. map operand_of constants.items ≡ operand used [] ∷ []) }
+{
+    let mut constants = Vec::new(alloc);
+    push_constant(&mut constants, read_empty(alloc, used)?)?;
+    Ok(constants)
+}
+
+/// Reads each operand as one of DC or DS; where there is no operand an empty one is read.
+pub(crate) fn read_constants(
+    alloc: Global,
+    used: ConstantUse,
+    operands: &[Text],
+) -> Result<Vec<ConstantOperand>, OutOfMemory>
+    ensures { IfOk result (λ constants. map operand_of constants.items ≡ spec.constants used operands.now) }
+{
+    if operands.is_empty() {
+        return read_missing(alloc, used);
+    }
+    read_each(alloc, used, operands)
+}
+
+/// Reads the literal in an operand, if there is one.
+fn read_literal(alloc: Global, operand: &str) -> Result<Option<ReadLiteral>, OutOfMemory>
+    ensures { IfOk result (λ literal. option_map read_literal_of literal ≡ spec.literal (chars operand.now)) }
+{
+    match literal_operand(alloc, operand)? {
+        Some(found) => Ok(Some(ReadLiteral {
+            text: Text::of(alloc, found.text)?,
+            constant: found.constant,
+        })),
+        None => Ok(None),
+    }
+}
+
+/// Adds a literal behind others, if there is one.
+fn push_literal(
+    literals: &mut Vec<ReadLiteral>,
+    literal: Option<ReadLiteral>,
+) -> Result<(), OutOfMemory>
+    ensures { OnOk result (map read_literal_of literals.new.items ≡ map read_literal_of literals.old.items ++ spec.listed (option_map read_literal_of literal)) }
+{
+    if let Some(literal) = literal {
+        literals.push(literal)?;
+    }
+    Ok(())
+}
+
+/// Reads the literals in some operands, in order.
+pub(crate) fn read_literals(
+    alloc: Global,
+    operands: &[Text],
+) -> Result<Vec<ReadLiteral>, OutOfMemory>
+    ensures { IfOk result (λ literals. map read_literal_of literals.items ≡ spec.literals operands.now) }
+{
+    let mut literals = Vec::new(alloc);
+    for operand in operands {
+        push_literal(&mut literals, read_literal(alloc, operand.as_str())?)?;
+    }
+    Ok(literals)
+}
