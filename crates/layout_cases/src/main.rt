@@ -6,7 +6,9 @@
 #![tactic(auto)]
 
 mod constants;
+mod literals;
 mod rows;
+mod statements;
 mod tables;
 
 use case_lines::compare_tables;

@@ -1,5 +1,5 @@
 //! The tables by their words.
-use crate::constants;
+use crate::{constants, literals, statements};
 use case_lines::CaseTable;
 use hl_base::OutOfMemory;
 use std::alloc::Global;
@@ -9,12 +9,18 @@ use std::alloc::Global;
 pub enum Table {
     /// What an operand of DC or DS, or a literal, comes to.
     Constants,
+    /// The literal in an operand of a machine instruction.
+    Literals,
+    /// What layout reads of a generated statement.
+    LayoutStatements,
 }
 
 impl CaseTable for Table {
     fn named(word: &str) -> Option<Table> {
         match word {
             "constants" => Some(Table::Constants),
+            "literals" => Some(Table::Literals),
+            "layout_statements" => Some(Table::LayoutStatements),
             _ => None,
         }
     }
@@ -31,6 +37,10 @@ impl CaseTable for Table {
                 factor.as_str(),
                 length.as_str(),
             ),
+            (Table::Literals, [operand]) => literals::literal(alloc, operand.as_str()),
+            (Table::LayoutStatements, [entry, op, operands]) => {
+                statements::statement(alloc, entry.as_str(), op.as_str(), operands.as_str())
+            }
             _ => Ok(String::from_str(alloc, "of other fields than the table's")?),
         }
     }
