@@ -5,7 +5,7 @@ use hl_base::OutOfMemory;
 use std::alloc::{AllocError, Global};
 
 /// What an operand is for.
-fn used(word: &str) -> ConstantUse {
+pub fn used(word: &str) -> ConstantUse {
     match word {
         "DC" => ConstantUse::Dc,
         "DS" => ConstantUse::Ds,

@@ -6,9 +6,13 @@
 #![tactic(auto)]
 
 mod constants;
+mod definitions;
+mod expressions;
 mod literals;
+mod numbers;
 mod rows;
 mod statements;
+mod symbols;
 mod tables;
 
 use case_lines::compare_tables;

@@ -1,5 +1,5 @@
 //! The tables by their words.
-use crate::{constants, literals, statements};
+use crate::{constants, definitions, expressions, literals, numbers, statements};
 use case_lines::CaseTable;
 use hl_base::OutOfMemory;
 use std::alloc::Global;
@@ -9,6 +9,12 @@ use std::alloc::Global;
 pub enum Table {
     /// What an operand of DC or DS, or a literal, comes to.
     Constants,
+    /// What the numbers of an operand come to, and what is said of its expressions.
+    ConstantExpressions,
+    /// What is said of expressions.
+    ExpressionNotes,
+    /// Which symbols there are behind definitions, and what is said of them.
+    SymbolDefinitions,
     /// The literal in an operand of a machine instruction.
     Literals,
     /// What layout reads of a generated statement.
@@ -19,6 +25,9 @@ impl CaseTable for Table {
     fn named(word: &str) -> Option<Table> {
         match word {
             "constants" => Some(Table::Constants),
+            "constant_expressions" => Some(Table::ConstantExpressions),
+            "expression_notes" => Some(Table::ExpressionNotes),
+            "symbol_definitions" => Some(Table::SymbolDefinitions),
             "literals" => Some(Table::Literals),
             "layout_statements" => Some(Table::LayoutStatements),
             _ => None,
@@ -37,6 +46,18 @@ impl CaseTable for Table {
                 factor.as_str(),
                 length.as_str(),
             ),
+            (Table::ConstantExpressions, [symbols, used, operand]) => {
+                numbers::told_of(alloc, symbols.as_str(), used.as_str(), operand.as_str())
+            }
+            (Table::ExpressionNotes, [symbols, wanted, expressions]) => expressions::said(
+                alloc,
+                symbols.as_str(),
+                wanted.as_str(),
+                expressions.as_str(),
+            ),
+            (Table::SymbolDefinitions, [definitions]) => {
+                definitions::after(alloc, definitions.as_str())
+            }
             (Table::Literals, [operand]) => literals::literal(alloc, operand.as_str()),
             (Table::LayoutStatements, [entry, op, operands]) => {
                 statements::statement(alloc, entry.as_str(), op.as_str(), operands.as_str())
