@@ -9,7 +9,7 @@ use Rattle.trace_arena.specs.declared.node.Link.{Link}
 use Rattle.trace_arena.specs.Nodes.{Node, node_at, leads, outside, IsLive, IsLinked, IsReached, IsReached.from_outside, IsReached.by_link, children}
 use Rattle.trace_arena.specs.Points.{Point, own, within, points}
 use Rattle.trace_arena.specs.Whole.{IsWhole}
-use Rattle.trace_arena.specs.Changes.{Keeps, Stays, Begins, Appends, Links, Recounts, Releases, last_item, less_one}
+use Rattle.trace_arena.specs.Changes.{Keeps, Begins, Appends, Links, Recounts, Releases, last_item, less_one}
 use Rattle.trace_cursor.specs.declared.cursor.Cursor.{Cursor}
 use Rattle.trace_cursor.specs.Stacks.{only, IsBelow}
 use Rattle.trace_cursor.specs.Places.{called, StandsAt}
@@ -53,6 +53,7 @@ stands_on : (old new : List (Node TraceItem)) (c : Cursor) (points_more : List (
 stands_on old new c points_more items_more points_are items_are below live stands = record {
   calls = stands.calls;
   outer = stands.outer;
+  level = stands.level;
   below = below;
   live = live;
   inside = stands.inside;

@@ -5,4 +5,5 @@ pub mod CursorLemmas
 pub mod StepLemmas
 pub mod PathLemmas
 pub mod TracedLemmas
+pub mod WayLemmas
 pub mod LawLemmas

@@ -1,17 +1,17 @@
 -- The same search over nodes whose items know those before them.
-use Rattle.std.proofs.Common.{◌≡◌, ℕ, zero, suc, ◌+◌, ◌-◌, ◌<◌, ◌≤◌, List, [], ◌∷◌, ◌++◌, length, map, Option, Some, None, refl, sym, ap, subst, ◌∙◌, arith}
+use Rattle.std.proofs.Common.{◌≡◌, ℕ, zero, suc, ◌+◌, ◌-◌, ◌<◌, ◌≤◌, List, [], ◌∷◌, ◌++◌, length, map, Some, refl, sym, ap, subst, ◌∙◌, arith}
 use Rattle.std.specs.Prelude.{slice_get}
 use Rattle.std.specs.Option.{option_map}
 use Rattle.std.proofs.Math.Path.{fun_ext}
 use Rattle.std.proofs.lemmas.List.{map-append, append-nil}
 use Rattle.trace_arena.specs.declared.node.NodeId.{NodeId}
 use Rattle.trace_arena.specs.Nodes.{Node, node_at, leads, parents, IsLive}
-use Rattle.trace_arena.specs.Points.{Point, within, last_before, weave, points}
+use Rattle.trace_arena.specs.Points.{within, last_before, weave, points}
 use Rattle.trace_arena.specs.Whole.{IsWhole, IsPlaced}
 use Rattle.trace_arena.proofs.PointLemmas.{points_woven, points_length}
 use Rattle.trace_cursor.specs.declared.descent.ItemPlace.{ItemPlace}
-use Rattle.trace_cursor.specs.Places.{totals, called, Descends, IsChild, IsOwn}
-use Rattle.trace_cursor.specs.Pasts.{Past, pasts, with_pasts, traced, past_at, call_places, IsPath, Follows}
+use Rattle.trace_cursor.specs.Places.{totals, called, IsChild, IsOwn}
+use Rattle.trace_cursor.specs.Pasts.{pasts, with_pasts, traced, past_at, call_places, IsPath, Follows}
 use Rattle.trace_cursor.proofs.SearchLemmas.{within_called, descend_start, descend_step, child_enters, own_owns}
 use Rattle.trace_cursor.proofs.StackLemmas.{last_is}
 
@@ -20,7 +20,7 @@ traced_at [] x = refl
 traced_at (n ∷ ns) zero = refl
 traced_at (n ∷ ns) (suc x) = traced_at ns x
 
-pasts_length : {I : Type 0} (before items : List I) → length (pasts before items) ≡ length items
+pub pasts_length : {I : Type 0} (before items : List I) → length (pasts before items) ≡ length items
 pasts_length before [] = refl
 pasts_length before (i ∷ is) = ap suc (pasts_length (before ++ i ∷ []) is)
 

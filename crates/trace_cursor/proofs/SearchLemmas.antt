@@ -10,7 +10,7 @@ use Rattle.trace_arena.specs.Points.{Point, within, last_before, weave, points}
 use Rattle.trace_arena.specs.Whole.{IsWhole}
 use Rattle.trace_arena.proofs.LinkLemmas.{linked_live}
 use Rattle.trace_cursor.specs.Places.{link_at, totals, gap_start, gap_stop, gap_before, called, Counts, Descends, Enters, Owns, IsChild, IsOwn}
-use Rattle.trace_cursor.proofs.WeaveLemmas.{child_run, gap_run, gap_is, gap_none, gap_some, link_leads, befores_rise, at_within}
+use Rattle.trace_cursor.proofs.WeaveLemmas.{child_run, gap_run, gap_is, gap_none, gap_some, link_leads, befores_rise, at_before, at_within}
 
 pub within_called : {I : Type 0} (calls : List I) (o : Option I) →
     option_map (within calls) (option_map (called []) o) ≡ option_map (called (calls ++ [])) o
@@ -57,6 +57,11 @@ module _ {I : Type 0} (nodes : List (Node I)) (whole : IsWhole nodes)
         };
         behind = refl;
         within_items = at_within (points nodes) (totals nodes) counted items 0 0 (node_at nodes x).total links k (whole.placed x) lt;
+        past_items = omega (
+          arith,
+          low,
+          at_before (points nodes) (totals nodes) counted items 0 0 (node_at nodes x).total links k (whole.placed x) (omega arith) lt,
+        );
         linked = link_leads (points nodes) (totals nodes) counted items links k lt;
         lower = whole.below x l.child.0 (link_leads (points nodes) (totals nodes) counted items links k lt);
       }

@@ -9,10 +9,11 @@ use Rattle.trace_cursor.specs.declared.cursor.Cursor.{Cursor}
 use Rattle.trace_cursor.specs.Places.{called, StandsAt}
 
 pub step_on : (nodes : List (Node TraceItem)) (c : Cursor) → StandsAt nodes c → c.at + 1 < c.stop →
-    StandsAt nodes (record { root = c.root; index = c.index + 1; node = c.node; at = c.at + 1; stop = c.stop; outer = c.outer })
+    StandsAt nodes (record { root = c.root; index = c.index + 1; node = c.node; at = c.at + 1; stop = c.stop; outer = c.outer; calls = c.calls })
 step_on nodes c stands more = record {
   calls = stands.calls;
   outer = stands.outer;
+  level = stands.level;
   below = stands.below;
   live = stands.live;
   inside = more;

@@ -4,10 +4,10 @@ use Rattle.std.proofs.lemmas.List.{map-append, take-map, drop-map}
 use Rattle.trace_arena.specs.declared.node.Link.{Link}
 use Rattle.trace_arena.specs.Nodes.{Node, node_at}
 use Rattle.trace_arena.specs.Points.{Point, own, within, last_before, weave, points_to, points}
-use Rattle.trace_cursor.specs.Pasts.{Past, pasts, with_pasts, traced, plain}
+use Rattle.trace_cursor.specs.Pasts.{Past, pasts, traced, plain}
 use Rattle.trace_cursor.proofs.PathLemmas.{traced_at}
 
-items_are : {I : Type 0} (before items : List I) → map (λ (p : Past I). p.item) (pasts before items) ≡ items
+pub items_are : {I : Type 0} (before items : List I) → map (λ (p : Past I). p.item) (pasts before items) ≡ items
 items_are before [] = refl
 items_are before (i ∷ is) = ap (λ js. i ∷ js) (items_are (before ++ i ∷ []) is)
 

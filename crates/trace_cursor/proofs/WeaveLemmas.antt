@@ -113,6 +113,14 @@ module _ {I : Type 0} (f : ℕ → List (Point I)) (total : ℕ → ℕ) (long :
       let later = befores_rise l.at (l.before + total l.child.0) whole ls k placed.2 (omega arith) in
       (omega (arith, placed.1, later.0), later.1)
 
+  -- the items before a link are points before it
+  pub at_before : (from before whole : ℕ) (links : List Link) (k : ℕ) → IsPlaced total from before (length items) whole links →
+      from ≤ before → k < length links → (link_at links k).at ≤ (link_at links k).before
+  at_before from before whole [] k placed le lt = absurd (omega arith)
+  at_before from before whole (l ∷ ls) zero placed le lt = omega (arith, placed.0, placed.1, le)
+  at_before from before whole (l ∷ ls) (suc k) placed le lt =
+      at_before l.at (l.before + total l.child.0) whole ls k placed.2 (omega (arith, placed.0, placed.1, le)) (omega arith)
+
   -- no link stands past the end of the items
   pub at_within : (from before whole : ℕ) (links : List Link) (k : ℕ) → IsPlaced total from before (length items) whole links →
       k < length links → (link_at links k).at ≤ length items

@@ -1,7 +1,7 @@
 -- The points of a node with what each of their calls had done before (this project).
-use Rattle.std.specs.Prelude.{◌≡◌, ℕ, zero, suc, List, [], ◌∷◌, ◌++◌, Option, Some, map, slice_get}
+use Rattle.std.specs.Prelude.{◌≡◌, ℕ, zero, suc, ◌<◌, length, List, [], ◌∷◌, ◌++◌, Option, Some, map, slice_get}
 use Rattle.trace_arena.specs.declared.node.NodeId.{NodeId}
-use Rattle.trace_arena.specs.Nodes.{Node, node_at}
+use Rattle.trace_arena.specs.Nodes.{Node, node_at, IsLive}
 use Rattle.trace_arena.specs.Points.{Point, points}
 use Rattle.trace_cursor.specs.declared.descent.ItemPlace.{ItemPlace}
 use Rattle.trace_cursor.specs.Places.{Descends}
@@ -37,6 +37,15 @@ plain point = record { calls = map (λ p. p.item) point.calls; item = point.item
 -- the item of a place, with those before it
 abbrev pub past_at : {I : Type 0} → List (Node I) → ItemPlace → Option (Past I)
 past_at nodes place = slice_get (node_at (traced nodes) place.node.0).items place.at
+
+-- there is an item at a place
+pub record IsThere {I : Type 0} (nodes : List (Node I)) (place : ItemPlace) : Type 0 where
+  pub live : IsLive nodes place.node.0
+  pub inside : place.at < length (node_at nodes place.node.0).items
+
+-- there is an item at each of these places
+abbrev pub AreThere : {I : Type 0} → List (Node I) → List ItemPlace → Type 0
+AreThere nodes places = (k : ℕ) (place : ItemPlace) → slice_get places k ≡ Some place → IsThere nodes place
 
 -- where the item stands behind which a node is linked, if there is one
 abbrev pub call_places : NodeId → ℕ → List ItemPlace

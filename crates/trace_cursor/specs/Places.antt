@@ -47,10 +47,11 @@ abbrev pub called : {I : Type 0} → List I → I → Point I
 called calls item = record { calls = calls; item = item }
 
 -- The cursor stands at the point of its index: the item `at` of its node is that point's, and up to `stop` the items of
--- the node are those of the points that follow. They stand behind the same calls, whose frames it counts.
+-- the node are those of the points that follow. They stand behind the same calls; it counts these and their frames.
 pub record StandsAt (nodes : List (Node TraceItem)) (c : Cursor) : Type 0 where
   pub calls : List TraceItem
   pub outer : c.outer ≡ counted (length (frames_in calls))
+  pub level : c.calls ≡ length calls
   pub below : IsBelow nodes c.root.0 c.node.0
   pub live : IsLive nodes c.node.0
   pub inside : c.at < c.stop
@@ -74,14 +75,17 @@ pub record Enters {I : Type 0} (nodes : List (Node I)) (node rest child left at 
   pub descends : Descends nodes node rest child left
   pub behind : descends.calls ≡ last_before at (node_at nodes node).items
   pub within_items : at ≤ length (node_at nodes node).items
+  pub past_items : left + at ≤ rest
   pub linked : IsLinked nodes node child
   pub lower : (node_at nodes child).height < (node_at nodes node).height
 
--- so the search has come down from the root to this node, past so many frames
-pub record Comes (nodes : List (Node TraceItem)) (root index node rest outer : ℕ) : Type 0 where
+-- so the search has come down from the root to this node, past so many frames and calls, each of which is a point before
+pub record Comes (nodes : List (Node TraceItem)) (root index node rest outer calls : ℕ) : Type 0 where
   pub descends : Descends nodes root index node rest
   pub below : IsBelow nodes root node
   pub counts : outer ≡ counted (length (frames_in descends.calls))
+  pub level : calls ≡ length descends.calls
+  pub before : calls + rest ≤ index
 
 -- The point is of an item of the node itself, and up to `stop` so are those that follow.
 pub record Owns {I : Type 0} (nodes : List (Node I)) (node rest at stop : ℕ) : Type 0 where

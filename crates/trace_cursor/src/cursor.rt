@@ -1,13 +1,14 @@
 //! Cursors: where a point stands.
-ghost use Rattle.std.specs.Prelude.{◌≡◌, ◌+◌, ◌<◌, ◌≤◌, length, MatchOption, Some, slice_get};
+ghost use Rattle.std.specs.Prelude.{◌≡◌, ◌+◌, ◌<◌, ◌≤◌, List, length, MatchOption, Some, slice_get};
 ghost use Rattle.std.specs.Bool.{OnTrue, OnFalse};
 ghost use Rattle.std.specs.Option.{option_map};
-ghost use Rattle.trace_arena.specs.Nodes.{IsLive};
+ghost use Rattle.trace_values.specs.declared.item.TraceItem.{TraceItem};
+ghost use Rattle.trace_arena.specs.Nodes.{Node, IsLive};
 ghost use Rattle.trace_arena.specs.Points.{points};
 ghost use Rattle.trace_cursor.specs.Places.{StandsAt};
 ghost use Rattle.trace_cursor.specs.Stacks.{counted, depth_of};
 
-use crate::frames::{frames_before, more_frames};
+use crate::frames::{calls_before, frames_before, more_frames};
 use crate::search::{Place, place_at};
 use hl_base::Origin;
 use trace_arena::{NodeId, TraceArena, arena_is_whole};
@@ -23,6 +24,7 @@ pub struct Cursor {
     stop: usize,
     // How many frames stand round those of the item.
     outer: u32,
+    calls: u32,
 }
 
 /// The search from the root down.
@@ -37,10 +39,12 @@ fn find(arena: &TraceArena<TraceItem>, root: NodeId, index: u32) -> Cursor
     let mut node = root;
     let mut rest = index;
     let mut outer = 0;
+    let mut calls = 0;
     loop {
         match place_at(arena, node, rest) {
             Place::Inside(inner) => {
                 outer = more_frames(outer, frames_before(arena.items(node), inner.at));
+                calls += calls_before(inner.at);
                 node = inner.child;
                 rest = inner.left;
             }
@@ -52,6 +56,7 @@ fn find(arena: &TraceArena<TraceItem>, root: NodeId, index: u32) -> Cursor
                     at: run.at,
                     stop: run.stop,
                     outer,
+                    calls,
                 };
             }
         }
@@ -111,6 +116,14 @@ impl Cursor {
             ≡ Some result }
     {
         more_frames(self.outer, self.item(arena).frames.count() - 1)
+    }
+
+    /// How many calls the point is within: how many items there are behind which the nodes that it stands in are linked.
+    pub fn calls(&self) -> u32
+        ensures { (nodes : List (Node TraceItem)) → StandsAt nodes self.now →
+            option_map (λ point. length point.calls) (slice_get (points nodes self.now.root.0) self.now.index) ≡ Some result }
+    {
+        self.calls
     }
 
     /// Where the statement of the point stands.

@@ -2,7 +2,7 @@
 ghost use Rattle.std.specs.Prelude.{◌≡◌, ◌<◌, ◌++◌, length, IfOk, OnOk};
 ghost use Rattle.trace_arena.specs.Nodes.{IsLive};
 ghost use Rattle.trace_arena.specs.Points.{points};
-ghost use Rattle.trace_cursor.specs.Pasts.{call_places, IsPath};
+ghost use Rattle.trace_cursor.specs.Pasts.{call_places, AreThere, IsPath};
 
 use crate::search::{Place, place_at};
 use hl_base::OutOfMemory;
@@ -35,7 +35,8 @@ pub fn path<I: Drop>(
 ) -> Result<Vec<ItemPlace>, OutOfMemory>
     requires live { IsLive arena.now.nodes root.0 }
     requires inside { index < length (points arena.now.nodes root.0) }
-    ensures { IfOk result (λ places. IsPath arena.now.nodes root.0 index places.items) }
+    ensures path { IfOk result (λ places. IsPath arena.now.nodes root.0 index places.items) }
+    ensures there { IfOk result (λ places. AreThere arena.now.nodes places.items) }
 {
     arena_is_whole(arena);
     let mut places = Vec::new(alloc);

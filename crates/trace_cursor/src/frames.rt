@@ -1,5 +1,5 @@
 //! How many frames stand round a point.
-ghost use Rattle.std.specs.Prelude.{◌≡◌, ◌+◌, ◌≤◌, length};
+ghost use Rattle.std.specs.Prelude.{◌≡◌, ◌+◌, ◌≤◌, length, min};
 ghost use Rattle.trace_arena.specs.Points.{last_before};
 ghost use Rattle.trace_cursor.specs.Stacks.{frames_in, counted};
 
@@ -13,6 +13,13 @@ pub(crate) fn more_frames(outer: u32, frames: usize) -> u32
         Ok(frames) => outer.saturating_add(frames),
         Err(_) => u32::MAX,
     }
+}
+
+/// How many items a node is linked behind that so many items stand before: the last of them, if there is one.
+pub(crate) fn calls_before(at: usize) -> u32
+    ensures { result ≡ min at 1 }
+{
+    u32::from(at > 0)
 }
 
 /// The frames of the last of so many items, behind which a node is linked.

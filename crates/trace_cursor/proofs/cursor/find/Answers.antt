@@ -1,7 +1,7 @@
-use Rattle.std.proofs.Common.{◌≤◌, List, length, sym, ap, subst, ◌∙◌}
+use Rattle.std.proofs.Common.{◌+◌, ◌≤◌, List, length, sym, ap, subst, ◌∙◌, arith}
 use Rattle.trace_values.specs.declared.item.TraceItem.{TraceItem}
 use Rattle.trace_arena.specs.Points.{last_before}
-use Rattle.trace_cursor.specs.Stacks.{frames_in}
+use Rattle.trace_cursor.specs.Stacks.{frames_in, counted}
 use Rattle.trace_cursor.specs.Places.{Comes}
 use Rattle.trace_cursor.proofs.CursorLemmas.{comes_start, comes_step, comes_end}
 use Rattle.trace_cursor.proofs.SearchLemmas.{child_enters}
@@ -26,6 +26,13 @@ frames_before-requires c =
     (child_enters c.args.arena.now.nodes c.arena_is_whole.ensures.whole c.arena_is_whole.ensures.woven c.arena_is_whole.ensures.counted
     c.loop-inner.node.0 c.loop-inner.rest c.in-Inside.inner.child.0 c.in-Inside.inner.left c.in-Inside.inner.at c.in-Inside.ensures).within_items
 
+pub overflow_add-calls : goal.overflow_add-calls
+overflow_add-calls c =
+    let into =
+    child_enters c.args.arena.now.nodes c.arena_is_whole.ensures.whole c.arena_is_whole.ensures.woven c.arena_is_whole.ensures.counted
+    c.loop-inner.node.0 c.loop-inner.rest c.in-Inside.inner.child.0 c.in-Inside.inner.left c.in-Inside.inner.at c.in-Inside.ensures in
+    omega (arith, c.loop-inner.invariant.before, into.past_items, c.calls_before-calls.ensures, c.ranges.index)
+
 pub loop-inner-smaller : goal.loop-inner-smaller
 loop-inner-smaller c =
     (child_enters c.args.arena.now.nodes c.arena_is_whole.ensures.whole c.arena_is_whole.ensures.woven c.arena_is_whole.ensures.counted
@@ -33,14 +40,17 @@ loop-inner-smaller c =
 
 pub loop-inner-preserved : goal.loop-inner-preserved
 loop-inner-preserved c =
-    subst (Comes c.args.arena.now.nodes c.args.root.0 c.args.index c.in-Inside.inner.child.0 c.in-Inside.inner.left) (sym c.more_frames-outer.ensures)
+    subst (λ outer. Comes c.args.arena.now.nodes c.args.root.0 c.args.index c.in-Inside.inner.child.0 c.in-Inside.inner.left outer
+    (c.loop-inner.calls + c.calls_before-calls.result)) (sym c.more_frames-outer.ensures)
+    (subst (λ more. Comes c.args.arena.now.nodes c.args.root.0 c.args.index c.in-Inside.inner.child.0 c.in-Inside.inner.left
+    (counted (c.loop-inner.outer + c.frames_before.result)) (c.loop-inner.calls + more)) (sym c.calls_before-calls.ensures)
     (comes_step c.args.arena.now.nodes c.arena_is_whole.ensures.whole c.arena_is_whole.ensures.woven c.arena_is_whole.ensures.counted
-    c.args.root.0 c.args.index c.loop-inner.node.0 c.loop-inner.rest c.loop-inner.outer
+    c.args.root.0 c.args.index c.loop-inner.node.0 c.loop-inner.rest c.loop-inner.outer c.loop-inner.calls
     c.in-Inside.inner.child.0 c.in-Inside.inner.left c.in-Inside.inner.at _ c.loop-inner.invariant c.in-Inside.ensures
-    (c.frames_before.ensures ∙ ap (λ is. length (frames_in (last_before c.in-Inside.inner.at is))) c.items.ensures))
+    (c.frames_before.ensures ∙ ap (λ is. length (frames_in (last_before c.in-Inside.inner.at is))) c.items.ensures)))
 
 pub returns-in-Own-clause-stands : goal.returns-in-Own-clause-stands
 returns-in-Own-clause-stands c =
     comes_end c.args.arena.now.nodes c.arena_is_whole.ensures.whole c.arena_is_whole.ensures.woven c.arena_is_whole.ensures.counted
-    (record { root = c.args.root; index = c.args.index; node = c.loop-inner.node; at = c.in-Own.run'.at; stop = c.in-Own.run'.stop; outer = c.loop-inner.outer })
+    (record { root = c.args.root; index = c.args.index; node = c.loop-inner.node; at = c.in-Own.run'.at; stop = c.in-Own.run'.stop; outer = c.loop-inner.outer; calls = c.loop-inner.calls })
     c.loop-inner.rest c.loop-inner.invariant c.in-Own.ensures

@@ -1,6 +1,7 @@
-use Rattle.std.proofs.Common.{[], subst, sym}
+use Rattle.std.proofs.Common.{subst, sym}
 use Rattle.trace_cursor.specs.Pasts.{Follows, IsPath}
 use Rattle.trace_cursor.proofs.PathLemmas.{follows_start, follows_lower, follows_step, follows_end}
+use Rattle.trace_cursor.proofs.WayLemmas.{path_there}
 use Rattle.trace_cursor.proofs.descent.path.Goals as goal
 
 pub loop-inner-init : goal.loop-inner-init
@@ -20,8 +21,12 @@ loop-inner-preserved g c =
     (follows_step c.args.arena.now.nodes c.arena_is_whole.ensures.whole c.args.root.0 c.args.index c.loop-inner.node c.loop-inner.rest
     c.in-Inside.inner.child.0 c.in-Inside.inner.left c.in-Inside.inner.at c.loop-inner.places.items c.loop-inner.invariant c.in-Inside.ensures)
 
-pub returns-in-Own : goal.returns-in-Own
-returns-in-Own g c =
+pub returns-in-Own-clause-path : goal.returns-in-Own-clause-path
+returns-in-Own-clause-path g c =
     subst (IsPath c.args.arena.now.nodes c.args.root.0 c.args.index) (sym c.in_ok-push-in-Own.ensures.items)
     (follows_end c.args.arena.now.nodes c.arena_is_whole.ensures.whole c.args.root.0 c.args.index c.loop-inner.node c.loop-inner.rest
     c.in-Own.run'.at c.in-Own.run'.stop c.loop-inner.places.items c.loop-inner.invariant c.in-Own.ensures)
+
+pub returns-in-Own-clause-there : goal.returns-in-Own-clause-there
+returns-in-Own-clause-there g c =
+    path_there c.args.arena.now.nodes c.arena_is_whole.ensures.whole c.args.root.0 c.args.index _ (returns-in-Own-clause-path g c)
