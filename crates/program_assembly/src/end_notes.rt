@@ -13,7 +13,7 @@ use expansion_memo::{Ended, Outcome};
 use hl_base::{Frames, Note, Notes, OutOfMemory, PathId};
 use note_rows::{Row, note};
 use std::alloc::Global;
-use trace_arena::{NodeId, TraceArena, arena_is_whole};
+use trace_arena::{NodeId, TraceArena};
 use trace_cursor::path;
 use trace_values::TraceItem;
 
@@ -33,7 +33,6 @@ fn ends_limited(
     requires live { IsLive arena.now.nodes root.0 }
     ensures { IfOk result (λ limited. limited ≡ ends_limited (points arena.now.nodes root.0)) }
 {
-    arena_is_whole(arena);
     let points = arena.points(root);
     if points == 0 {
         return Ok(false);

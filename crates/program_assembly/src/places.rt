@@ -1,7 +1,7 @@
 //! The item of a place on the way to a point.
 ghost use Rattle.std.specs.Prelude.{◌≡◌, Some, slice_get};
 ghost use Rattle.trace_arena.specs.Nodes.{node_at};
-ghost use Rattle.trace_variables.specs.Calls.{IsThere};
+ghost use Rattle.trace_cursor.specs.Pasts.{IsThere};
 
 use trace_arena::TraceArena;
 use trace_cursor::ItemPlace;

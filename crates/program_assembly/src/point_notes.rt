@@ -4,7 +4,7 @@ ghost use Rattle.std.specs.Option.{option_map, option_map_or};
 ghost use Rattle.std.specs.List.{flat_map};
 ghost use Rattle.trace_arena.specs.Nodes.{IsLive};
 ghost use Rattle.trace_arena.specs.Points.{points};
-ghost use Rattle.trace_variables.specs.Calls.{AreThere};
+ghost use Rattle.trace_cursor.specs.Pasts.{AreThere};
 ghost use Rattle.program_assembly.specs.PointNotes.{at_stack, is_of_columns, point_notes, notes_at, stack_at, stands_in};
 ghost use Rattle.program_assembly.specs.Stacks.{frames_there, other_at};
 
@@ -12,7 +12,7 @@ use crate::places::item_at;
 use hl_base::{Frames, Note, Notes, OutOfMemory, PathId};
 use hlasm_statements::ColumnFault;
 use std::alloc::Global;
-use trace_arena::{NodeId, TraceArena, arena_is_whole};
+use trace_arena::{NodeId, TraceArena};
 use trace_cursor::{Cursor, ItemPlace, path};
 use trace_values::TraceItem;
 
@@ -55,7 +55,6 @@ fn stack_at(
     requires inside { index < length (points arena.now.nodes root.0) }
     ensures { IfOk result (λ stack. stack ≡ stack_at (slice_get (points arena.now.nodes root.0) index)) }
 {
-    arena_is_whole(arena);
     let places = path(alloc, arena, root, index)?;
     frames_there(alloc, arena, places.as_slice())
 }

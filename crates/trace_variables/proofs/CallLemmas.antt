@@ -1,22 +1,30 @@
 -- The places of a point, taken from the innermost one outwards.
-use Rattle.std.proofs.Common.{◌≡◌, ℕ, zero, suc, ◌+◌, ◌-◌, ◌<◌, ◌≤◌, Bool, true, false, if◌then◌else◌, nat_le, List, [], ◌∷◌, ◌++◌, length, map, Option, Some, None, refl, sym, ap, subst, ◌∙◌, inl, inr, arith, reverse}
-use Rattle.std.specs.Prelude.{slice_get, unwrap_or, drop}
-use Rattle.std.proofs.lemmas.Bool.{cases_lt, lt-leb}
-use Rattle.std.proofs.lemmas.List.{reverse-append}
+use Rattle.std.proofs.Common.{◌≡◌, ℕ, zero, suc, ◌-◌, ◌<◌, ◌≤◌, if◌then◌else◌, nat_le, List, [], ◌∷◌, ◌++◌, length, map, Some, refl, sym, ap, ◌∙◌, arith, reverse}
+use Rattle.std.specs.Prelude.{slice_get, drop}
+use Rattle.std.specs.Option.{option_map_or, option_and_then}
+use Rattle.std.specs.Global.{Vec}
+use Rattle.std.specs.Vec.{vec_len}
+use Rattle.std.proofs.lemmas.Bool.{lt-leb, le-leb}
+use Rattle.std.proofs.lemmas.List.{reverse-append, length-reverse, map-append, length-map}
 use Rattle.std.proofs.lemmas.Option.{none-some}
+use Rattle.trace_values.specs.CallFrames.{frames_of}
 use Rattle.trace_values.specs.declared.item.TraceItem.{TraceItem}
-use Rattle.trace_arena.specs.Nodes.{Node, node_at, IsLive}
-use Rattle.trace_arena.specs.Whole.{IsWhole}
+use Rattle.trace_arena.specs.Nodes.{Node}
+use Rattle.trace_arena.specs.Points.{points}
 use Rattle.trace_cursor.specs.declared.descent.ItemPlace.{ItemPlace}
-use Rattle.trace_cursor.specs.Pasts.{Past, pasts, with_pasts, traced, past_at, IsPath}
-use Rattle.trace_cursor.proofs.PathLemmas.{traced_at}
+use Rattle.trace_cursor.specs.Pasts.{Past, plain, IsThere, AreThere, IsPath}
+use Rattle.trace_cursor.proofs.WayLemmas.{first_of, item_at, items_there, point_there}
 use Rattle.trace_cursor.proofs.WeaveLemmas.{get_left}
-use Rattle.trace_variables.specs.Calls.{frames_at, call_there, call_within, IsThere, AreThere}
+use Rattle.trace_variables.specs.Calls.{level_among, level_of}
+use Rattle.trace_variables.specs.Seen.{frames_at, level_within, level_in}
 
 get_within : {X : Type 0} (xs : List X) (k : ℕ) (x : X) → slice_get xs k ≡ Some x → k < length xs
 get_within [] k x e = absurd (none-some x e)
 get_within (y ∷ ys) zero x e = omega arith
 get_within (y ∷ ys) (suc k) x e = omega (arith, get_within ys k x e)
+
+pub vec_length : {X : Type 0} (v : Vec X) → vec_len v ≡ length v.items
+vec_length v = v.ok.0
 
 get_last : {X : Type 0} (xs : List X) (x : X) → slice_get (xs ++ x ∷ []) (length xs) ≡ Some x
 get_last [] x = refl
@@ -33,54 +41,62 @@ module _ (nodes : List (Node TraceItem)) (all rest : List ItemPlace) (place : It
   inward : reverse all ≡ place ∷ reverse rest
   inward = ap (λ ps. reverse ps) popped ∙ reverse-append rest (place ∷ [])
 
-  pub call_on : (inner : Bool) (left count : ℕ) → count ≡ frames_at nodes place → count < left →
-      call_within nodes inner left (reverse all) ≡ call_within nodes false (left - count) (reverse rest)
-  call_on inner left count e more =
-      ap (call_within nodes inner left) inward
-      ∙ ap (λ b. if b then Some (call_there inner place) else call_within nodes false (left - frames_at nodes place) (reverse rest))
+  pub level_found : (left count : ℕ) → count ≡ frames_at nodes place → left ≤ count →
+      Some (length rest) ≡ level_within nodes left (reverse all)
+  level_found left count e le =
+      sym
+      (ap (level_within nodes left) inward
+      ∙ ap (λ b. if b then Some (length (reverse rest)) else level_within nodes (left - frames_at nodes place) (reverse rest))
+      (le-leb left (frames_at nodes place) (omega (arith, e, le)))
+      ∙ ap Some (length-reverse rest))
+
+  pub level_on : (left count : ℕ) → count ≡ frames_at nodes place → count < left →
+      level_within nodes left (reverse all) ≡ level_within nodes (left - count) (reverse rest)
+  level_on left count e more =
+      ap (level_within nodes left) inward
+      ∙ ap (λ b. if b then Some (length (reverse rest)) else level_within nodes (left - frames_at nodes place) (reverse rest))
       (lt-leb left (frames_at nodes place) (omega (arith, e, more)))
-      ∙ ap (λ n. call_within nodes false (left - n) (reverse rest)) (sym e)
+      ∙ ap (λ n. level_within nodes (left - n) (reverse rest)) (sym e)
 
-past_length : {I : Type 0} (before items : List I) → length (pasts before items) ≡ length items
-past_length before [] = refl
-past_length before (i ∷ is) = ap suc (past_length (before ++ i ∷ []) is)
+map_reverse : {X Y : Type 0} (f : X → Y) (xs : List X) → map f (reverse xs) ≡ reverse (map f xs)
+map_reverse f [] = refl
+map_reverse f (x ∷ xs) =
+    ap (map f) (reverse-append (x ∷ []) xs)
+    ∙ map-append f (reverse xs) (x ∷ [])
+    ∙ ap (λ ys. ys ++ f x ∷ []) (map_reverse f xs)
+    ∙ sym (reverse-append (f x ∷ []) (map f xs))
 
--- where an item knows those before it, there is one
-pub past_there : (nodes : List (Node TraceItem)) → IsWhole nodes → (place : ItemPlace) (past : Past TraceItem) →
-    past_at nodes place ≡ Some past → IsThere nodes place
-past_there nodes whole place past e =
-    let inside : place.at < length (node_at nodes place.node.0).items =
-    omega (
-      arith,
-      get_within (node_at (traced nodes) place.node.0).items place.at past e,
-      ap (λ n. length n.items) (traced_at nodes place.node.0),
-      past_length [] (node_at nodes place.node.0).items,
-    ) in
-    record {
-      live = elim (cases_lt 0 (node_at nodes place.node.0).owners) [
-        | inl live ↦ live
-        | inr none ↦ absurd (omega (arith, inside, ap (λ n. length n.items) (whole.free place.node.0 (omega (arith, none)))))
-      ];
-      inside = inside;
-    }
+levels_are : (nodes : List (Node TraceItem)) (frame : ℕ) (places : List ItemPlace) (items : List TraceItem) →
+    map (item_at nodes) places ≡ map Some items → level_within nodes frame places ≡ level_among frame items
+levels_are nodes frame [] [] e = refl
+levels_are nodes frame [] (i ∷ is) e = absurd (omega (arith, ap (λ os. length os) e))
+levels_are nodes frame (p ∷ ps) [] e = absurd (omega (arith, ap (λ os. length os) e))
+levels_are nodes frame (p ∷ ps) (i ∷ is) e =
+    let here : frames_at nodes p ≡ length (frames_of i.frames) =
+    ap (λ o. option_map_or (λ (item : TraceItem). length (frames_of item.frames)) o 0) (ap (first_of (Some i)) e) in
+    let tail : map (item_at nodes) ps ≡ map Some is = ap (drop 1) e in
+    let long : length ps ≡ length is =
+    sym (length-map ps (item_at nodes)) ∙ ap (λ os. length os) tail ∙ length-map is Some in
+    ap (λ n. if nat_le frame n then Some (length ps) else level_within nodes (frame - n) ps) here
+    ∙ ap (λ n. if nat_le frame (length (frames_of i.frames)) then Some n else level_within nodes (frame - length (frames_of i.frames)) ps) long
+    ∙ ap (λ o. if nat_le frame (length (frames_of i.frames)) then Some (length is) else o)
+    (levels_are nodes (frame - length (frames_of i.frames)) ps is tail)
 
-some_same : (x y : ItemPlace) → Some x ≡ Some y → x ≡ y
-some_same x y e = ap (λ o. unwrap_or o x) e
+-- the level of a frame is that of the frame of the point
+module _ (nodes : List (Node TraceItem)) (root index : ℕ) (places : List ItemPlace) (path : IsPath nodes root index places) where
+  outwards : map (item_at nodes) (reverse places) ≡ map Some ((plain path.point).item ∷ reverse (plain path.point).calls)
+  outwards =
+      let calls = map (λ (p : Past TraceItem). p.item) path.point.calls in
+      map_reverse (item_at nodes) places
+      ∙ ap (λ os. reverse os) (items_there nodes places (path.point.calls ++ path.point.item ∷ []) path.same)
+      ∙ sym (map_reverse Some (map (λ (p : Past TraceItem). p.item) (path.point.calls ++ path.point.item ∷ [])))
+      ∙ ap (λ is. map Some (reverse is)) (map-append (λ (p : Past TraceItem). p.item) path.point.calls (path.point.item ∷ []))
+      ∙ ap (map Some) (reverse-append calls (path.point.item.item ∷ []))
 
-abbrev first_of : {X : Type 0} → X → List X → X
-first_of d [] = d
-first_of d (x ∷ xs) = x
+  level_same : (frame : ℕ) → level_in nodes places frame ≡ level_of (plain path.point) frame
+  level_same zero = refl
+  level_same (suc n) = levels_are nodes (suc n) (reverse places) ((plain path.point).item ∷ reverse (plain path.point).calls) outwards
 
-same_at : (places : List ItemPlace) (pasts_of : List (Past TraceItem)) (f : ItemPlace → Option (Past TraceItem)) →
-    map f places ≡ map Some pasts_of → (k : ℕ) (place : ItemPlace) → slice_get places k ≡ Some place →
-    (past : Past TraceItem) × (f place ≡ Some past)
-same_at [] pasts_of f same k place e = absurd (none-some place e)
-same_at (p ∷ ps) [] f same k place e = absurd (omega (arith, ap (λ os. length os) same))
-same_at (p ∷ ps) (q ∷ qs) f same zero place e = (q, ap f (sym (some_same p place e)) ∙ ap (first_of (Some q)) same)
-same_at (p ∷ ps) (q ∷ qs) f same (suc k) place e = same_at ps qs f (ap (drop 1) same) k place e
-
-pub path_there : (nodes : List (Node TraceItem)) → IsWhole nodes → (root index : ℕ) (places : List ItemPlace) →
-    IsPath nodes root index places → AreThere nodes places
-path_there nodes whole root index places path k place e =
-    let found = same_at places (path.point.calls ++ path.point.item ∷ []) (past_at nodes) path.same k place e in
-    past_there nodes whole place found.0 found.1
+  pub level_is : (frame : ℕ) →
+      level_in nodes places frame ≡ option_and_then (λ point. level_of point frame) (slice_get (points nodes root) index)
+  level_is frame = level_same frame ∙ ap (option_and_then (λ point. level_of point frame)) (sym (point_there nodes root index places path))

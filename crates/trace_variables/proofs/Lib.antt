@@ -3,3 +3,7 @@ pub mod MapLemmas
 pub mod TextLemmas
 pub mod ValueLemmas
 pub mod CallLemmas
+pub mod DoneLemmas
+pub mod KnownLemmas
+pub mod RowLemmas
+pub mod FrameLemmas

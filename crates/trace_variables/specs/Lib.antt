@@ -1,5 +1,7 @@
 pub mod Values
 pub mod Globals
-pub mod Seen
 pub mod Calls
 pub mod Shown
+pub mod Variables
+pub mod Laws
+pub mod Seen

@@ -1,5 +1,5 @@
 -- What statements leave of the values of variable symbols (HLASM Language Reference SC26-4940, "SET symbols").
-use Rattle.std.specs.Prelude.{ℕ, Bool, true, false, pos, if◌then◌else◌, List, [], ◌∷◌, ◌||◌, not, take}
+use Rattle.std.specs.Prelude.{ℕ, Bool, true, false, pos, if◌then◌else◌, List, [], ◌∷◌, ◌++◌, ◌||◌, not}
 use Rattle.std.specs.Bool.{beq}
 use Rattle.std.specs.List.{fold}
 use Rattle.std.specs.Option.{is_some}
@@ -89,9 +89,11 @@ abbrev pub entry_of : List TraceItem → List Setting
 entry_of [] = []
 entry_of (item ∷ items) = item.entry
 
--- the local values of a call of which so many items were appended, and the global ones after some items
-abbrev pub local_values : List TraceItem → ℕ → Values
-local_values items count = fold after_locals (after_settings [] (entry_of items)) (take count items)
+-- the local values of a call that had done this, and goes on with this item: if it had done nothing, this is its first
+abbrev pub local_values : List TraceItem → TraceItem → Values
+local_values done own = fold after_locals (after_settings [] (entry_of (done ++ own ∷ []))) done
+
+-- the global values after some items
 
 abbrev pub global_values : List TraceItem → Values
 global_values items = fold after_globals [] items

@@ -1,56 +1,59 @@
 //! The call that a frame of a point belongs to.
-ghost use Rattle.std.specs.Prelude.{◌≡◌, ◌+◌, ◌^◌, ◌<◌, ◌≤◌, length, IfSome};
-ghost use Rattle.trace_arena.specs.Nodes.{node_at, IsLive};
-ghost use Rattle.trace_variables.specs.Calls.{frames_at, call_of, IsThere, AreThere};
+ghost use Rattle.std.specs.Prelude.{◌≡◌, ◌+◌, ◌^◌, ◌<◌, length, slice_get, IfOk};
+ghost use Rattle.std.specs.Option.{option_and_then};
+ghost use Rattle.trace_arena.specs.Nodes.{IsLive};
+ghost use Rattle.trace_arena.specs.Points.{points};
+ghost use Rattle.trace_cursor.specs.Pasts.{IsThere, AreThere};
+ghost use Rattle.trace_variables.specs.Calls.{level_of};
+ghost use Rattle.trace_variables.specs.Seen.{frames_at, level_in};
 
+use hl_base::OutOfMemory;
+use std::alloc::Global;
 use trace_arena::{NodeId, TraceArena};
-use trace_cursor::ItemPlace;
+use trace_cursor::{ItemPlace, path};
 use trace_values::TraceItem;
-
-/// A call at a point: its node, and how many of the node's items had been appended before the point.
-#[derive(Clone, Copy, Debug, PartialEq, Eq)]
-pub struct Call {
-    pub node: NodeId,
-    pub items: usize,
-}
 
 /// How many frames the item of a place has.
 fn frames_at(arena: &TraceArena<TraceItem>, place: ItemPlace) -> usize
     requires { IsThere arena.now.nodes place }
-    ensures frames { result ≡ frames_at arena.now.nodes place }
-    ensures room { place.at + 1 < 2 ^ 64 }
+    ensures { result ≡ frames_at arena.now.nodes place }
 {
     arena.items(place.node)[place.at].frames.count()
 }
 
-/// The call of the frame of a number, counted from 1, the innermost first. There is none exactly where the items of these
-/// places, the outermost first, have no such frame.
-pub(crate) fn call_of(
-    arena: &TraceArena<TraceItem>,
-    from: Vec<ItemPlace>,
-    frame: u32,
-) -> Option<Call>
+/// The level of the call of a frame of the items of these places, the outermost first.
+fn level_in(arena: &TraceArena<TraceItem>, from: Vec<ItemPlace>, frame: u32) -> Option<usize>
     requires there { AreThere arena.now.nodes from.items }
-    ensures call { result ≡ call_of arena.now.nodes from.items frame }
-    ensures live { IfSome result (λ call. IsLive arena.now.nodes call.node.0) }
-    ensures inside { IfSome result (λ call. call.items ≤ length (node_at arena.now.nodes call.node.0).items) }
+    ensures { result ≡ level_in arena.now.nodes from.items frame }
 {
     if frame == 0 {
         return None;
     }
     let mut places = from;
     let mut left = frame as usize;
-    let mut more = 0;
     while let Some(place) = places.pop() {
         let count = frames_at(arena, place);
         if left <= count {
-            return Some(Call {
-                node: place.node,
-                items: place.at + more,
-            });
+            return Some(places.len());
         }
         left -= count;
-        more = 1;
     }
     None
+}
+
+/// The level of the call of a frame of a point: how many calls stand round it. There is none exactly where the point has no
+/// such frame.
+pub(crate) fn level_of(
+    alloc: Global,
+    arena: &TraceArena<TraceItem>,
+    root: NodeId,
+    index: u32,
+    frame: u32,
+) -> Result<Option<usize>, OutOfMemory>
+    requires live { IsLive arena.now.nodes root.0 }
+    requires inside { index < length (points arena.now.nodes root.0) }
+    ensures { IfOk result (λ level. level ≡ option_and_then (λ point. level_of point frame) (slice_get (points arena.now.nodes root.0) index)) }
+{
+    let places = path(alloc, arena, root, index)?;
+    Ok(level_in(arena, places, frame))
 }

@@ -1,10 +1,11 @@
 //! Variable symbols as they are shown.
-ghost use Rattle.std.specs.Prelude.{◌≡◌, ◌++◌, map, string_bytes, IfOk, OnOk};
+ghost use Rattle.std.specs.Prelude.{◌≡◌, [], ◌∷◌, ◌++◌, true, false, map, filter, string_bytes, IfOk, OnOk};
 ghost use Rattle.hl_base.specs.declared.set.SetValue.TheVariants.{A};
-ghost use Rattle.trace_variables.specs.Seen.{seen, seen_key};
+ghost use Rattle.trace_variables.specs.Seen.{seen, seen_key, seen_symbols, is_among};
 ghost use Rattle.trace_variables.specs.Shown.{is_plain, shown_name, text_of, shown};
 
 use crate::key::Key;
+use crate::known::{Symbols, is_among};
 use crate::values::Values;
 use hl_base::{OutOfMemory, SetValue, Text};
 use std::alloc::Global;
@@ -59,17 +60,47 @@ fn shown(alloc: Global, key: &Key, value: &SetValue, global: bool) -> Result<Var
     })
 }
 
-/// Adds values as they are shown, in their order.
-pub(crate) fn show_all(
+/// Adds local values as they are shown, in their order.
+pub(crate) fn show_locals(
     alloc: Global,
     rows: &mut Variables,
     values: &Values,
-    global: bool,
 ) -> Result<(), OutOfMemory>
-    ensures { OnOk result (rows.new ≡ rows.old ++ map (shown global) (seen values.now)) }
+    ensures { OnOk result (rows.new ≡ rows.old ++ map (shown false) (seen values.now)) }
 {
     for (key, value) in values {
-        rows.push(shown(alloc, key, value, global)?)?;
+        rows.push(shown(alloc, key, value, false)?)?;
+    }
+    Ok(())
+}
+
+/// Adds a global value as it is shown, if its symbol is one of these.
+fn show_known(
+    alloc: Global,
+    rows: &mut Variables,
+    symbols: &Symbols,
+    key: &Key,
+    value: &SetValue,
+) -> Result<(), OutOfMemory>
+    ensures { OnOk result (rows.new ≡ rows.old ++ map (shown true) (filter (is_among (seen_symbols symbols.now)) ((seen_key key.now, value.now) ∷ []))) }
+{
+    if !is_among(symbols, key, value) {
+        return Ok(());
+    }
+    rows.push(shown(alloc, key, value, true)?)
+}
+
+/// Adds the global values of these symbols as they are shown, in their order.
+pub(crate) fn show_globals(
+    alloc: Global,
+    rows: &mut Variables,
+    values: &Values,
+    symbols: &Symbols,
+) -> Result<(), OutOfMemory>
+    ensures { OnOk result (rows.new ≡ rows.old ++ map (shown true) (filter (is_among (seen_symbols symbols.now)) (seen values.now))) }
+{
+    for (key, value) in values {
+        show_known(alloc, rows, symbols, key, value)?;
     }
     Ok(())
 }

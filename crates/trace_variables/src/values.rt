@@ -1,5 +1,5 @@
 //! What statements leave of the values of variable symbols.
-ghost use Rattle.std.specs.Prelude.{◌≡◌, ◌≤◌, length, IfOk, OnOk};
+ghost use Rattle.std.specs.Prelude.{◌≡◌, map, IfOk, OnOk};
 ghost use Rattle.std.specs.List.{fold};
 ghost use Rattle.trace_variables.specs.Values.{unset, after_setting, after_settings, after_declaration, after_declarations, after_locals, after_globals, local_values};
 ghost use Rattle.trace_variables.specs.Seen.{seen};
@@ -102,8 +102,8 @@ pub(crate) fn pass_globals(
 }
 
 /// What statements do to the local symbols of their call, one after another.
-fn pass_all(alloc: Global, values: &mut Values, items: &[TraceItem]) -> Result<(), OutOfMemory>
-    ensures { OnOk result (seen values.new ≡ fold after_locals (seen values.old) items.now) }
+fn pass_all(alloc: Global, values: &mut Values, items: &[&TraceItem]) -> Result<(), OutOfMemory>
+    ensures { OnOk result (seen values.new ≡ fold after_locals (seen values.old) (map (λ i. i.now) items.now)) }
 {
     for item in items {
         pass_locals(alloc, values, item)?;
@@ -111,19 +111,20 @@ fn pass_all(alloc: Global, values: &mut Values, items: &[TraceItem]) -> Result<(
     Ok(())
 }
 
-/// The local values of a call of which so many items were appended.
+/// The local values of a call that had done this, and goes on with this item.
 pub(crate) fn locals_after(
     alloc: Global,
-    items: &[TraceItem],
-    count: usize,
+    done: &[&TraceItem],
+    own: &TraceItem,
 ) -> Result<Values, OutOfMemory>
-    requires { count ≤ length items.now }
-    ensures { IfOk result (λ values. seen values ≡ local_values items.now count) }
+    ensures { IfOk result (λ values. seen values ≡ local_values (map (λ i. i.now) done.now) own.now) }
 {
     let mut values = BTreeMap::new(alloc);
-    if let Some(first) = items.first() {
-        set_all(alloc, &mut values, first.entry.as_slice())?;
-    }
-    pass_all(alloc, &mut values, &items[..count])?;
+    let entry = match done.first() {
+        Some(first) => first.entry.as_slice(),
+        None => own.entry.as_slice(),
+    };
+    set_all(alloc, &mut values, entry)?;
+    pass_all(alloc, &mut values, done)?;
     Ok(values)
 }

@@ -1,21 +1,22 @@
 //! The variables of a frame of a point.
-ghost use Rattle.std.specs.Prelude.{◌≡◌, ◌<◌, ◌≤◌, length, map, take, IfOk, MatchOption};
+ghost use Rattle.std.specs.Prelude.{◌≡◌, ◌<◌, ◌≤◌, Some, length, map, take, slice_get, IfOk};
+ghost use Rattle.std.specs.Option.{option_map};
 ghost use Rattle.trace_arena.specs.Nodes.{IsLive};
 ghost use Rattle.trace_arena.specs.Points.{points};
-ghost use Rattle.trace_cursor.specs.Pasts.{IsPath};
-ghost use Rattle.trace_variables.specs.Calls.{AreThere};
 ghost use Rattle.trace_variables.specs.Values.{global_values};
 ghost use Rattle.trace_variables.specs.Seen.{seen};
-ghost use Rattle.trace_variables.specs.Shown.{ShowsAt, HasNoFrame};
+ghost use Rattle.trace_variables.specs.Variables.{rows_at, variables_of};
 
-use crate::call::call_of;
-use crate::shown::show_all;
+use crate::call::level_of;
+use crate::done::done_before;
+use crate::known::known_by;
+use crate::shown::{show_globals, show_locals};
 use crate::values::{Values, locals_after, pass_globals};
 use hl_base::OutOfMemory;
 use std::alloc::Global;
 use std::collections::BTreeMap;
-use trace_arena::{NodeId, TraceArena, arena_is_whole};
-use trace_cursor::{Cursor, ItemPlace, path};
+use trace_arena::{NodeId, TraceArena};
+use trace_cursor::Cursor;
 use trace_values::{TraceItem, Variables};
 
 /// The global values before a point, or behind the last one.
@@ -40,26 +41,34 @@ pub(crate) fn globals_before(
     Ok(values)
 }
 
-/// The places on the way to a point, at each of which there is an item.
-fn way(
+/// The variables of the call of a level, seen from a point that is within it.
+fn rows_at(
     alloc: Global,
     arena: &TraceArena<TraceItem>,
     root: NodeId,
     index: u32,
-) -> Result<Vec<ItemPlace>, OutOfMemory>
+    level: usize,
+) -> Result<Variables, OutOfMemory>
     requires live { IsLive arena.now.nodes root.0 }
     requires inside { index < length (points arena.now.nodes root.0) }
-    ensures path { IfOk result (λ places. IsPath arena.now.nodes root.0 index places.items) }
-    ensures there { IfOk result (λ places. AreThere arena.now.nodes places.items) }
+    ensures { IfOk result (λ rows. option_map (λ point. rows_at (take index (points arena.now.nodes root.0)) level point.item)
+        (slice_get (points arena.now.nodes root.0) index) ≡ Some rows) }
 {
-    arena_is_whole(arena);
-    path(alloc, arena, root, index)
+    let cursor = Cursor::at(arena, root, index).unwrap();
+    let done = done_before(alloc, arena, root, index, level)?;
+    let locals = locals_after(alloc, done.as_slice(), cursor.item(arena))?;
+    let symbols = known_by(alloc, done.as_slice())?;
+    let globals = globals_before(alloc, arena, root, index)?;
+    let mut rows = Variables::new(alloc);
+    show_locals(alloc, &mut rows, &locals)?;
+    show_globals(alloc, &mut rows, &globals, &symbols)?;
+    Ok(rows)
 }
 
-/// The variables of a frame of a point, as a debugger shows them: the local ones of its call, and then all global ones,
-/// each in the byte order of their names, then by type, then by element. A scalar that was declared and not set is shown
-/// with 0, 0 or the empty text; of an array only what was set. Points are counted from 0, frames from 1, the innermost
-/// first; there is no answer exactly where the point has no such frame.
+/// The variables of a frame of a point, as a debugger shows them: the local ones of its call, and then the global ones that
+/// the call declared, each in the byte order of their names, then by type, then by element. A scalar that was declared and not
+/// set is shown with 0, 0 or the empty text; of an array only what was set. Points are counted from 0, frames from 1, the
+/// innermost first; there is no answer exactly where the point has no such frame. It goes past every point before.
 pub fn variables_at(
     alloc: Global,
     arena: &TraceArena<TraceItem>,
@@ -69,16 +78,10 @@ pub fn variables_at(
 ) -> Result<Option<Variables>, OutOfMemory>
     requires live { IsLive arena.now.nodes root.0 }
     requires inside { index < length (points arena.now.nodes root.0) }
-    ensures { IfOk result (λ shown. MatchOption shown (HasNoFrame arena.now.nodes root.0 index frame)
-        (λ rows. ShowsAt arena.now.nodes root.0 index frame rows)) }
+    ensures { IfOk result (λ shown. shown ≡ variables_of (points arena.now.nodes root.0) index frame) }
 {
-    let Some(call) = call_of(arena, way(alloc, arena, root, index)?, frame) else {
+    let Some(level) = level_of(alloc, arena, root, index, frame)? else {
         return Ok(None);
     };
-    let locals = locals_after(alloc, arena.items(call.node), call.items)?;
-    let globals = globals_before(alloc, arena, root, index)?;
-    let mut rows = Variables::new(alloc);
-    show_all(alloc, &mut rows, &locals, false)?;
-    show_all(alloc, &mut rows, &globals, true)?;
-    Ok(Some(rows))
+    Ok(Some(rows_at(alloc, arena, root, index, level)?))
 }

@@ -6,7 +6,6 @@ use Rattle.note_rows.specs.declared.row.Row.TheVariants.{BranchLimit}
 use Rattle.trace_values.specs.declared.item.TraceItem.{TraceItem}
 use Rattle.trace_arena.specs.Points.{points}
 use Rattle.trace_cursor.specs.Pasts.{plain}
-use Rattle.trace_variables.proofs.CallLemmas.{path_there}
 use Rattle.program_assembly.specs.Notes.{has_code, is_limited, ends_limited}
 use Rattle.program_assembly.proofs.ListLaws.{single}
 use Rattle.program_assembly.proofs.PointLaws.{found_at}
@@ -19,7 +18,7 @@ returns-then-len-ne1 c =
     let root = c.args.root.0 in
     let index = c.points-points.result - 1 in
     let places = c.in_ok-places.places.items in
-    let path = c.in_ok-places.ensures in
+    let path = c.in_ok-places.ensures.path in
     let last : slice_get (points nodes root) (length (points nodes root) - 1) ≡ Some (plain path.point) =
     ap (λ n. slice_get (points nodes root) (n - 1)) (sym c.points-points.ensures.points) ∙ point_is nodes root index places path in
     let several : ¬ (length places ≡ 1) = λ one. omega (arith, one, c.len.ensures, c.if-len-ne1.true, c.in_ok-places.places.ok.0) in
@@ -31,8 +30,7 @@ item_at-item-requires c =
     let places = c.in_ok-places.places.items in
     let some : 0 < length places = omega (arith, c.len.ensures, c.if-len-ne1.false, c.in_ok-places.places.ok.0) in
     record {
-      there = path_there nodes c.arena_is_whole.ensures.whole c.args.root.0 (c.points-points.result - 1) places c.in_ok-places.ensures
-          0 c.index.result.now (found_at places 0 c.index.result.now some c.index.ensures);
+      there = c.in_ok-places.ensures.there 0 c.index.result.now (found_at places 0 c.index.result.now some c.index.ensures);
     }
 
 pub returns : goal.returns
@@ -41,7 +39,7 @@ returns c =
     let root = c.args.root.0 in
     let index = c.points-points.result - 1 in
     let places = c.in_ok-places.places.items in
-    let path = c.in_ok-places.ensures in
+    let path = c.in_ok-places.ensures.path in
     let place = c.index.result.now in
     let last : slice_get (points nodes root) (length (points nodes root) - 1) ≡ Some (plain path.point) =
     ap (λ n. slice_get (points nodes root) (n - 1)) (sym c.points-points.ensures.points) ∙ point_is nodes root index places path in
