@@ -1,7 +1,7 @@
 -- A walk through the points of a trace, and what it shows of the point where it stands (this project).
 use Rattle.std.specs.Prelude.{◌≡◌, ℕ, ◌<◌, ◌≤◌, Bool, Option, Some, None, List, [], length, filter}
 use Rattle.std.specs.Bool.{beq}
-use Rattle.std.specs.Option.{option_map, MatchOption}
+use Rattle.std.specs.Option.{option_map, option_and_then}
 use Rattle.hl_base.specs.declared.place.Frame.{Frame}
 use Rattle.trace_values.specs.declared.item.TraceItem.{TraceItem}
 use Rattle.trace_values.specs.declared.variable.Variable.{Variable}
@@ -9,7 +9,7 @@ use Rattle.trace_arena.specs.declared.node.NodeId.{NodeId}
 use Rattle.trace_arena.specs.Nodes.{Node, IsLive}
 use Rattle.trace_arena.specs.Points.{Point, points}
 use Rattle.trace_cursor.specs.Stacks.{stack_of}
-use Rattle.trace_variables.specs.Shown.{ShowsAt}
+use Rattle.trace_variables.specs.Variables.{variables_of}
 use Rattle.macro_debugger.specs.declared.stop.StepRule.{StepRule}
 use Rattle.macro_debugger.specs.declared.stop.Stop.{Stop}
 use Rattle.macro_debugger.specs.Stops.{Breaks, point_at, stop_behind}
@@ -47,26 +47,20 @@ place_after place (Some stop) = Some stop.index
 abbrev pub stepped : Walk → Option Stop → Walk
 stepped walk stop = record walk { place = place_after walk.place stop }
 
--- the point where a walk stands, if it stands at one
-abbrev pub here : List (Node TraceItem) → Walk → Option (Point TraceItem)
-here nodes walk = point_at (trace_of nodes walk) walk.place
+-- the point of a trace where a walk stands, if it stands at one
+abbrev pub here : List (Point TraceItem) → Walk → Option (Point TraceItem)
+here trace walk = point_at trace walk.place
 
 -- the frames of that point, outermost first
-abbrev pub stack_here : List (Node TraceItem) → Walk → Option (List Frame)
-stack_here nodes walk = option_map stack_of (here nodes walk)
+abbrev pub stack_here : List (Point TraceItem) → Walk → Option (List Frame)
+stack_here trace walk = option_map stack_of (here trace walk)
 
 -- there is a stack, and it has a frame of this number, counted from 1, the innermost first
 abbrev pub IsFrame : Option (List Frame) → ℕ → Type 0
 IsFrame None frame = ⊥
 IsFrame (Some frames) frame = (0 < frame) × (frame ≤ length frames)
 
--- These are the global variables of a frame of a point, or the local ones, as they are shown.
-pub record ShowsPart (nodes : List (Node TraceItem)) (root index frame : ℕ) (globals : Bool) (rows : List Variable) : Type 0 where
-  pub all : List Variable
-  pub shown : ShowsAt nodes root index frame all
-  pub part : rows ≡ filter (λ v. beq v.global globals) all
-
--- those of the point where a walk stands
-abbrev pub ShowsHere : List (Node TraceItem) → Walk → ℕ → Bool → List Variable → Type 0
-ShowsHere nodes walk frame globals rows =
-    MatchOption walk.place ⊥ (λ index. ShowsPart nodes walk.root.0 index frame globals rows)
+-- of the variables of a frame of that point the global ones, or the local ones, as they are shown
+abbrev pub variables_here : List (Point TraceItem) → Walk → ℕ → Bool → Option (List Variable)
+variables_here trace walk frame globals =
+    option_map (filter (λ v. beq v.global globals)) (option_and_then (λ index. variables_of trace index frame) walk.place)

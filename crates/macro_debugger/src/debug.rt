@@ -4,7 +4,7 @@ ghost use Rattle.std.specs.Option.{ForSome};
 ghost use Rattle.trace_arena.specs.Points.{points};
 ghost use Rattle.trace_cursor.specs.Places.{StandsAt};
 ghost use Rattle.macro_debugger.specs.Stops.{replaced, reason_at, depth_at, first_later, first_stop};
-ghost use Rattle.macro_debugger.specs.Walks.{launched, HasTrace, trace_of, stack_here, next_stop, stepped, IsFrame, ShowsHere};
+ghost use Rattle.macro_debugger.specs.Walks.{launched, HasTrace, trace_of, stack_here, next_stop, stepped, IsFrame, variables_here};
 
 use crate::breakpoints::Breakpoints;
 use crate::shown::{part, stack_at};
@@ -15,7 +15,7 @@ use std::marker::Model;
 use trace_arena::{NodeId, TraceArena};
 use trace_cursor::Cursor;
 use trace_values::{TraceItem, Variables};
-use trace_variables::variables_at;
+use trace_variables::{frames_have_variables, variables_at};
 
 /// A walk through the points of a root, which its launcher owns. It holds nothing of the arena.
 #[derive(Drop)]
@@ -179,7 +179,7 @@ impl Debug {
     pub fn stack(&self, alloc: Global, arena: &TraceArena<TraceItem>) -> Result<Frames, OutOfMemory>
         requires trace { HasTrace arena.now.nodes self.now }
         requires stopped { IsSome self.now.place }
-        ensures { IfOk result (λ frames. stack_here arena.now.nodes self.now ≡ Some frames) }
+        ensures { IfOk result (λ frames. stack_here (trace_of arena.now.nodes self.now) self.now ≡ Some frames) }
     {
         stack_at(alloc, arena, self.root, self.index())
     }
@@ -193,9 +193,10 @@ impl Debug {
         globals: bool,
     ) -> Result<Variables, OutOfMemory>
         requires trace { HasTrace arena.now.nodes self.now }
-        requires frame { IsFrame (stack_here arena.now.nodes self.now) frame }
-        ensures { IfOk result (λ rows. ShowsHere arena.now.nodes self.now frame globals rows) }
+        requires frame { IsFrame (stack_here (trace_of arena.now.nodes self.now) self.now) frame }
+        ensures { IfOk result (λ rows. variables_here (trace_of arena.now.nodes self.now) self.now frame globals ≡ Some rows) }
     {
+        frames_have_variables();
         let shown = variables_at(alloc, arena, self.root, self.index(), frame)?;
         part(alloc, &shown.unwrap(), globals)
     }

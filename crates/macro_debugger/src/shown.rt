@@ -4,32 +4,15 @@ ghost use Rattle.std.specs.Bool.{beq};
 ghost use Rattle.std.specs.Option.{option_map};
 ghost use Rattle.trace_arena.specs.Nodes.{IsLive};
 ghost use Rattle.trace_arena.specs.Points.{points};
-ghost use Rattle.trace_cursor.specs.Pasts.{IsPath};
+ghost use Rattle.trace_cursor.specs.Pasts.{IsThere, AreThere};
 ghost use Rattle.trace_cursor.specs.Stacks.{stack_of};
-ghost use Rattle.trace_variables.specs.Calls.{IsThere, AreThere};
 ghost use Rattle.macro_debugger.specs.Seen.{frames_at, frames_there, part_of};
 
 use hl_base::{Frames, OutOfMemory};
 use std::alloc::Global;
-use trace_arena::{NodeId, TraceArena, arena_is_whole};
+use trace_arena::{NodeId, TraceArena};
 use trace_cursor::{ItemPlace, path};
 use trace_values::{TraceItem, Variable, Variables};
-
-/// The places on the way to a point, at each of which there is an item.
-fn way(
-    alloc: Global,
-    arena: &TraceArena<TraceItem>,
-    root: NodeId,
-    index: u32,
-) -> Result<Vec<ItemPlace>, OutOfMemory>
-    requires live { IsLive arena.now.nodes root.0 }
-    requires inside { index < length (points arena.now.nodes root.0) }
-    ensures path { IfOk result (λ places. IsPath arena.now.nodes root.0 index places.items) }
-    ensures there { IfOk result (λ places. AreThere arena.now.nodes places.items) }
-{
-    arena_is_whole(arena);
-    path(alloc, arena, root, index)
-}
 
 /// Adds the frames of the item of a place.
 fn push_frames(
@@ -70,7 +53,7 @@ pub(crate) fn stack_at(
     requires inside { index < length (points arena.now.nodes root.0) }
     ensures { IfOk result (λ frames. option_map stack_of (slice_get (points arena.now.nodes root.0) index) ≡ Some frames) }
 {
-    let places = way(alloc, arena, root, index)?;
+    let places = path(alloc, arena, root, index)?;
     frames_in(alloc, arena, places.as_slice())
 }
 
