@@ -11,7 +11,7 @@ program_of() {
         readings) echo reading_cases ;;
         debug_requests | debug_arguments | debug_bodies) echo message_cases ;;
         config_groups | config_programs | config_choices) echo message_cases ;;
-        nodes | chains) echo trace_cases ;;
+        nodes | chains | variables) echo trace_cases ;;
         frames | pieces | written_frames) echo text_cases ;;
         statements | fields | places) echo text_cases ;;
         changes | columns | positions | store) echo text_cases ;;

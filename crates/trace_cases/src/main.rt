@@ -1,4 +1,4 @@
-//! Compares tables of cases with what `trace_arena`, `trace_cursor` and `chain_arena` answer: `trace_cases TABLE` reads the
+//! Compares tables of cases with what `trace_arena`, `trace_cursor`, `trace_variables`, `macro_debugger` and `chain_arena` answer: `trace_cases TABLE` reads the
 //! cases of one table from standard input, prints each whose answer differs, and at the end `N passed, M failed`.
 //!
 //! tests/cases/README.md says what each table reads. What the crates promise stands on their own functions; here is only how
@@ -8,7 +8,9 @@
 mod links;
 mod nodes;
 mod points;
+mod stops;
 mod tables;
+mod variables;
 
 use case_lines::compare_tables;
 use std::process::ExitCode;

@@ -1,7 +1,11 @@
 //! Which nodes are live, and which stand in which.
+ghost use Rattle.std.specs.Prelude.{OnOk};
+ghost use Rattle.trace_arena.specs.Nodes.{IsUnshared};
+
 use hl_base::OutOfMemory;
 use std::alloc::Global;
-use trace_arena::TraceArena;
+use trace_arena::{NodeId, TraceArena};
+use trace_values::TraceItem;
 
 /// A node is linked twice, and then given up by its maker, and its parent after it.
 pub fn linked_twice(alloc: Global) -> Result<String, OutOfMemory> {
@@ -33,4 +37,19 @@ pub fn retained(alloc: Global) -> Result<String, OutOfMemory> {
     arena.release(root);
     let still = arena.live(root);
     Ok(format!(in alloc; "had room: {had_room}; live: {stays}; live: {still}")?)
+}
+
+/// Links a node as a child of another one, if it is live and not that one itself.
+pub(crate) fn link(
+    arena: &mut TraceArena<TraceItem>,
+    parent: NodeId,
+    child: NodeId,
+) -> Result<(), OutOfMemory>
+    requires { IsUnshared arena.old.nodes parent.0 }
+    ensures { OnOk result (IsUnshared arena.new.nodes parent.0) }
+{
+    if !arena.live(child) || child == parent {
+        return Ok(());
+    }
+    arena.link(parent, child)
 }

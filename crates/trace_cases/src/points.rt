@@ -17,7 +17,7 @@ use trace_values::{OwnFrames, Settings, TraceItem};
 const MANY: u32 = 100;
 
 /// An item of a macro's statement in a line.
-fn item(alloc: Global, line: u32) -> Result<TraceItem, OutOfMemory> {
+pub(crate) fn item(alloc: Global, line: u32) -> Result<TraceItem, OutOfMemory> {
     let origin = Origin {
         path: PathId(0),
         line,

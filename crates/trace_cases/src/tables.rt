@@ -1,5 +1,5 @@
 //! The tables by their words.
-use crate::{links, nodes, points};
+use crate::{links, nodes, points, stops, variables};
 use case_lines::CaseTable;
 use hl_base::OutOfMemory;
 use std::alloc::Global;
@@ -12,6 +12,9 @@ pub enum Table {
 
     /// Calls of chains.
     Chains,
+
+    /// What is shown of the variables of a frame of a point.
+    Variables,
 }
 
 /// What the calls of a name answer.
@@ -21,6 +24,7 @@ fn answer_of_name(alloc: Global, name: &str) -> Result<String, OutOfMemory> {
         "a root that is retained" => nodes::retained(alloc),
         "points of three items" => points::counted(alloc),
         "a walk through nested nodes" => points::walked(alloc),
+        "steps through nested nodes" => stops::stepped(alloc),
         "bytes of an item" => points::item_bytes(alloc),
         _ => Ok(String::from_str(alloc, "no such calls")?),
     }
@@ -31,6 +35,7 @@ impl CaseTable for Table {
         match word {
             "nodes" => Some(Table::Nodes),
             "chains" => Some(Table::Chains),
+            "variables" => Some(Table::Variables),
             _ => None,
         }
     }
@@ -39,6 +44,9 @@ impl CaseTable for Table {
         match (*self, fields) {
             (Table::Nodes, [name]) => answer_of_name(alloc, name.as_str()),
             (Table::Chains, calls) => links::answers(alloc, calls),
+            (Table::Variables, [index, frame]) => {
+                variables::answer(alloc, index.as_str(), frame.as_str())
+            }
             _ => Ok(String::from_str(alloc, "of other fields than the table's")?),
         }
     }
