@@ -1,0 +1,16 @@
+pub mod Places
+pub mod States
+pub mod Labels
+pub mod Needs
+pub mod Legible
+pub mod Instructions
+pub mod Constants
+pub mod Marks
+pub mod Sections
+pub mod Equates
+pub mod Orgs
+pub mod Pools
+pub mod Symbols
+pub mod Ends
+pub mod Steps
+pub mod Views
