@@ -1,0 +1,5 @@
+pub mod Turns
+pub mod Lasts
+pub mod Ranges
+pub mod Maps
+pub mod Counts

@@ -1,0 +1,5 @@
+pub mod Rows
+pub mod Walks
+pub mod SectionLists
+pub mod Layout
+pub mod Views

@@ -1,0 +1,36 @@
+-- What the program's values are (this project).
+use Rattle.std.specs.Prelude.{List, map}
+use Rattle.std.specs.Borrow.{Bor}
+use Rattle.hl_base.specs.declared.set.Line.{Line}
+use Rattle.literal_places.specs.Shown.{literals_of}
+use Rattle.ordinary_symbols.specs.Shown.{table_of}
+use Rattle.section_steps.specs.Views.{laid_of}
+use Rattle.section_layout.specs.declared.walk.Met as met
+use Rattle.section_layout.specs.declared.layout.Layout as layout
+use Rattle.section_layout.specs.declared.layout.StatementLayout as statement
+use Rattle.section_layout.specs.Layout as spec
+use Rattle.section_layout.specs.Walks as walks
+
+-- lines that are lent
+abbrev pub lines_of : List (Bor Line) → List Line
+lines_of lines = map (λ line. line.now) lines
+
+abbrev pub met_of : met.Met → walks.Met
+met_of one = record { laid = laid_of one.laid; symbols = one.symbols }
+
+abbrev pub statement_of : statement.StatementLayout → spec.Statement
+statement_of one = record {
+  place = one.place;
+  bytes = one.bytes;
+  uses = one.uses.items;
+  symbols = one.symbols;
+  rows = one.rows.items;
+}
+
+abbrev pub layout_view : layout.Layout → spec.Layout
+layout_view layout = record {
+  statements = map statement_of layout.statements.items;
+  sections = layout.sections;
+  literals = literals_of layout.literals;
+  symbols = table_of layout.symbols;
+}

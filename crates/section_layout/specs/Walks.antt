@@ -1,0 +1,41 @@
+-- Statements that are laid out one after the other (HLASM Language Reference SC26-4940, "Location counter"): each by what there is
+-- behind those before it.
+use Rattle.std.specs.Prelude.{ℕ, List, [], ◌∷◌, ◌++◌, length}
+use Rattle.hl_base.specs.declared.set.Line.{Line}
+use Rattle.layout_statements.specs.Statements.{Statement, statement}
+use Rattle.note_rows.specs.declared.row.Row.{Row}
+use Rattle.section_steps.specs.States.{State, Laid}
+use Rattle.section_steps.specs.Steps.{behind, laid}
+
+-- a statement that is laid out, and how many symbols there are behind it
+pub record Met : Type 0 where
+  pub laid : Laid
+  pub symbols : ℕ
+
+unfoldable pub read : Line → Statement
+read line = statement line.label line.op line.operands
+
+unfoldable pub met : Line → State → Met
+met line state = record { laid = laid (read line) state; symbols = length (behind (read line) state).symbols }
+
+unfoldable pub state_behind : Line → State → State
+state_behind line state = behind (read line) state
+
+-- the statements of some lines, and what there is behind them
+abbrev pub all_met : List Line → State → List Met
+all_met [] state = []
+all_met (line ∷ lines) state = met line state ∷ all_met lines (state_behind line state)
+
+abbrev pub all_behind : List Line → State → State
+all_behind [] state = state
+all_behind (line ∷ lines) state = all_behind lines (state_behind line state)
+
+-- a statement of whose place this is said too
+abbrev pub also_said : List Row → Met → Met
+also_said rows one = record one { laid = record one.laid { said = one.laid.said ++ rows } }
+
+-- the last statement
+abbrev pub also_said_of_last : List Row → List Met → List Met
+also_said_of_last rows [] = []
+also_said_of_last rows (one ∷ []) = also_said rows one ∷ []
+also_said_of_last rows (one ∷ two ∷ others) = one ∷ also_said_of_last rows (two ∷ others)

@@ -1,0 +1,72 @@
+//! Statements that are laid out one after the other.
+ghost use Rattle.std.specs.Prelude.{◌≡◌, ◌++◌, ◌∷◌, [], map, IfOk, OnOk};
+ghost use Rattle.section_layout.specs.Views.{lines_of, met_of};
+ghost use Rattle.section_layout.specs.Walks as spec;
+ghost use Rattle.section_steps.specs.Views.{state_of};
+
+use hl_base::{Line, OutOfMemory};
+use layout_statements::LayoutStatement;
+use note_rows::Row;
+use section_steps::{Laid, State};
+use std::alloc::Global;
+use std::collections::VecDeque;
+
+/// A statement that is laid out, and how many symbols there are behind it.
+#[derive(Drop)]
+pub(crate) struct Met {
+    pub(crate) laid: Laid,
+    pub(crate) symbols: usize,
+}
+
+/// Lays out the statement of a line.
+#[tactic(auto, unfolding(crate::specs::Walks::read, crate::specs::Walks::met, crate::specs::Walks::state_behind))]
+fn meet(alloc: Global, state: &mut State, line: &Line) -> Result<Met, OutOfMemory>
+    ensures behind { OnOk result (state_of state.new ≡ spec.state_behind line.now (state_of state.old)) }
+    ensures met { IfOk result (λ one. met_of one ≡ spec.met line.now (state_of state.old)) }
+{
+    let statement = LayoutStatement::read(alloc, line)?;
+    let laid = state.step(alloc, statement)?;
+    Ok(Met {
+        laid,
+        symbols: state.symbols.count(),
+    })
+}
+
+/// Adds a statement behind others.
+fn push(all: &mut VecDeque<Met>, one: Met) -> Result<(), OutOfMemory>
+    ensures { OnOk result (all.new.items ≡ all.old.items ++ one ∷ []) }
+{
+    all.push_back(one)?;
+    Ok(())
+}
+
+/// Lays out the statements of some lines.
+#[tactic(auto, using(crate::proofs::Maps::mapped_next))]
+pub(crate) fn meet_all(
+    alloc: Global,
+    state: &mut State,
+    mut lines: &[&Line],
+) -> Result<VecDeque<Met>, OutOfMemory>
+    ensures behind { OnOk result (state_of state.new ≡ spec.all_behind (lines_of lines.entry.now) (state_of state.old)) }
+    ensures met { IfOk result (λ all. map met_of all.items ≡ spec.all_met (lines_of lines.entry.now) (state_of state.old)) }
+{
+    let mut all = VecDeque::new(alloc);
+    while let [line, rest @ ..] = lines {
+        let one = meet(alloc, state, line)?;
+        push(&mut all, one)?;
+        lines = rest;
+    }
+    Ok(all)
+}
+
+/// Of the place of the last statement this is said too.
+#[tactic(auto, using(crate::proofs::Lasts::said_of_last))]
+pub(crate) fn say_of_last(all: &mut VecDeque<Met>, mut rows: Vec<Row>) -> Result<(), OutOfMemory>
+    ensures { OnOk result (map met_of all.new.items ≡ spec.also_said_of_last rows.items (map met_of all.old.items)) }
+{
+    if let Some(mut last) = all.pop_back() {
+        last.laid.said.append(&mut rows)?;
+        push(all, last)?;
+    }
+    Ok(())
+}
