@@ -2,5 +2,6 @@ pub mod LineLaws
 pub mod StackLaws
 pub mod ListLaws
 pub mod PointLaws
+pub mod StatementLaws
 pub mod PlainRuns
 pub mod OpenCode

@@ -1,5 +1,6 @@
 pub mod ColumnNotes
 pub mod PointNotes
+pub mod Statements
 pub mod Stacks
 pub mod Notes
 pub mod Runs

@@ -1,6 +1,6 @@
 -- What is reported of a program whose open code was run (this project).
 use Rattle.std.specs.Prelude.{◌==◌, ◌&&◌, ℕ, Bool, true, false, List, [], ◌∷◌, ◌++◌, if◌then◌else◌}
-use Rattle.std.specs.List.{list_any, flat_map}
+use Rattle.std.specs.List.{list_any}
 use Rattle.hl_base.specs.declared.note.Note.{Note}
 use Rattle.hl_base.specs.declared.place.Frame.{Frame}
 use Rattle.note_rows.specs.Table.{line, noted}
@@ -9,7 +9,7 @@ use Rattle.trace_values.specs.declared.item.TraceItem.{TraceItem}
 use Rattle.trace_arena.specs.Points.{Point}
 use Rattle.asking_core.specs.Runs.{Ending, ByLeave, ByEnd, ByBudget}
 use Rattle.program_assembly.specs.ColumnNotes.{column_notes, missing_end}
-use Rattle.program_assembly.specs.PointNotes.{point_notes}
+use Rattle.program_assembly.specs.Statements.{all_noted}
 
 -- What the run of open code comes to: its points, how it ended, and the frames of the statement for which no unit of the
 -- budget was left, those of the innermost call first.
@@ -51,6 +51,6 @@ abbrev pub end_notes : (path : ℕ) (text : List ℕ) → Ran → List Note
 end_notes path text ran = end_notes_by ran.ended (missing_end path text) ran
 
 -- the notes: the column faults of the program's text, those of each point, in turn, and that of the end. A column fault of a
--- member is noted at each point of its statement
+-- member is noted at each point of its statement. What layout says of a statement follows what its expansion says
 abbrev pub notes_of : (path : ℕ) (text : List ℕ) → Ran → List Note
-notes_of path text ran = column_notes path text ++ (flat_map (point_notes path) ran.points ++ end_notes path text ran)
+notes_of path text ran = column_notes path text ++ (all_noted path ran.points ++ end_notes path text ran)

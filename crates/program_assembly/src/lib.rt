@@ -17,6 +17,7 @@ mod places;
 mod plain;
 mod point_notes;
 mod report;
+mod statements;
 
 pub use assembler::Assembler;
 pub use assembly::{Assembly, assemble};

@@ -8,9 +8,11 @@ ghost use Rattle.program_assembly.specs.Runs.{ran_of};
 use crate::column_notes::{add_column_notes, last_line};
 use crate::end_notes::add_end_notes;
 use crate::point_notes::add_point_notes;
+use crate::statements::generated;
 use expansion_memo::Outcome;
 use hl_base::{Frames, Notes, OutOfMemory, PathId};
 use hlasm_statements::read_statements;
+use section_layout::lay_out;
 use std::alloc::Global;
 use trace_arena::TraceArena;
 use trace_values::TraceItem;
@@ -30,7 +32,10 @@ pub(crate) fn notes_of(
     let statements = statements.as_slice();
     let mut notes = Notes::new(alloc);
     add_column_notes(alloc, path, statements, &mut notes)?;
-    add_point_notes(alloc, path, arena, outcome.node, &mut notes)?;
+    let lines = generated(alloc, arena, outcome.node)?;
+    let lines = lines.as_slice();
+    let layout = lay_out(alloc, lines)?;
+    add_point_notes(alloc, path, arena, outcome.node, &layout, &mut notes)?;
     add_end_notes(
         alloc,
         path,

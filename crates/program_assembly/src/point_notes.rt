@@ -1,16 +1,24 @@
 //! What is noted of the points of a run, each at its whole stack.
 ghost use Rattle.std.specs.Prelude.{◌≡◌, ◌++◌, ◌<◌, [], length, IfOk, OnOk, slice_get, Some};
+ghost use Rattle.std.specs.Bool.{OnTrue};
 ghost use Rattle.std.specs.Option.{option_map, option_map_or};
 ghost use Rattle.std.specs.List.{flat_map};
 ghost use Rattle.trace_arena.specs.Nodes.{IsLive};
 ghost use Rattle.trace_arena.specs.Points.{points};
 ghost use Rattle.trace_cursor.specs.Pasts.{AreThere};
-ghost use Rattle.program_assembly.specs.PointNotes.{at_stack, is_of_columns, point_notes, notes_at, stack_at, stands_in};
+ghost use Rattle.trace_cursor.specs.Stacks.{stack_of};
+ghost use Rattle.section_layout.specs.Layout.{rows_of};
+ghost use Rattle.section_layout.specs.Views.{layout_view};
+ghost use Rattle.program_assembly.specs.PointNotes.{at_stack, is_of_columns, point_notes, notes_at, noted_at, stack_at, stands_in};
 ghost use Rattle.program_assembly.specs.Stacks.{frames_there, other_at};
+ghost use Rattle.program_assembly.specs.Statements.{noted_points, rows_at, said_of};
 
 use crate::places::item_at;
+use crate::statements::count_of;
 use hl_base::{Frames, Note, Notes, OutOfMemory, PathId};
 use hlasm_statements::ColumnFault;
+use note_rows::{Row, note};
+use section_layout::Layout;
 use std::alloc::Global;
 use trace_arena::{NodeId, TraceArena};
 use trace_cursor::{Cursor, ItemPlace, path};
@@ -120,7 +128,57 @@ fn add_others_at_stack(
     Ok(())
 }
 
-/// Adds the notes of the point of a number, whose item this is, of the program of a path.
+/// Adds what is noted of an item of the program of a path, at this stack.
+fn add_item_notes(
+    alloc: Global,
+    path: PathId,
+    item: &TraceItem,
+    stack: &Frames,
+    notes: &mut Notes,
+) -> Result<(), OutOfMemory>
+    ensures { OnOk result (notes.new ≡ notes.old ++ notes_at stack.now (noted_at path.0 item.now)) }
+{
+    let said = item.notes.as_slice();
+    if stands_in(path, item) {
+        return add_others_at_stack(alloc, said, stack, notes);
+    }
+    add_at_stack(alloc, said, stack, notes)
+}
+
+/// Adds what is said of a statement, at this stack.
+fn add_rows(
+    alloc: Global,
+    said: &[Row],
+    stack: &Frames,
+    notes: &mut Notes,
+) -> Result<(), OutOfMemory>
+    ensures { OnOk result (notes.new ≡ notes.old ++ rows_at stack.now said.now) }
+{
+    for row in said {
+        notes.push(note(alloc, row, stack.copy(alloc)?)?)?;
+    }
+    Ok(())
+}
+
+/// What layout says of the statement of an item, by the number of the statement, if the item generated one.
+fn said_of<'a>(layout: &'a Layout, statement: u32, item: &TraceItem) -> &'a [Row]
+    ensures { result.now ≡ said_of (rows_of (layout_view layout.now)) statement item.now.line }
+{
+    match &item.line {
+        Some(_) => layout.rows_of(statement),
+        None => &[],
+    }
+}
+
+/// Whether nothing is noted of an item, and nothing said of its statement.
+fn says_nothing(item: &TraceItem, said: &[Row]) -> bool
+    ensures notes { OnTrue result (item.now.notes ≡ []) }
+    ensures rows { OnTrue result (said.now ≡ []) }
+{
+    item.notes.as_slice().is_empty() && said.is_empty()
+}
+
+/// Adds the notes of the point of a number, whose item this is and of whose statement this is said, of the program of a path.
 fn add_notes_of(
     alloc: Global,
     path: PathId,
@@ -128,39 +186,45 @@ fn add_notes_of(
     root: NodeId,
     index: u32,
     item: &TraceItem,
+    said: &[Row],
     notes: &mut Notes,
 ) -> Result<(), OutOfMemory>
     requires live { IsLive arena.now.nodes root.0 }
     requires there { option_map (λ point. point.item) (slice_get (points arena.now.nodes root.0) index) ≡ Some item.now }
-    ensures { OnOk result (notes.new ≡ notes.old ++ option_map_or (point_notes path.0) (slice_get (points arena.now.nodes root.0) index) []) }
+    ensures { OnOk result (notes.new ≡ notes.old
+        ++ option_map_or (λ point. point_notes path.0 point ++ rows_at (stack_of point) said.now)
+        (slice_get (points arena.now.nodes root.0) index) []) }
 {
-    let said = item.notes.as_slice();
-    if said.is_empty() {
+    if says_nothing(item, said) {
         return Ok(());
     }
     let stack = stack_at(alloc, arena, root, index)?;
-    if stands_in(path, item) {
-        return add_others_at_stack(alloc, said, &stack, notes);
-    }
-    add_at_stack(alloc, said, &stack, notes)
+    add_item_notes(alloc, path, item, &stack, notes)?;
+    add_rows(alloc, said, &stack, notes)
 }
 
-/// Adds the notes of each point of a root, in turn, of the program of a path.
+/// Adds the notes of each point of a root, in turn, of the program of a path, with what the layout of its statements says.
 pub(crate) fn add_point_notes(
     alloc: Global,
     path: PathId,
     arena: &TraceArena<TraceItem>,
     root: NodeId,
+    layout: &Layout,
     notes: &mut Notes,
 ) -> Result<(), OutOfMemory>
     requires live { IsLive arena.now.nodes root.0 }
-    ensures { OnOk result (notes.new ≡ notes.old ++ flat_map (point_notes path.0) (points arena.now.nodes root.0)) }
+    ensures { OnOk result (notes.new ≡ notes.old
+        ++ noted_points path.0 (rows_of (layout_view layout.now)) 0 (points arena.now.nodes root.0)) }
 {
     let Some(mut cursor) = Cursor::at(arena, root, 0) else {
         return Ok(());
     };
+    let mut statements = 0;
     for index in 0..arena.points(root) {
-        add_notes_of(alloc, path, arena, root, index, cursor.item(arena), notes)?;
+        let item = cursor.item(arena);
+        let said = said_of(layout, statements, item);
+        add_notes_of(alloc, path, arena, root, index, item, said, notes)?;
+        statements += count_of(item);
         let _ = cursor.advance(arena);
     }
     Ok(())

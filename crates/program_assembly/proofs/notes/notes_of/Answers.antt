@@ -1,11 +1,13 @@
-use Rattle.std.proofs.Common.{◌≡◌, ◌-◌, ◌++◌, [], length, ap, sym, ◌∙◌, append_assoc}
+use Rattle.std.proofs.Common.{◌≡◌, ◌-◌, List, ◌++◌, [], Bor, length, ap, sym, ◌∙◌, append_assoc}
 use Rattle.std.specs.List.{flat_map}
 use Rattle.std.specs.Str.{chars}
 use Rattle.hl_base.specs.Texts.{lines}
 use Rattle.note_rows.specs.declared.row.Row.TheVariants.{MissingEnd}
-use Rattle.trace_arena.specs.Points.{points}
+use Rattle.hl_base.specs.declared.set.Line.{Line}
+use Rattle.section_layout.specs.Layout.{Layout, layout_of, rows_of}
+use Rattle.section_layout.specs.Views.{layout_view, lines_of}
 use Rattle.program_assembly.specs.ColumnNotes.{note_at, fault_notes, column_notes}
-use Rattle.program_assembly.specs.PointNotes.{point_notes}
+use Rattle.program_assembly.specs.Statements.{generated, noted_points, all_noted}
 use Rattle.program_assembly.specs.Notes.{end_notes_by}
 use Rattle.program_assembly.specs.Runs.{ran_of}
 use Rattle.program_assembly.proofs.LineLaws.{last_of_text}
@@ -21,9 +23,15 @@ returns c =
     let last : c.last_line.result ≡ length (lines text) - 1 = last_of_text text statements c.last_line.result here c.last_line.ensures in
     let columns : c.add_column_notes.new.notes ≡ column_notes path text =
     c.in_ok-add_column_notes.ensures ∙ ap (λ ns. ns ++ flat_map (fault_notes path) statements) c.new-notes.ensures ∙ ap (flat_map (fault_notes path)) here in
-    let behind : c.add_point_notes.new.notes ≡ column_notes path text ++ flat_map (point_notes path) ran.points =
-    c.in_ok-add_point_notes.ensures ∙ ap (λ ns. ns ++ flat_map (point_notes path) ran.points) columns in
+    let layout : layout_view c.in_ok-layout.layout ≡ layout_of (generated ran.points) =
+    c.in_ok-layout.ensures
+    ∙ ap (λ (ls : List (Bor Line)). layout_of (lines_of ls)) c.as_slice-lines.ensures.value
+    ∙ ap layout_of c.in_ok-lines.ensures in
+    let behind : c.add_point_notes.new.notes ≡ column_notes path text ++ all_noted path ran.points =
+    c.in_ok-add_point_notes.ensures
+    ∙ ap (λ ns. ns ++ noted_points path (rows_of (layout_view c.in_ok-layout.layout)) 0 ran.points) columns
+    ∙ ap (λ (l : Layout). column_notes path text ++ noted_points path (rows_of l) 0 ran.points) layout in
     c.in_ok-add_end_notes.ensures
     ∙ ap (λ n. c.add_point_notes.new.notes ++ end_notes_by ran.ended (note_at path n MissingEnd) ran) last
     ∙ ap (λ ns. ns ++ end_notes_by ran.ended (note_at path (length (lines text) - 1) MissingEnd) ran) behind
-    ∙ append_assoc (column_notes path text) (flat_map (point_notes path) ran.points) (end_notes_by ran.ended (note_at path (length (lines text) - 1) MissingEnd) ran)
+    ∙ append_assoc (column_notes path text) (all_noted path ran.points) (end_notes_by ran.ended (note_at path (length (lines text) - 1) MissingEnd) ran)
