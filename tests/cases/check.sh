@@ -19,7 +19,7 @@ program_of() {
         arithmetic_trees | ordinary_trees | character_trees | logical_trees) echo expression_cases ;;
         numbers | truths | texts | note_texts) echo expression_cases ;;
         attributes | defining_operations) echo attribute_cases ;;
-        constants | literals | layout_statements) echo layout_cases ;;
+        constants | literals | layout_statements | layout) echo layout_cases ;;
         expression_notes | symbol_definitions | constant_expressions) echo layout_cases ;;
         declarations | branches | templates | field_ends | operations | effects | calls) echo statement_cases ;;
         expansions) echo expansion_cases ;;

@@ -8,6 +8,7 @@
 mod constants;
 mod definitions;
 mod expressions;
+mod layouts;
 mod literals;
 mod numbers;
 mod rows;

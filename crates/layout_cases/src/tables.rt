@@ -1,5 +1,5 @@
 //! The tables by their words.
-use crate::{constants, definitions, expressions, literals, numbers, statements};
+use crate::{constants, definitions, expressions, layouts, literals, numbers, statements};
 use case_lines::CaseTable;
 use hl_base::OutOfMemory;
 use std::alloc::Global;
@@ -19,6 +19,8 @@ pub enum Table {
     Literals,
     /// What layout reads of a generated statement.
     LayoutStatements,
+    /// The layout of generated statements.
+    Layout,
 }
 
 impl CaseTable for Table {
@@ -30,6 +32,7 @@ impl CaseTable for Table {
             "symbol_definitions" => Some(Table::SymbolDefinitions),
             "literals" => Some(Table::Literals),
             "layout_statements" => Some(Table::LayoutStatements),
+            "layout" => Some(Table::Layout),
             _ => None,
         }
     }
@@ -61,6 +64,9 @@ impl CaseTable for Table {
             (Table::Literals, [operand]) => literals::literal(alloc, operand.as_str()),
             (Table::LayoutStatements, [entry, op, operands]) => {
                 statements::statement(alloc, entry.as_str(), op.as_str(), operands.as_str())
+            }
+            (Table::Layout, [shown, statements]) => {
+                layouts::laid_out(alloc, shown.as_str(), statements.as_str())
             }
             _ => Ok(String::from_str(alloc, "of other fields than the table's")?),
         }
