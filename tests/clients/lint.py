@@ -22,6 +22,7 @@ SURPLUS = "error: more than nine continuation lines [H002]"
 NO_END = "warning: END statement is missing [H003]"
 CUT = "warning: the text ends where a continuation line is expected [H005]"
 OPEN = "error: an apostrophe is not closed [H006]"
+BAD_CONSTANT = "error: the constant cannot be read [H060]"
 
 END = "         END\n"
 
@@ -45,7 +46,7 @@ LISTED = [
     ("at_column_16.hlasm", marked("A        LR    1,2") + " " * 15 + "B\n" + END, []),
     ("nine.hlasm", marked("*") + marked("") * 8 + "\n" + END, []),
     ("ten.hlasm", marked("*") + marked("") * 9 + "\n" + END, [f"1:1: {SURPLUS}"]),
-    ("ten_of_a_constant.hlasm", marked("A        DC    X'") + marked("") * 9 + " " * 15 + "00'\n" + END, [f"1:1: {SURPLUS}", f"1:1: {OPEN}"]),
+    ("ten_of_a_constant.hlasm", marked("A        DC    X'") + marked("") * 9 + " " * 15 + "00'\n" + END, [f"1:1: {SURPLUS}", f"1:1: {OPEN}", f"1:1: {BAD_CONSTANT}"]),
     ("ten_of_a_condition.hlasm", marked("         AIF   (0).A,") + marked(" " * 15 + "(0).A,") * 9 + " " * 15 + "(1).B\n.A       LR    1\n.B" + END[2:], []),
     ("cut.hlasm", END + marked("*")[:-1], [f"2:1: {CUT}"]),
     ("order.hlasm", "\n" + marked("*") + "*\n" + BAD_MARGIN, [f"2:1: {MARGIN}", f"4:1: {MARGIN}", f"6:1: {NO_END}"]),
