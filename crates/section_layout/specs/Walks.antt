@@ -1,9 +1,11 @@
 -- Statements that are laid out one after the other (HLASM Language Reference SC26-4940, "Location counter"): each by what there is
 -- behind those before it.
-use Rattle.std.specs.Prelude.{ℕ, List, [], ◌∷◌, ◌++◌, length}
+use Rattle.std.specs.Prelude.{ℕ, Bool, true, false, if◌then◌else◌, List, [], ◌∷◌, ◌++◌, length}
+use Rattle.std.specs.List.{list_any}
 use Rattle.hl_base.specs.declared.set.Line.{Line}
 use Rattle.layout_statements.specs.Statements.{Statement, statement}
 use Rattle.note_rows.specs.declared.row.Row.{Row}
+use Rattle.note_rows.specs.declared.row.Row.TheVariants.{SectionTooLong}
 use Rattle.section_steps.specs.States.{State, Laid}
 use Rattle.section_steps.specs.Steps.{behind, laid}
 
@@ -30,9 +32,18 @@ abbrev pub all_behind : List Line → State → State
 all_behind [] state = state
 all_behind (line ∷ lines) state = all_behind lines (state_behind line state)
 
+-- whether a row says that the section gets too long
+abbrev pub says_too_long : Row → Bool
+says_too_long SectionTooLong = true
+says_too_long other = false
+
+-- rows behind others, unless it is said already that the section gets too long
+unfoldable pub said_once : (given rows : List Row) → List Row
+said_once given rows = if list_any says_too_long given then given else given ++ rows
+
 -- a statement of whose place this is said too
 abbrev pub also_said : List Row → Met → Met
-also_said rows one = record one { laid = record one.laid { said = one.laid.said ++ rows } }
+also_said rows one = record one { laid = record one.laid { said = said_once one.laid.said rows } }
 
 -- the last statement
 abbrev pub also_said_of_last : List Row → List Met → List Met

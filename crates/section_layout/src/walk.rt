@@ -1,5 +1,6 @@
 //! Statements that are laid out one after the other.
 ghost use Rattle.std.specs.Prelude.{◌≡◌, ◌++◌, ◌∷◌, [], map, IfOk, OnOk};
+ghost use Rattle.std.specs.List.{list_any};
 ghost use Rattle.section_layout.specs.Views.{lines_of, met_of};
 ghost use Rattle.section_layout.specs.Walks as spec;
 ghost use Rattle.section_steps.specs.Views.{state_of};
@@ -59,13 +60,42 @@ pub(crate) fn meet_all(
     Ok(all)
 }
 
+/// Whether a row says that the section gets too long.
+fn says_too_long(row: &Row) -> bool
+    ensures { result ≡ spec.says_too_long row.now }
+{
+    match row {
+        Row::SectionTooLong => true,
+        _ => false,
+    }
+}
+
+/// Whether that is said.
+fn is_said(rows: &[Row]) -> bool
+    ensures { result ≡ list_any spec.says_too_long rows.now }
+{
+    rows.iter().any(|row| says_too_long(row))
+}
+
+/// Adds rows behind others, unless it is said already that the section gets too long.
+#[tactic(auto, unfolding(crate::specs::Walks::said_once))]
+fn say_once(said: &mut Vec<Row>, rows: &mut Vec<Row>) -> Result<(), OutOfMemory>
+    ensures { OnOk result (said.new.items ≡ spec.said_once said.old.items rows.old.items) }
+{
+    if is_said(said.as_slice()) {
+        return Ok(());
+    }
+    said.append(rows)?;
+    Ok(())
+}
+
 /// Of the place of the last statement this is said too.
 #[tactic(auto, using(crate::proofs::Lasts::said_of_last))]
 pub(crate) fn say_of_last(all: &mut VecDeque<Met>, mut rows: Vec<Row>) -> Result<(), OutOfMemory>
     ensures { OnOk result (map met_of all.new.items ≡ spec.also_said_of_last rows.items (map met_of all.old.items)) }
 {
     if let Some(mut last) = all.pop_back() {
-        last.laid.said.append(&mut rows)?;
+        say_once(&mut last.laid.said, &mut rows)?;
         push(all, last)?;
     }
     Ok(())
