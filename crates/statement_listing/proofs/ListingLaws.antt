@@ -171,16 +171,6 @@ line-read all lines after source at line within is read pushed =
     ∙ ap (λ l. (lines ++ l ∷ []) ++ rest) (sym read)
     ∙ ap (λ ls. ls ++ rest) (sym pushed)
 
--- one line more is processed
-pub line-shown : (all points after : List Listed) (one point : Listed) (rest : List Listed) (reading : Reading) → processed one.statement ≡ Some reading →
-    all ≡ points ++ plain_lines (one ∷ rest) → point ≡ one → after ≡ points ++ point ∷ [] → all ≡ after ++ plain_lines rest
-line-shown all points after one point rest reading some is same pushed =
-    is
-    ∙ ap (λ ls. points ++ ls) (plain_lines-plain one rest reading some)
-    ∙ sym (append_assoc points (one ∷ []) (plain_lines rest))
-    ∙ ap (λ l. (points ++ l ∷ []) ++ plain_lines rest) (sym same)
-    ∙ ap (λ ls. ls ++ plain_lines rest) (sym pushed)
-
 -- what is left of a list, whose item at a place is this
 pub line-at : (all : List Listed) (i : ℕ) (one : Listed) → i < length all → one ≡ get_or all i one → drop i all ≡ one ∷ drop (i + 1) all
 line-at all i one within is =

@@ -1,5 +1,5 @@
 -- Which lines are processed, one line after the other.
-use Rattle.std.proofs.Common.{◌≡◌, ◌∙◌, ◌+◌, ◌≤◌, ℕ, zero, suc, Bool, true, false, cond, List, [], ◌∷◌, ◌++◌, length, take, Option, Some, None, refl, sym, ap, append_assoc, arith}
+use Rattle.std.proofs.Common.{◌≡◌, ◌∙◌, ◌+◌, ◌-◌, ◌≤◌, ℕ, zero, suc, Bool, true, false, cond, List, [], ◌∷◌, ◌++◌, length, take, Option, Some, None, refl, sym, ap, append_assoc, arith}
 use Rattle.std.specs.List.{slice_get}
 use Rattle.statement_listing.specs.Listings.{Listed, is_plain, plain_lines, plain_numbers}
 use Rattle.statement_listing.specs.Sources.{places_before}
@@ -49,3 +49,58 @@ place-past place [] (suc line) is = refl
 place-past place (one ∷ rest) zero is = cc
 place-past place (one ∷ rest) (suc line) is =
     ap (λ ls. cond (is_plain one.statement.shape) (one ∷ ls) ls) (place-past (cond (is_plain one.statement.shape) (place + 1) place) rest line is)
+
+-- as many numbers as lines that are processed
+numbers_count-by : (first n : ℕ) (one : Listed) (rest : List Listed) (p : Bool) → n ≡ length (plain_lines rest) → length (plain_numbers (first + 1) rest) ≡ n →
+    length (cond p (first ∷ plain_numbers (first + 1) rest) (plain_numbers (first + 1) rest)) ≡ length (cond p (one ∷ plain_lines rest) (plain_lines rest))
+numbers_count-by first n one rest true is count = omega (arith, is, count)
+numbers_count-by first n one rest false is count = count ∙ is
+
+pub numbers-count : (first : ℕ) (list : List Listed) → length (plain_numbers first list) ≡ length (plain_lines list)
+numbers-count first [] = refl
+numbers-count first (one ∷ rest) =
+    numbers_count-by first (length (plain_lines rest)) one rest (is_plain one.statement.shape) refl (numbers-count (first + 1) rest)
+
+-- ---- the line of a number
+
+-- one line more stands before the first
+one_before : (o : Option Listed) (first n : ℕ) (one : Listed) (rest : List Listed) → (first + 1 ≤ n) × (o ≡ slice_get rest (n - (first + 1))) →
+    (first ≤ n) × (o ≡ slice_get (one ∷ rest) (n - first))
+one_before o first n one rest found =
+    let more : suc (n - (first + 1)) ≡ n - first = omega (arith, found.0) in
+    (omega (arith, found.0), found.1 ∙ ap (slice_get (one ∷ rest)) more)
+
+there-by : (first place n : ℕ) (one : Listed) (rest : List Listed) (b : Bool) →
+    ((q : ℕ) → slice_get (plain_numbers (first + 1) rest) q ≡ Some n → (first + 1 ≤ n) × (slice_get (plain_lines rest) q ≡ slice_get rest (n - (first + 1)))) →
+    slice_get (cond b (first ∷ plain_numbers (first + 1) rest) (plain_numbers (first + 1) rest)) place ≡ Some n →
+    (first ≤ n) × (slice_get (cond b (one ∷ plain_lines rest) (plain_lines rest)) place ≡ slice_get (one ∷ rest) (n - first))
+there-by first zero n one rest true inside is =
+    let same : first ≡ n = cc in
+    let none : 0 ≡ n - first = omega (arith, same) in
+    (omega (arith, same), ap (slice_get (one ∷ rest)) none)
+there-by first (suc q) n one rest true inside is = one_before (slice_get (plain_lines rest) q) first n one rest (inside q is)
+there-by first place n one rest false inside is = one_before (slice_get (plain_lines rest) place) first n one rest (inside place is)
+
+-- the line that is processed at a place has its number in the list
+pub numbered-there : (first : ℕ) (list : List Listed) (place n : ℕ) → slice_get (plain_numbers first list) place ≡ Some n →
+    (first ≤ n) × (slice_get (plain_lines list) place ≡ slice_get list (n - first))
+numbered-there first [] zero n is = cc
+numbered-there first [] (suc place) n is = cc
+numbered-there first (one ∷ rest) place n is =
+    there-by first place n one rest (is_plain one.statement.shape) (λ q found. numbered-there (first + 1) rest q n found) is
+
+past-by : (first place : ℕ) (one : Listed) (rest : List Listed) (b : Bool) →
+    ((q : ℕ) → slice_get (plain_numbers (first + 1) rest) q ≡ None → slice_get (plain_lines rest) q ≡ None) →
+    slice_get (cond b (first ∷ plain_numbers (first + 1) rest) (plain_numbers (first + 1) rest)) place ≡ None →
+    slice_get (cond b (one ∷ plain_lines rest) (plain_lines rest)) place ≡ None
+past-by first zero one rest true inside is = cc
+past-by first (suc q) one rest true inside is = inside q is
+past-by first place one rest false inside is = inside place is
+
+-- where there is no number there is no line
+pub numbered-past : (first : ℕ) (list : List Listed) (place : ℕ) → slice_get (plain_numbers first list) place ≡ None →
+    slice_get (plain_lines list) place ≡ None
+numbered-past first [] zero is = refl
+numbered-past first [] (suc place) is = refl
+numbered-past first (one ∷ rest) place is =
+    past-by first place one rest (is_plain one.statement.shape) (λ q none. numbered-past (first + 1) rest q none) is

@@ -34,7 +34,7 @@ impl Model for Line {
 }
 
 /// Whether statements of a shape are processed.
-pub(crate) fn is_plain(shape: Shape) -> bool
+fn is_plain(shape: Shape) -> bool
     ensures { result ≡ is_plain shape }
 {
     match shape {
@@ -100,6 +100,13 @@ impl Line {
             path: self.source.path,
             line: self.statement().first,
         }
+    }
+
+    /// Whether it is processed.
+    pub(crate) fn is_processed(&self) -> bool
+        ensures { result ≡ is_plain self.now.statement.shape }
+    {
+        self.reading.is_some()
     }
 
     /// How it is read; `None` exactly where it is not processed, as a comment or a blank statement.

@@ -14,11 +14,10 @@ use std::alloc::Global;
 use std::marker::Model;
 use std::rc::Rc;
 
-/// What a list holds: its lines, those that are processed, the places among these of their labels, and which lines these are.
+/// What a list holds: its lines, the places of labels among those that are processed, and which lines these are.
 #[derive(Drop)]
 struct Body {
     lines: Vec<Line>,
-    points: Vec<Line>,
     places: IndexMap<String, u32>,
     numbering: Numbering,
 }
@@ -32,15 +31,14 @@ pub struct Listing {
 
 impl Model for Listing {
     ghost use Rattle.std.specs.Prelude.{◌≡◌, List};
-    ghost use Rattle.statement_listing.specs.Listings.{Listed, elements, plain_lines};
+    ghost use Rattle.statement_listing.specs.Listings.{Listed, elements};
     ghost use Rattle.statement_listing.specs.Sources.{IsIndex, IsNumbering};
 
     ghost Value = { List Listed };
 
     ghost view = { λ l. l.body.value.lines.items };
 
-    ghost invariant = { λ l. (l.body.value.points.items ≡ plain_lines l.body.value.lines.items)
-        × IsIndex l.body.value.places.entries (elements l.body.value.lines.items)
+    ghost invariant = { λ l. IsIndex l.body.value.places.entries (elements l.body.value.lines.items)
         × IsNumbering l.body.value.numbering l.body.value.lines.items };
 }
 
@@ -76,24 +74,21 @@ impl Listing {
     pub fn of_lines(alloc: Global, lines: Vec<Line>) -> Result<Listing, OutOfMemory>
         ensures { IfOk result (λ l. l ≡ lines.items) }
     {
-        let mut points = Vec::new(alloc);
         let mut places = IndexMap::new(alloc);
         let mut begun = 0;
+        let mut place = 0;
         for line in lines.as_slice() {
             let Some(reading) = line.reading() else {
                 continue;
             };
             let label = found_label(begun, &reading.sequence_label);
-            let place = points.as_slice().len();
             note_found(&mut places, alloc, label, place)?;
             begun = begun_behind(begun, &reading.instruction);
-            let point = line.share()?;
-            points.push(point)?;
+            place += 1;
         }
         let numbering = Numbering::of(alloc, lines.as_slice())?;
         let body = Body {
             lines,
-            points,
             places,
             numbering,
         };
@@ -118,12 +113,22 @@ impl Listing {
         self.body.lines.as_slice()
     }
 
+    /// The line of this number.
+    fn line_at(&self, number: u32) -> Option<&Line>
+        ensures { option_copied result ≡ slice_get self.now number }
+    {
+        match self.body.lines.get(number as usize) {
+            Some(line) => Some(line),
+            None => None,
+        }
+    }
+
     /// The line that is processed at this place.
     pub fn point(&self, place: u32) -> Option<&Line>
         ensures { option_copied result ≡ slice_get (plain_lines self.now) place }
     {
-        match self.body.points.get(place as usize) {
-            Some(line) => Some(line),
+        match self.line_number(place) {
+            Some(number) => self.line_at(number),
             None => None,
         }
     }
@@ -159,7 +164,7 @@ impl Listing {
     {
         match self.body.numbering.place(line) {
             Some(place) => Ok(place),
-            None => number_of(self.body.points.as_slice().len()),
+            None => number_of(self.body.numbering.count()),
         }
     }
 

@@ -1,10 +1,9 @@
 //! Which lines of a list are processed.
-ghost use Rattle.std.specs.Prelude.{◌≡◌, IfOk, slice_get};
+ghost use Rattle.std.specs.Prelude.{◌≡◌, IfOk, length, slice_get};
 ghost use Rattle.statement_listing.specs.Sources.{IsNumbering};
 
 use crate::Line;
 use crate::index::number_of;
-use crate::line::is_plain;
 use hl_base::OutOfMemory;
 use std::alloc::Global;
 
@@ -25,7 +24,7 @@ impl Numbering {
         for (at, line) in lines.iter().enumerate() {
             let place = number_of(numbers.as_slice().len())?;
             before.push(place)?;
-            if is_plain(line.statement().shape) {
+            if line.is_processed() {
                 numbers.push(number_of(at)?)?;
             }
         }
@@ -37,6 +36,13 @@ impl Numbering {
         ensures { result ≡ slice_get self.now.numbers.items place }
     {
         self.numbers.get(place as usize).copied()
+    }
+
+    /// How many lines are processed.
+    pub(crate) fn count(&self) -> usize
+        ensures { result ≡ length self.now.numbers.items }
+    {
+        self.numbers.len()
     }
 
     /// How many lines are processed before the one with this number, if there is one.
