@@ -153,8 +153,8 @@ place_value place = location_value place.uri place.range
 abbrev pub hover_value : List ℕ → Data
 hover_value text =
     object (member (codes "contents")
-        (object (member (codes "kind") (string (codes "plaintext"))
-        (member (codes "value") (text_value text) no_members)))
+    (object (member (codes "kind") (string (codes "plaintext"))
+    (member (codes "value") (text_value text) no_members)))
     no_members)
 
 -- what a symbol is to an editor, by its number

@@ -19,8 +19,8 @@ mod writing;
 
 pub use incoming::{ChangeKind, DebugMessage, FileChange, FileChanges, Head, Id, LspIn, Refusal};
 pub use outgoing::{
-    Diagnostic, Diagnostics, DocumentSymbol, DocumentSymbols, Location, Locations, LspOut, Relation,
-    Relations, Span, SymbolAnswer, SymbolKind,
+    Diagnostic, Diagnostics, DocumentSymbol, DocumentSymbols, Location, Locations, LspOut,
+    Relation, Relations, Span, SymbolAnswer, SymbolKind,
 };
 pub use reading::{is_response, read_lsp};
 pub use writing::{answer_result, initialize_result};

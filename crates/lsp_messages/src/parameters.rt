@@ -146,11 +146,7 @@ pub fn truth(value: &Value, parameter: Parameter) -> Result<bool, Parameter>
 }
 
 /// The id of a request: a text, or a whole number of 32 bits.
-pub fn request_id(
-    alloc: Global,
-    value: &Value,
-    parameter: Parameter,
-) -> Result<Id, ParameterFault>
+pub fn request_id(alloc: Global, value: &Value, parameter: Parameter) -> Result<Id, ParameterFault>
     ensures { Answers result (needed as_id parameter (view value.now)) }
 {
     match need_text(value, parameter.name()) {

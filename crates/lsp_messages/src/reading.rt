@@ -11,8 +11,8 @@ ghost use Rattle.lsp_messages.specs.declared.parameters.Parameter.{Parameter};
 use crate::incoming::{Head, Id, LspIn, Refusal};
 use crate::parameters::{Parameter, ParameterFault};
 use crate::shapes::{
-    cancelled, changed, closed, debugged, document_asked, opened, place_asked, references_asked, root,
-    watched,
+    cancelled, changed, closed, debugged, document_asked, opened, place_asked, references_asked,
+    root, watched,
 };
 use hl_base::{OutOfMemory, Text};
 use json_view::{MemberFault, need_int, need_text};

@@ -1,7 +1,9 @@
 //! Answers to requests on symbols, as a case words them: a place is `URI; FROM-TO`, a symbol `KIND; NAME; FROM-TO`.
 use crate::reports::{cut, span};
 use hl_base::{OutOfMemory, Text};
-use lsp_messages::{DocumentSymbol, DocumentSymbols, Location, Locations, SymbolAnswer, SymbolKind};
+use lsp_messages::{
+    DocumentSymbol, DocumentSymbols, Location, Locations, SymbolAnswer, SymbolKind,
+};
 use std::alloc::Global;
 
 /// The place that is worded so.

@@ -58,12 +58,7 @@ fn list(alloc: Global, uri: &str, version: &str, fields: &[String]) -> Result<St
 }
 
 /// The answer to a request on symbols.
-fn answered(
-    alloc: Global,
-    id: &str,
-    kind: &str,
-    fields: &[String],
-) -> Result<String, OutOfMemory> {
+fn answered(alloc: Global, id: &str, kind: &str, fields: &[String]) -> Result<String, OutOfMemory> {
     let id = id_worded(alloc, id)?;
     let result = answer_result(alloc, &answer(alloc, kind, fields)?)?;
     text(alloc, &LspOut::Reply { id, result })
