@@ -33,6 +33,39 @@ pub struct Diagnostic {
     pub related: Relations,
 }
 
+/// A place in a document (LSP 3.17, `Location`).
+#[derive(Debug, Drop)]
+pub struct Location {
+    pub uri: Text,
+    pub range: Span,
+}
+
+/// What a symbol is to an editor (LSP 3.17, `SymbolKind`: 13 and 14). One with an absolute value is a constant.
+#[derive(Clone, Copy, Debug, PartialEq, Eq)]
+pub enum SymbolKind {
+    Variable,
+    Constant,
+}
+
+/// A symbol of a document, and the statement that defines it (LSP 3.17, `DocumentSymbol`).
+#[derive(Debug, Drop)]
+pub struct DocumentSymbol {
+    pub kind: SymbolKind,
+    pub name: Text,
+    pub range: Span,
+}
+
+/// What a request on symbols is answered: nothing, the place of a definition, places of references, the text of a hover, or
+/// the symbols of a document.
+#[derive(Debug, Drop)]
+pub enum SymbolAnswer {
+    Nothing,
+    Place(Location),
+    Places(Locations),
+    Hover(Text),
+    Symbols(DocumentSymbols),
+}
+
 /// A message of the server.
 #[derive(Drop)]
 pub enum LspOut {
@@ -59,6 +92,12 @@ pub enum LspOut {
         uri: Text,
         version: Option<i32>,
         diagnostics: Diagnostics,
+    },
+
+    /// A message of a debug session for its client.
+    Dap {
+        session: u32,
+        message: Value,
     },
 }
 
@@ -143,5 +182,89 @@ impl Diagnostics {
         ensures { result.now ≡ self.now }
     {
         self.diagnostics.as_slice()
+    }
+}
+
+/// Places in documents, in order. Contracts see the list.
+#[derive(Debug, Drop)]
+pub struct Locations {
+    places: Vec<Location>,
+}
+
+impl Model for Locations {
+    ghost use Rattle.std.specs.Prelude.{List};
+    ghost use Rattle.lsp_messages.specs.declared.outgoing.Location.{Location};
+
+    ghost Value = { List Location };
+
+    ghost view = { λ s. s.places.items };
+}
+
+impl Locations {
+    /// No place.
+    pub fn new(alloc: Global) -> Locations
+        ensures { result ≡ [] }
+    {
+        Locations {
+            places: Vec::new(alloc),
+        }
+    }
+
+    /// Adds a place behind those that are there. An `Err` changes nothing.
+    pub fn push(&mut self, place: Location) -> Result<(), OutOfMemory>
+        ensures ok { OnOk result (self.new ≡ self.old ++ place ∷ []) }
+        ensures err { OnErr result (self.new ≡ self.old) }
+    {
+        self.places.push(place)?;
+        Ok(())
+    }
+
+    /// The places in order.
+    pub fn as_slice(&self) -> &[Location]
+        ensures { result.now ≡ self.now }
+    {
+        self.places.as_slice()
+    }
+}
+
+/// Symbols, in order. Contracts see the list.
+#[derive(Debug, Drop)]
+pub struct DocumentSymbols {
+    symbols: Vec<DocumentSymbol>,
+}
+
+impl Model for DocumentSymbols {
+    ghost use Rattle.std.specs.Prelude.{List};
+    ghost use Rattle.lsp_messages.specs.declared.outgoing.DocumentSymbol.{DocumentSymbol};
+
+    ghost Value = { List DocumentSymbol };
+
+    ghost view = { λ s. s.symbols.items };
+}
+
+impl DocumentSymbols {
+    /// No symbol.
+    pub fn new(alloc: Global) -> DocumentSymbols
+        ensures { result ≡ [] }
+    {
+        DocumentSymbols {
+            symbols: Vec::new(alloc),
+        }
+    }
+
+    /// Adds a symbol behind those that are there. An `Err` changes nothing.
+    pub fn push(&mut self, symbol: DocumentSymbol) -> Result<(), OutOfMemory>
+        ensures ok { OnOk result (self.new ≡ self.old ++ symbol ∷ []) }
+        ensures err { OnErr result (self.new ≡ self.old) }
+    {
+        self.symbols.push(symbol)?;
+        Ok(())
+    }
+
+    /// The symbols in order.
+    pub fn as_slice(&self) -> &[DocumentSymbol]
+        ensures { result.now ≡ self.now }
+    {
+        self.symbols.as_slice()
     }
 }

@@ -1,9 +1,10 @@
 //! Messages that are written, as a case words them.
+use crate::answers::answer;
 use crate::json::value;
 use crate::messages::id_worded;
 use crate::reports::reports;
 use hl_base::{OutOfMemory, Text};
-use lsp_messages::{Id, LspOut, initialize_result};
+use lsp_messages::{Id, LspOut, answer_result, initialize_result};
 use serde_json::Value;
 use std::alloc::Global;
 
@@ -56,6 +57,20 @@ fn list(alloc: Global, uri: &str, version: &str, fields: &[String]) -> Result<St
     text(alloc, &list)
 }
 
+/// The answer to a request on symbols.
+fn answered(alloc: Global, id: &str, kind: &str, fields: &[String]) -> Result<String, OutOfMemory> {
+    let id = id_worded(alloc, id)?;
+    let result = answer_result(alloc, &answer(alloc, kind, fields)?)?;
+    text(alloc, &LspOut::Reply { id, result })
+}
+
+/// A message of a debug session.
+fn debugged(alloc: Global, session: &str, words: &str) -> Result<String, OutOfMemory> {
+    let session = session.parse::<u32>().unwrap_or(0);
+    let message = value(alloc, words.as_bytes())?.unwrap_or(Value::Null);
+    text(alloc, &LspOut::Dap { session, message })
+}
+
 /// The body of the message of this kind, if there is one.
 pub fn body(alloc: Global, kind: &str, fields: &[String]) -> Result<String, OutOfMemory> {
     match (kind, fields) {
@@ -67,6 +82,10 @@ pub fn body(alloc: Global, kind: &str, fields: &[String]) -> Result<String, OutO
         ("list", [uri, version, reports @ ..]) => {
             list(alloc, uri.as_str(), version.as_str(), reports)
         }
+        ("answer", [id, kind, fields @ ..]) => {
+            answered(alloc, id.as_str(), kind.as_str(), fields)
+        }
+        ("debug", [session, message]) => debugged(alloc, session.as_str(), message.as_str()),
         _ => Ok(String::from_str(alloc, "no message")?),
     }
 }

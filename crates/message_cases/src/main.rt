@@ -6,6 +6,7 @@
 //! how an answer is written down.
 #![tactic(auto)]
 
+mod answers;
 mod bodies;
 mod config;
 mod debug_bodies;

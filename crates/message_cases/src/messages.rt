@@ -1,7 +1,9 @@
 //! What is read, in words.
-use crate::json::{no_json, value};
+use crate::json::{no_json, value, written_value};
 use hl_base::{Edit, OutOfMemory, Position, Text};
-use lsp_messages::{ChangeKind, FileChange, Head, Id, LspIn, Refusal, is_response, read_lsp};
+use lsp_messages::{
+    ChangeKind, DebugMessage, FileChange, Head, Id, LspIn, Refusal, is_response, read_lsp,
+};
 use std::alloc::{AllocError, Global};
 
 /// An id in words: a text in quotes.
@@ -100,11 +102,66 @@ fn watched(alloc: Global, changes: &[FileChange]) -> Result<String, AllocError> 
     Ok(words)
 }
 
+/// A request on a place of a document.
+fn asked(
+    alloc: Global,
+    word: &str,
+    request: &Id,
+    uri: &Text,
+    at: Position,
+) -> Result<String, AllocError> {
+    let (request, uri, at) = (id(alloc, request)?, uri.as_str(), place(alloc, Some(at))?);
+    format!(in alloc; "{word} {request} {uri} {at}")
+}
+
+fn references(
+    alloc: Global,
+    request: &Id,
+    uri: &Text,
+    at: Position,
+    declarations: bool,
+) -> Result<String, AllocError> {
+    let words = asked(alloc, "references", request, uri, at)?;
+    format!(in alloc; "{words} {declarations}")
+}
+
+fn symbols(alloc: Global, request: &Id, uri: &Text) -> Result<String, AllocError> {
+    let (request, uri) = (id(alloc, request)?, uri.as_str());
+    format!(in alloc; "symbols {request} {uri}")
+}
+
+fn cancelled(alloc: Global, request: &Id) -> Result<String, AllocError> {
+    let request = id(alloc, request)?;
+    format!(in alloc; "cancel {request}")
+}
+
+fn debugged(alloc: Global, session: u32, message: &DebugMessage) -> Result<String, OutOfMemory> {
+    let message = written_value(alloc, message.as_json())?;
+    Ok(format!(in alloc; "debug {session} {message}")?)
+}
+
 /// A message in words.
-fn message(alloc: Global, message: &LspIn) -> Result<String, AllocError> {
+fn message(alloc: Global, message: &LspIn) -> Result<String, OutOfMemory> {
     match message {
-        LspIn::Initialize { id, root } => initialize(alloc, id, root),
-        LspIn::Shutdown { id } => shutdown(alloc, id),
+        LspIn::Initialize { id, root } => Ok(initialize(alloc, id, root)?),
+        LspIn::Shutdown { id } => Ok(shutdown(alloc, id)?),
+        LspIn::Definition { id, uri, at } => Ok(asked(alloc, "definition", id, uri, *at)?),
+        LspIn::References {
+            id,
+            uri,
+            at,
+            declarations,
+        } => Ok(references(alloc, id, uri, *at, *declarations)?),
+        LspIn::Hover { id, uri, at } => Ok(asked(alloc, "hover", id, uri, *at)?),
+        LspIn::DocumentSymbol { id, uri } => Ok(symbols(alloc, id, uri)?),
+        LspIn::Dap { session, message } => debugged(alloc, *session, message),
+        notification => Ok(told(alloc, notification)?),
+    }
+}
+
+/// A notification of the language server protocol in words.
+fn told(alloc: Global, message: &LspIn) -> Result<String, AllocError> {
+    match message {
         LspIn::Initialized => String::from_str(alloc, "initialized"),
         LspIn::Exit => String::from_str(alloc, "exit"),
         LspIn::DidOpen {
@@ -122,6 +179,8 @@ fn message(alloc: Global, message: &LspIn) -> Result<String, AllocError> {
         LspIn::DidSave => String::from_str(alloc, "save"),
         LspIn::DidChangeConfiguration => String::from_str(alloc, "configuration"),
         LspIn::DidChangeWatchedFiles { changes } => watched(alloc, changes.as_slice()),
+        LspIn::Cancel { id } => cancelled(alloc, id),
+        _ => String::from_str(alloc, "no notification"),
     }
 }
 
@@ -149,20 +208,28 @@ fn refusal(alloc: Global, refusal: &Refusal) -> Result<String, OutOfMemory> {
 pub fn read(alloc: Global, body: &str) -> Result<String, OutOfMemory> {
     match value(alloc, body.as_bytes())? {
         Some(value) => match read_lsp(alloc, &value) {
-            Ok(read) => Ok(message(alloc, &read)?),
+            Ok(read) => message(alloc, &read),
             Err(refused) => refusal(alloc, &refused),
         },
         None => no_json(alloc),
     }
 }
 
-/// The body of a message: `initialize` is a request, any other method a notification.
+/// Whether the message of a method is a request, in a table that names no id.
+fn is_request(method: &str) -> bool {
+    match method {
+        "initialize" => true,
+        "textDocument/definition" => true,
+        "textDocument/references" => true,
+        "textDocument/hover" => true,
+        "textDocument/documentSymbol" => true,
+        _ => false,
+    }
+}
+
+/// The body of a message: a request has the id 5.
 fn body(alloc: Global, method: &str, params: &str) -> Result<String, AllocError> {
-    let id = if method == "initialize" {
-        "\"id\":5,"
-    } else {
-        ""
-    };
+    let id = if is_request(method) { "\"id\":5," } else { "" };
     format!(in alloc; "{{{id}\"jsonrpc\":\"2.0\",\"method\":\"{method}\",\"params\":{params}}}")
 }
 

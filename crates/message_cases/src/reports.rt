@@ -5,7 +5,7 @@ use lsp_messages::{Diagnostic, Diagnostics, Relation, Relations, Span};
 use std::alloc::Global;
 
 /// What stands before the first semicolon, and what stands behind it.
-fn cut(words: &str) -> (&str, &str) {
+pub fn cut(words: &str) -> (&str, &str) {
     words.split_once("; ").unwrap_or((words, ""))
 }
 
@@ -19,7 +19,7 @@ fn place(words: &str) -> Position {
 }
 
 /// The places from and to that are worded so.
-fn span(words: &str) -> Span {
+pub fn span(words: &str) -> Span {
     let (from, to) = words.split_once('-').unwrap_or((words, ""));
     Span {
         start: place(from),

@@ -15,6 +15,7 @@ use Rattle.lsp_messages.specs.declared.incoming.Refusal.{Refusal}
 use Rattle.lsp_messages.specs.Messages.{is_response, message_of}
 use Rattle.session_core.specs.Message.{event, received, asked, effect, effect_of, is_passed_over, unless_refused, Watching, taking_of, after_reading, after_member, configured, member_changed, is_configuration, is_member_file, change_told, changes_told, queue_all, after_watching, begun, unconcerned}
 use Rattle.session_core.specs.Refusals.{Refused, refusal, reply, is_ended}
+use Rattle.session_core.specs.Served.{as_served}
 use Rattle.session_core.specs.State.{State, libraries}
 use Rattle.session_core.specs.Step.{Effect, quiet, says}
 
@@ -67,7 +68,7 @@ whenever_asked Holds s told calls each =
 whenever_received : (Holds : Effect → Type 0) (s : State) (value : Option Data) (calls : List LibraryCall) → HoldsOfEach Holds s → Whenever Holds (received s value calls)
 whenever_received Holds s None calls each = each.refused _
 whenever_received Holds s (Some value) calls each =
-    whenever_cond Holds (is_response value) (answered (quiet s)) (asked s (message_of value)) calls each.nothing (whenever_asked Holds s (message_of value) calls each)
+    whenever_cond Holds (is_response value) (answered (quiet s)) (asked s (as_served (message_of value))) calls each.nothing (whenever_asked Holds s (as_served (message_of value)) calls each)
 
 pub whenever_event : (Holds : Effect → Type 0) (s : State) (body : List ℕ) (calls : List LibraryCall) → HoldsOfEach Holds s → Whenever Holds (event s body calls)
 unfolding event

@@ -5,12 +5,13 @@ use Rattle.json_view.specs.Texts.{reading}
 use Rattle.io_edge.specs.LibraryCall.{LibraryCall}
 use Rattle.library_reading.specs.Asked.{Asking, answered}
 use Rattle.lsp_messages.specs.declared.incoming.LspIn.{LspIn}
-use Rattle.lsp_messages.specs.declared.incoming.LspIn.TheVariants.{Initialize, Shutdown, Initialized, Exit, DidOpen, DidChange, DidClose, DidSave, DidChangeConfiguration, DidChangeWatchedFiles}
+use Rattle.lsp_messages.specs.declared.incoming.LspIn.TheVariants.{Initialize, Shutdown, Definition, References, Hover, DocumentSymbol, Initialized, Exit, DidOpen, DidChange, DidClose, DidSave, DidChangeConfiguration, DidChangeWatchedFiles, Cancel, Dap}
 use Rattle.lsp_messages.specs.declared.incoming.Refusal.{Refusal}
 use Rattle.lsp_messages.specs.Messages.{is_response, message_of}
 use Rattle.session_core.specs.Laws.{is_on_files, is_value_on_files, is_body_on_files, LeavesCalls}
 use Rattle.session_core.specs.Message.{message, event, received, asked, effect_of, is_passed_over, unless_refused}
 use Rattle.session_core.specs.Refusals.{Refused, refusal, is_ended}
+use Rattle.session_core.specs.Served.{as_served}
 use Rattle.session_core.specs.State.{State}
 use Rattle.session_core.specs.Step.{Effect, quiet, step_of}
 
@@ -30,6 +31,10 @@ leaves_told : (s : State) (told : Result LspIn Refusal) → is_on_files told ≡
 leaves_told s (Err refusal) other = λ calls. refl
 leaves_told s (Ok (Initialize id root)) other = λ calls. refl
 leaves_told s (Ok (Shutdown id)) other = λ calls. refl
+leaves_told s (Ok (Definition id uri at)) other = λ calls. refl
+leaves_told s (Ok (References id uri at declarations)) other = λ calls. refl
+leaves_told s (Ok (Hover id uri at)) other = λ calls. refl
+leaves_told s (Ok (DocumentSymbol id uri)) other = λ calls. refl
 leaves_told s (Ok Initialized) other = cc
 leaves_told s (Ok Exit) other = λ calls. refl
 leaves_told s (Ok (DidOpen uri language version text)) other = λ calls. refl
@@ -38,6 +43,8 @@ leaves_told s (Ok (DidClose uri)) other = λ calls. refl
 leaves_told s (Ok DidSave) other = λ calls. refl
 leaves_told s (Ok DidChangeConfiguration) other = λ calls. refl
 leaves_told s (Ok (DidChangeWatchedFiles changes)) other = cc
+leaves_told s (Ok (Cancel id)) other = λ calls. refl
+leaves_told s (Ok (Dap session message)) other = λ calls. refl
 
 leaves_asked : (s : State) (told : Result LspIn Refusal) → is_on_files told ≡ false → LeavesAll (asked s told)
 leaves_asked s told other =
@@ -46,7 +53,7 @@ leaves_asked s told other =
 
 leaves_received : (s : State) (value : Option Data) → is_value_on_files value ≡ false → LeavesAll (received s value)
 leaves_received s None other = λ calls. refl
-leaves_received s (Some value) other = leaves_cond (is_response value) (answered (quiet s)) (asked s (message_of value)) (λ calls. refl) (leaves_asked s (message_of value) other)
+leaves_received s (Some value) other = leaves_cond (is_response value) (answered (quiet s)) (asked s (as_served (message_of value))) (λ calls. refl) (leaves_asked s (as_served (message_of value)) other)
 
 leaves_event : (s : State) (body : List ℕ) → is_body_on_files body ≡ false → LeavesAll (event s body)
 unfolding event

@@ -10,7 +10,7 @@ use Rattle.io_edge.specs.LibraryCall.{LibraryCall}
 use Rattle.hl_base.specs.declared.edit.Position.{Position}
 use Rattle.hl_base.specs.declared.place.PathId.{PathId}
 use Rattle.lsp_messages.specs.declared.incoming.LspIn.{LspIn}
-use Rattle.lsp_messages.specs.declared.incoming.LspIn.TheVariants.{Initialize, Shutdown, Initialized, Exit, DidOpen, DidChange, DidClose, DidSave, DidChangeConfiguration, DidChangeWatchedFiles}
+use Rattle.lsp_messages.specs.declared.incoming.LspIn.TheVariants.{Initialize, Shutdown, Definition, References, Hover, DocumentSymbol, Initialized, Exit, DidOpen, DidChange, DidClose, DidSave, DidChangeConfiguration, DidChangeWatchedFiles, Cancel, Dap}
 use Rattle.lsp_messages.specs.declared.outgoing.Diagnostic.{Diagnostic}
 use Rattle.lsp_messages.specs.declared.outgoing.Relation.{Relation}
 use Rattle.lsp_messages.specs.declared.outgoing.Span.{Span}
@@ -303,6 +303,10 @@ good_files s fresh = record { stays = λ bodies alive. fresh; queues = good_queu
 good_effect : (s : State) (message : LspIn) (calls : List LibraryCall) → AreFresh s → Whenever IsGood (effect s message calls)
 good_effect s (Initialize id root) calls fresh = good_queues (record s { stage = Active; root = root_of root }) (initialize_reply id ∷ [])
 good_effect s (Shutdown id) calls fresh = λ alive. fresh_many (length s.queue) s fresh
+good_effect s (Definition id uri at) calls fresh = λ alive. fresh
+good_effect s (References id uri at declarations) calls fresh = λ alive. fresh
+good_effect s (Hover id uri at) calls fresh = λ alive. fresh
+good_effect s (DocumentSymbol id uri) calls fresh = λ alive. fresh
 good_effect s Initialized calls fresh = whenever_begun IsGood s s.root calls (good_files s fresh)
 good_effect s Exit calls fresh = λ alive. cc
 good_effect s (DidOpen uri language version text) calls fresh = good_change s (opened s.store uri language version text) fresh
@@ -311,6 +315,8 @@ good_effect s (DidClose uri) calls fresh = good_closing s (number_named s.store 
 good_effect s DidSave calls fresh = λ alive. fresh
 good_effect s DidChangeConfiguration calls fresh = λ alive. fresh
 good_effect s (DidChangeWatchedFiles changes) calls fresh = whenever_watched IsGood s changes calls (good_files s fresh)
+good_effect s (Cancel id) calls fresh = λ alive. fresh
+good_effect s (Dap session message) calls fresh = λ alive. fresh
 
 good_leaves : (asked : Asked Effect) → Whenever IsGood asked → LeavesFresh (step_of asked)
 good_leaves (Came effect rest) good = good
@@ -375,6 +381,10 @@ keeps_files s = record { stays = λ bodies. inl (refl, refl); queues = λ t bodi
 keeps_effect : (s : State) (message : LspIn) (calls : List LibraryCall) → Whenever (KeepsThemOrQueues s) (effect s message calls)
 keeps_effect s (Initialize id root) calls = inr (all_queued (record s { stage = Active; root = root_of root }))
 keeps_effect s (Shutdown id) calls = inl (kept_many (length s.queue) s)
+keeps_effect s (Definition id uri at) calls = inl (refl, refl)
+keeps_effect s (References id uri at declarations) calls = inl (refl, refl)
+keeps_effect s (Hover id uri at) calls = inl (refl, refl)
+keeps_effect s (DocumentSymbol id uri) calls = inl (refl, refl)
 keeps_effect s Initialized calls = whenever_begun (KeepsThemOrQueues s) s s.root calls (keeps_files s)
 keeps_effect s Exit calls = inl (refl, refl)
 keeps_effect s (DidOpen uri language version text) calls = keeps_change s (opened s.store uri language version text)
@@ -383,6 +393,8 @@ keeps_effect s (DidClose uri) calls = keeps_closing s (number_named s.store uri)
 keeps_effect s DidSave calls = inl (refl, refl)
 keeps_effect s DidChangeConfiguration calls = inl (refl, refl)
 keeps_effect s (DidChangeWatchedFiles changes) calls = whenever_watched (KeepsThemOrQueues s) s changes calls (keeps_files s)
+keeps_effect s (Cancel id) calls = inl (refl, refl)
+keeps_effect s (Dap session message) calls = inl (refl, refl)
 
 keeps_leaves : (s : State) (asked : Asked Effect) → Whenever (KeepsThemOrQueues s) asked → KeepsOrQueues s (step_of asked)
 keeps_leaves s (Came effect rest) keeps = keeps

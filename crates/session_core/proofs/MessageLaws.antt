@@ -7,7 +7,7 @@ use Rattle.io_edge.specs.LibraryCall.{LibraryCall}
 use Rattle.library_reading.specs.Asked.{Asking, answered}
 use Rattle.lsp_messages.specs.declared.incoming.Id.{Id}
 use Rattle.lsp_messages.specs.declared.incoming.LspIn.{LspIn}
-use Rattle.lsp_messages.specs.declared.incoming.LspIn.TheVariants.{Initialize, Shutdown, Initialized, Exit, DidOpen, DidChange, DidClose, DidSave, DidChangeConfiguration, DidChangeWatchedFiles}
+use Rattle.lsp_messages.specs.declared.incoming.LspIn.TheVariants.{Initialize, Shutdown, Definition, References, Hover, DocumentSymbol, Initialized, Exit, DidOpen, DidChange, DidClose, DidSave, DidChangeConfiguration, DidChangeWatchedFiles, Cancel, Dap}
 use Rattle.lsp_messages.specs.declared.incoming.Refusal.{Refusal}
 use Rattle.lsp_messages.specs.Messages.{is_response, message_of}
 use Rattle.document_store.specs.Store.{Store}
@@ -20,6 +20,7 @@ use Rattle.session_core.specs.Held.{phase_of}
 use Rattle.session_core.specs.Laws.{is_refused, is_refused_value, is_refused_body, Keeps}
 use Rattle.session_core.specs.Message.{message, event, received, asked, effect_of, is_passed_over, unless_refused}
 use Rattle.session_core.specs.Refusals.{Refused, OutOfPlace, TooEarly, where_so, first_of, refusal, log_fault, is_fresh, is_active, is_closed, is_ended}
+use Rattle.session_core.specs.Served.{as_served}
 use Rattle.session_core.specs.State.{State}
 use Rattle.session_core.specs.Step.{Effect, quiet, Goes, step_of}
 
@@ -67,10 +68,16 @@ refused_keeps s (Ok (DidOpen uri language version text)) refused none = absurd (
 refused_keeps s (Ok (DidChange uri version edits)) refused none = absurd (refused_by_fault (codes "textDocument/didChange") (changed s.store uri version edits) refused none)
 refused_keeps s (Ok (DidClose uri)) refused none = absurd (refused_by_fault (codes "textDocument/didClose") (closed s.store uri) refused none)
 refused_keeps s (Ok Initialized) refused none = cc
+refused_keeps s (Ok (Definition id uri at)) refused none = cc
+refused_keeps s (Ok (References id uri at declarations)) refused none = cc
+refused_keeps s (Ok (Hover id uri at)) refused none = cc
+refused_keeps s (Ok (DocumentSymbol id uri)) refused none = cc
 refused_keeps s (Ok Exit) refused none = cc
 refused_keeps s (Ok DidSave) refused none = cc
 refused_keeps s (Ok DidChangeConfiguration) refused none = cc
 refused_keeps s (Ok (DidChangeWatchedFiles changes)) refused none = cc
+refused_keeps s (Ok (Cancel id)) refused none = cc
+refused_keeps s (Ok (Dap session message)) refused none = cc
 
 asked_kept : (s : State) (told : Result LspIn Refusal) → is_refused s told ≡ true → LeavesState (asked s told) s
 asked_kept s told refused =
@@ -79,7 +86,7 @@ asked_kept s told refused =
 
 received_kept : (s : State) (value : Option Data) → is_refused_value s value ≡ true → LeavesState (received s value) s
 received_kept s None refused = λ calls. (refl, omega arith, refl)
-received_kept s (Some value) refused = keeps_cond s (is_response value) _ _ (keeps_quiet s) (asked_kept s (message_of value) refused)
+received_kept s (Some value) refused = keeps_cond s (is_response value) _ _ (keeps_quiet s) (asked_kept s (as_served (message_of value)) refused)
 
 event_kept : (s : State) (body : List ℕ) → is_refused_body s body ≡ true → LeavesState (event s body) s
 unfolding event

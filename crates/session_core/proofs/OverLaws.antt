@@ -12,6 +12,7 @@ use Rattle.lsp_messages.specs.Messages.{IsReading}
 use Rattle.session_core.specs.Held.{Held}
 use Rattle.session_core.specs.Inside.{HearsOver}
 use Rattle.session_core.specs.Message.{asked}
+use Rattle.session_core.specs.Served.{as_served}
 use Rattle.session_core.specs.State.{State}
 use Rattle.session_core.specs.Step.{Effect, Acts, written}
 use Rattle.session_core.proofs.ShortLaws.{short_asked}
@@ -49,13 +50,13 @@ reading_is refusals.OutOfMemory wanted read other = absurd (other refl)
 pub over_refused : (s now : State) (refusal : Refusal) (read wanted : Result LspIn Refusal)
     (result : Result (List (List ℕ)) OutOfMemory) (told : Option (List LibraryCall)) (many : ℕ)
     → read ≡ Err refusal → IsReading read wanted
-    → IfOk result (λ bodies. (refusal ≢ refusals.OutOfMemory) × Acts (asked s (Err refusal)) now bodies)
-    → AsksOver (asked s wanted) (acting now) result told told many many
+    → IfOk result (λ bodies. (refusal ≢ refusals.OutOfMemory) × Acts (asked s (as_served (Err refusal))) now bodies)
+    → AsksOver (asked s (as_served wanted)) (acting now) result told told many many
 over_refused s now refusal read wanted (Ok bodies) told many is reads acts =
-    over_message s now wanted (Err refusal) (Ok bodies) told many
-    (reading_is refusal wanted (subst (λ (z : Result LspIn Refusal). IsReading z wanted) is reads) acts.0) acts.1
+    over_message s now (as_served wanted) (as_served (Err refusal)) (Ok bodies) told many
+    (ap as_served (reading_is refusal wanted (subst (λ (z : Result LspIn Refusal). IsReading z wanted) is reads) acts.0)) acts.1
 over_refused s now refusal read wanted (Err lost) told many is reads acts =
-    over_none (asked s wanted) now (Err lost) told many (short_asked s wanted) tt
+    over_none (asked s (as_served wanted)) now (Err lost) told many (short_asked s (as_served wanted)) tt
 
 -- memory ran out before anything was read
 pub over_lost : (event : Asking Effect) (now : State) (lost : OutOfMemory) (told : Option (List LibraryCall)) (many : ℕ) → AreShort event

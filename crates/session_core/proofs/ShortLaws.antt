@@ -10,7 +10,7 @@ use Rattle.library_reading.proofs.AskedLaws.{AreShort, short_then}
 use Rattle.library_reading.proofs.ConfigurationLaws.{configuration_read-short}
 use Rattle.library_reading.proofs.MemberLaws.{member_read-short}
 use Rattle.lsp_messages.specs.declared.incoming.LspIn.{LspIn}
-use Rattle.lsp_messages.specs.declared.incoming.LspIn.TheVariants.{Initialize, Shutdown, Initialized, Exit, DidOpen, DidChange, DidClose, DidSave, DidChangeConfiguration, DidChangeWatchedFiles}
+use Rattle.lsp_messages.specs.declared.incoming.LspIn.TheVariants.{Initialize, Shutdown, Definition, References, Hover, DocumentSymbol, Initialized, Exit, DidOpen, DidChange, DidClose, DidSave, DidChangeConfiguration, DidChangeWatchedFiles, Cancel, Dap}
 use Rattle.lsp_messages.specs.declared.incoming.ChangeKind.{ChangeKind}
 use Rattle.lsp_messages.specs.declared.incoming.ChangeKind.TheVariants.{Created, Changed, Deleted}
 use Rattle.lsp_messages.specs.declared.incoming.FileChange.{FileChange}
@@ -18,6 +18,7 @@ use Rattle.lsp_messages.specs.declared.incoming.Refusal.{Refusal}
 use Rattle.lsp_messages.specs.Messages.{is_response, message_of}
 use Rattle.session_core.specs.Message.{message, event, received, asked, effect, effect_of, is_passed_over, unless_refused, Watching, taking_of, after_reading, after_member, configured, member_changed, is_configuration, is_member_file, change_told, changes_told, after_watching, begun, unconcerned}
 use Rattle.session_core.specs.Refusals.{Refused, refusal, is_ended}
+use Rattle.session_core.specs.Served.{as_served}
 use Rattle.session_core.specs.State.{State, libraries}
 use Rattle.session_core.specs.Step.{Effect, quiet, MakesAll, step_of}
 
@@ -60,6 +61,10 @@ short_begun (Some root) s = short_then (configured root (unconcerned s)) (λ w. 
 short_effect : (s : State) (message : LspIn) → AreShort (effect s message)
 short_effect s (Initialize id root) = tt
 short_effect s (Shutdown id) = tt
+short_effect s (Definition id uri at) = tt
+short_effect s (References id uri at declarations) = tt
+short_effect s (Hover id uri at) = tt
+short_effect s (DocumentSymbol id uri) = tt
 short_effect s Initialized = short_begun s.root s
 short_effect s Exit = tt
 short_effect s (DidOpen uri language version text) = tt
@@ -68,6 +73,8 @@ short_effect s (DidClose uri) = tt
 short_effect s DidSave = tt
 short_effect s DidChangeConfiguration = tt
 short_effect s (DidChangeWatchedFiles changes) = short_then (changes_told changes (unconcerned s)) (λ w. answered (after_watching w)) (short_changes changes (unconcerned s)) (λ w. tt)
+short_effect s (Cancel id) = tt
+short_effect s (Dap session message) = tt
 
 short_told : (s : State) (told : Result LspIn Refusal) → AreShort (effect_of s told)
 short_told s (Ok message) = short_effect s message
@@ -83,7 +90,7 @@ short_asked s told =
 
 short_received : (s : State) (value : Option Data) → AreShort (received s value)
 short_received s None = tt
-short_received s (Some value) = short_cond (is_response value) (answered (quiet s)) (asked s (message_of value)) tt (short_asked s (message_of value))
+short_received s (Some value) = short_cond (is_response value) (answered (quiet s)) (asked s (as_served (message_of value))) tt (short_asked s (as_served (message_of value)))
 
 pub short_event : (s : State) (body : List ℕ) → AreShort (event s body)
 unfolding event

@@ -5,10 +5,11 @@ use Rattle.hl_base.specs.declared.memory.OutOfMemory.{OutOfMemory}
 use Rattle.io_edge.specs.LibraryCall.{LibraryCall}
 use Rattle.io_edge.specs.Told.{Gains}
 use Rattle.lsp_messages.specs.declared.incoming.Id.{Id}
+use Rattle.lsp_messages.specs.declared.incoming.Refusal.{Refusal}
 use Rattle.lsp_messages.specs.declared.incoming.Refusal.TheVariants.{UnknownMethod, BadParams}
 use Rattle.lsp_messages.specs.declared.outgoing.Diagnostic.{Diagnostic}
 use Rattle.lsp_messages.specs.declared.outgoing.LspOut.{LspOut}
-use Rattle.lsp_messages.specs.declared.outgoing.LspOut.TheVariants.{Reply, Fault, Log, Published}
+use Rattle.lsp_messages.specs.declared.outgoing.LspOut.TheVariants.{Reply, Fault, Log, Published, Dap}
 use Rattle.library_folders.specs.declared.configuration.Configuration.{Configuration}
 use Rattle.library_folders.specs.declared.folders.Folder.{Folder}
 use Rattle.library_reading.specs.Asked.{Asking, Came, IsShort, answered}
@@ -23,6 +24,7 @@ use Rattle.session_core.specs.Held.{Held}
 use Rattle.session_core.specs.Message.{after_change, after_closing, asked, farewell, unless_refused, Watching, configured}
 use Rattle.session_core.specs.Refusals.{first_of, log_fault}
 use Rattle.session_core.specs.State.{State, libraries, libraries_of, is_program, is_queued, number_at, document_at, last_list}
+use Rattle.session_core.specs.Served.{as_served}
 use Rattle.session_core.specs.Step.{Effect, written}
 use Rattle.session_core.specs.Turn.{is_published}
 
@@ -40,6 +42,7 @@ list_told (Published uri version list) = Some list
 list_told (Reply id result) = None
 list_told (Fault id code message) = None
 list_told (Log message) = None
+list_told (Dap session message) = None
 
 -- a change of the documents that this message asks for: its line of the log, or its effect
 abbrev pub change_asked : State → (method : List ℕ) → Result Store StoreFault → Asking Effect
@@ -52,6 +55,10 @@ closing_asked s method n asked = unless_refused s (first_of (log_fault method as
 -- a message of no known method
 abbrev pub unknown_asked : State → Option Id → (method : List ℕ) → Asking Effect
 unknown_asked s id method = asked s (Err (UnknownMethod (record { id = id; method = method })))
+
+-- what was read in place of a message, as far as it is served
+abbrev pub refusal_asked : State → Refusal → Asking Effect
+refusal_asked s refusal = asked s (as_served (Err refusal))
 
 -- a message with a parameter that is missing or of a wrong kind
 abbrev pub wrong_asked : State → Option Id → (method name : List ℕ) → Asking Effect

@@ -4,13 +4,14 @@ use Rattle.serde_json.specs.Data.{Data}
 use Rattle.json_view.specs.Texts.{reading}
 use Rattle.io_edge.specs.LibraryCall.{LibraryCall}
 use Rattle.lsp_messages.specs.declared.incoming.LspIn.{LspIn}
-use Rattle.lsp_messages.specs.declared.incoming.LspIn.TheVariants.{Initialize, Shutdown, Initialized, Exit, DidOpen, DidChange, DidClose, DidSave, DidChangeConfiguration, DidChangeWatchedFiles}
+use Rattle.lsp_messages.specs.declared.incoming.LspIn.TheVariants.{Initialize, Shutdown, Definition, References, Hover, DocumentSymbol, Initialized, Exit, DidOpen, DidChange, DidClose, DidSave, DidChangeConfiguration, DidChangeWatchedFiles, Cancel, Dap}
 use Rattle.lsp_messages.specs.declared.incoming.Refusal.{Refusal}
 use Rattle.lsp_messages.specs.Messages.{message_of}
 use Rattle.hl_base.specs.declared.place.PathId.{PathId}
 use Rattle.document_store.specs.Store.{OpenDocument}
 use Rattle.document_store.specs.Changes.{opened, changed, closed}
 use Rattle.session_core.specs.Refusals.{is_fresh, is_active, is_ended}
+use Rattle.session_core.specs.Served.{as_served}
 use Rattle.session_core.specs.Diagnostics.{list_of}
 use Rattle.session_core.specs.State.{State, libraries, document_at, is_program, is_queued, last_list}
 use Rattle.session_core.specs.Step.{Step, Goes, Stopped, Other}
@@ -26,15 +27,21 @@ is_refused s (Ok (DidOpen uri language version text)) = is_err (opened s.store u
 is_refused s (Ok (DidChange uri version edits)) = is_err (changed s.store uri version edits)
 is_refused s (Ok (DidClose uri)) = is_err (closed s.store uri)
 is_refused s (Ok Initialized) = false
+is_refused s (Ok (Definition id uri at)) = false
+is_refused s (Ok (References id uri at declarations)) = false
+is_refused s (Ok (Hover id uri at)) = false
+is_refused s (Ok (DocumentSymbol id uri)) = false
 is_refused s (Ok Exit) = false
 is_refused s (Ok DidSave) = false
 is_refused s (Ok DidChangeConfiguration) = false
 is_refused s (Ok (DidChangeWatchedFiles changes)) = false
+is_refused s (Ok (Cancel id)) = false
+is_refused s (Ok (Dap session message)) = false
 
 -- the body is refused: it is no JSON, or the message that it is is refused
 abbrev pub is_refused_value : State → Option Data → Bool
 is_refused_value s None = true
-is_refused_value s (Some value) = is_refused s (message_of value)
+is_refused_value s (Some value) = is_refused s (as_served (message_of value))
 
 abbrev pub is_refused_body : State → List ℕ → Bool
 is_refused_body s body = is_refused_value s (reading body)
@@ -44,6 +51,10 @@ abbrev pub is_on_files : Result LspIn Refusal → Bool
 is_on_files (Err refusal) = false
 is_on_files (Ok (Initialize id root)) = false
 is_on_files (Ok (Shutdown id)) = false
+is_on_files (Ok (Definition id uri at)) = false
+is_on_files (Ok (References id uri at declarations)) = false
+is_on_files (Ok (Hover id uri at)) = false
+is_on_files (Ok (DocumentSymbol id uri)) = false
 is_on_files (Ok Initialized) = true
 is_on_files (Ok Exit) = false
 is_on_files (Ok (DidOpen uri language version text)) = false
@@ -52,10 +63,12 @@ is_on_files (Ok (DidClose uri)) = false
 is_on_files (Ok DidSave) = false
 is_on_files (Ok DidChangeConfiguration) = false
 is_on_files (Ok (DidChangeWatchedFiles changes)) = true
+is_on_files (Ok (Cancel id)) = false
+is_on_files (Ok (Dap session message)) = false
 
 abbrev pub is_value_on_files : Option Data → Bool
 is_value_on_files None = false
-is_value_on_files (Some value) = is_on_files (message_of value)
+is_value_on_files (Some value) = is_on_files (as_served (message_of value))
 
 abbrev pub is_body_on_files : List ℕ → Bool
 is_body_on_files body = is_value_on_files (reading body)

@@ -6,6 +6,7 @@ pub mod Laws
 pub mod Message
 pub mod Refusals
 pub mod Replies
+pub mod Served
 pub mod State
 pub mod Step
 pub mod Turn

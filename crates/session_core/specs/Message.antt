@@ -19,7 +19,7 @@ use Rattle.library_reading.specs.Reading.{Reading, configuration_read}
 use Rattle.hl_base.specs.declared.place.PathId.{PathId}
 use Rattle.lsp_messages.specs.declared.incoming.Id.{Id}
 use Rattle.lsp_messages.specs.declared.incoming.LspIn.{LspIn}
-use Rattle.lsp_messages.specs.declared.incoming.LspIn.TheVariants.{Initialize, Shutdown, Initialized, Exit, DidOpen, DidChange, DidClose, DidSave, DidChangeConfiguration, DidChangeWatchedFiles}
+use Rattle.lsp_messages.specs.declared.incoming.LspIn.TheVariants.{Initialize, Shutdown, Definition, References, Hover, DocumentSymbol, Initialized, Exit, DidOpen, DidChange, DidClose, DidSave, DidChangeConfiguration, DidChangeWatchedFiles, Cancel, Dap}
 use Rattle.lsp_messages.specs.declared.incoming.ChangeKind.{ChangeKind}
 use Rattle.lsp_messages.specs.declared.incoming.ChangeKind.TheVariants.{Created, Changed, Deleted}
 use Rattle.lsp_messages.specs.declared.incoming.FileChange.{FileChange}
@@ -34,6 +34,7 @@ use Rattle.session_core.specs.declared.state.Stage.{Stage}
 use Rattle.session_core.specs.declared.state.Stage.TheVariants.{Active, Closing, Ended}
 use Rattle.session_core.specs.Refusals.{Kind, Opens, Asks, Ends, Tells, Neither, kind_of, Refused, reply, refusal, is_active, is_closing, is_ended}
 use Rattle.session_core.specs.Replies.{initialize_reply, shutdown_reply, list_body, logged_line}
+use Rattle.session_core.specs.Served.{as_served}
 use Rattle.session_core.specs.State.{State, libraries, is_number, number_at, is_program, document_at, number_named, programs, with_programs, without, last_list, published_without, is_empty}
 use Rattle.session_core.specs.Step.{Effect, quiet, says, and_then, Step, step_of}
 use Rattle.session_core.specs.Turn.{assemble_all}
@@ -187,10 +188,14 @@ root_of uri = option_map without_slash (option_and_then path_of uri)
 abbrev pub opened_in : State → Option (List ℕ) → State
 opened_in s root = queue_all (record s { stage = Active; root = root_of root })
 
--- each message has its line
+-- each message has its line; what is not served yet does nothing, and `as_served` lets none of it through
 abbrev pub effect : State → LspIn → Asking Effect
 effect s (Initialize id root) = answered (says (opened_in s root) (initialize_reply id))
 effect s (Shutdown id) = answered (shut s id)
+effect s (Definition id uri at) = answered (quiet s)
+effect s (References id uri at declarations) = answered (quiet s)
+effect s (Hover id uri at) = answered (quiet s)
+effect s (DocumentSymbol id uri) = answered (quiet s)
 effect s Initialized = begun s.root s
 effect s Exit = answered (quiet (ended s))
 effect s (DidOpen uri language version text) = answered (after_change s (opened s.store uri language version text))
@@ -199,6 +204,8 @@ effect s (DidClose uri) = answered (after_closing s (number_named s.store uri) (
 effect s DidSave = answered (quiet s)
 effect s DidChangeConfiguration = answered (quiet s)
 effect s (DidChangeWatchedFiles changes) = changes_told changes (unconcerned s) >>= (λ w. answered (after_watching w))
+effect s (Cancel id) = answered (quiet s)
+effect s (Dap session message) = answered (quiet s)
 
 -- what was read in place of a message does nothing
 abbrev pub effect_of : State → Result LspIn Refusal → Asking Effect
@@ -248,7 +255,7 @@ asked s told = asked_at s.stage s told
 
 -- a value: the answers of a client are passed over, since nothing was asked of it
 abbrev pub heard : State → Data → Asking Effect
-heard s value = if is_response value then answered (quiet s) else asked s (message_of value)
+heard s value = if is_response value then answered (quiet s) else asked s (as_served (message_of value))
 
 -- a body: its refusal where it is no JSON, or that of the message that it is
 abbrev pub received : State → Option Data → Asking Effect

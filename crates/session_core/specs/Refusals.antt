@@ -4,7 +4,7 @@ use Rattle.std.specs.Prelude.{ℕ, Bool, true, false, not, List, [], ◌∷◌, 
 use Rattle.std.specs.Str.{bytes_eq}
 use Rattle.lsp_messages.specs.declared.incoming.Id.{Id}
 use Rattle.lsp_messages.specs.declared.incoming.LspIn.{LspIn}
-use Rattle.lsp_messages.specs.declared.incoming.LspIn.TheVariants.{Initialize, Shutdown, Initialized, Exit, DidOpen, DidChange, DidClose, DidSave, DidChangeConfiguration, DidChangeWatchedFiles}
+use Rattle.lsp_messages.specs.declared.incoming.LspIn.TheVariants.{Initialize, Shutdown, Definition, References, Hover, DocumentSymbol, Initialized, Exit, DidOpen, DidChange, DidClose, DidSave, DidChangeConfiguration, DidChangeWatchedFiles, Cancel, Dap}
 use Rattle.lsp_messages.specs.declared.incoming.Refusal.{Refusal}
 use Rattle.lsp_messages.specs.declared.incoming.Refusal.TheVariants.{NotRequest, UnknownMethod, BadParams, OutOfMemory}
 use Rattle.document_store.specs.Store.{Store}
@@ -64,6 +64,10 @@ pub data Kind : Type 0 where
 abbrev pub kind_of_message : LspIn → Kind
 kind_of_message (Initialize id root) = Opens id
 kind_of_message (Shutdown id) = Asks id
+kind_of_message (Definition id uri at) = Asks id
+kind_of_message (References id uri at declarations) = Asks id
+kind_of_message (Hover id uri at) = Asks id
+kind_of_message (DocumentSymbol id uri) = Asks id
 kind_of_message Initialized = Tells
 kind_of_message Exit = Ends
 kind_of_message (DidOpen uri language version text) = Tells
@@ -72,6 +76,8 @@ kind_of_message (DidClose uri) = Tells
 kind_of_message DidSave = Tells
 kind_of_message DidChangeConfiguration = Tells
 kind_of_message (DidChangeWatchedFiles changes) = Tells
+kind_of_message (Cancel id) = Tells
+kind_of_message (Dap session message) = Tells
 
 -- of what is known by its head alone
 abbrev pub kind_of_head : Option Id → (opens : Bool) → Kind
@@ -166,6 +172,10 @@ log_fault method (Err fault) = Some (Logged method (refusal_of fault))
 abbrev pub refused_by_store : Store → LspIn → Option Refused
 refused_by_store store (Initialize id root) = None
 refused_by_store store (Shutdown id) = None
+refused_by_store store (Definition id uri at) = None
+refused_by_store store (References id uri at declarations) = None
+refused_by_store store (Hover id uri at) = None
+refused_by_store store (DocumentSymbol id uri) = None
 refused_by_store store Initialized = None
 refused_by_store store Exit = None
 refused_by_store store (DidOpen uri language version text) = log_fault (codes "textDocument/didOpen") (opened store uri language version text)
@@ -174,6 +184,8 @@ refused_by_store store (DidClose uri) = log_fault (codes "textDocument/didClose"
 refused_by_store store DidSave = None
 refused_by_store store DidChangeConfiguration = None
 refused_by_store store (DidChangeWatchedFiles changes) = None
+refused_by_store store (Cancel id) = None
+refused_by_store store (Dap session message) = None
 
 -- a notification of no known method, with a wrong parameter, or that the documents refuse
 abbrev pub logged : Store → Result LspIn Refusal → Option Refused

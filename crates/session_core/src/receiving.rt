@@ -7,6 +7,7 @@ ghost use Rattle.lsp_messages.specs.declared.incoming.LspIn.{LspIn};
 ghost use Rattle.lsp_messages.specs.declared.incoming.Refusal.{Refusal};
 ghost use Rattle.session_core.specs.Message as messages;
 ghost use Rattle.session_core.specs.Refusals.{is_ended};
+ghost use Rattle.session_core.specs.Served.{as_served};
 ghost use Rattle.session_core.specs.Step.{Acts};
 ghost use Rattle.library_reading.specs.Asked.{AsksOver};
 
@@ -85,7 +86,7 @@ impl Standing {
         library: &mut B,
         steps: &mut Steps<L>,
     ) -> Result<Bodies, OutOfMemory>
-        ensures { (wanted : Result LspIn Refusal) → IsReading told wanted → AsksOver (messages.asked self.old wanted) (λ bodies. record { state = self.new; bodies = bodies }) result
+        ensures { (wanted : Result LspIn Refusal) → IsReading told wanted → AsksOver (messages.asked self.old (as_served wanted)) (λ bodies. record { state = self.new; bodies = bodies }) result
             (B.calls library.old) (B.calls library.new) (B.faults library.old) (B.faults library.new) }
     {
         match told {
@@ -94,7 +95,7 @@ impl Standing {
         }
     }
 
-    /// Takes a message of a known method with right parameters.
+    /// Takes a message of a known method with right parameters. What is not served yet is taken as one of no known method.
     fn take<B: Library, L: Ledger>(
         &mut self,
         alloc: Global,
@@ -102,12 +103,16 @@ impl Standing {
         library: &mut B,
         steps: &mut Steps<L>,
     ) -> Result<Bodies, OutOfMemory>
-        ensures { AsksOver (messages.asked self.old (Ok message)) (λ bodies. record { state = self.new; bodies = bodies }) result
+        ensures { AsksOver (messages.asked self.old (as_served (Ok message))) (λ bodies. record { state = self.new; bodies = bodies }) result
             (B.calls library.old) (B.calls library.new) (B.faults library.old) (B.faults library.new) }
     {
         match message {
             LspIn::Initialize { id, root } => self.initialize(alloc, id, root),
             LspIn::Shutdown { id } => self.shutdown(alloc, id, steps),
+            LspIn::Definition { id, .. } => self.unknown_request(alloc, id),
+            LspIn::References { id, .. } => self.unknown_request(alloc, id),
+            LspIn::Hover { id, .. } => self.unknown_request(alloc, id),
+            LspIn::DocumentSymbol { id, .. } => self.unknown_request(alloc, id),
             LspIn::Exit => Ok(self.exit(alloc)),
             LspIn::Initialized => self.initialized(alloc, library),
             LspIn::DidOpen {
@@ -127,12 +132,14 @@ impl Standing {
             LspIn::DidChangeWatchedFiles { changes } => {
                 self.watched(alloc, changes.as_slice(), library)
             }
+            LspIn::Cancel { .. } => self.unserved(alloc, "$/cancelRequest"),
+            LspIn::Dap { .. } => self.unserved(alloc, "hlasm/dap"),
         }
     }
 
     /// Takes what is no message that is understood.
     fn refuse(&mut self, alloc: Global, refusal: Refusal) -> Result<Bodies, OutOfMemory>
-        ensures { IfOk result (λ bodies. (refusal ≢ Refusal.OutOfMemory) × Acts (messages.asked self.old (Err refusal)) self.new bodies) }
+        ensures { IfOk result (λ bodies. (refusal ≢ Refusal.OutOfMemory) × Acts (messages.asked self.old (as_served (Err refusal))) self.new bodies) }
     {
         match refusal {
             Refusal::NotRequest => {
@@ -140,7 +147,7 @@ impl Standing {
                 Bodies::one(alloc, body)
             }
             Refusal::UnknownMethod(head) => self.unknown_method(alloc, head),
-            Refusal::BadParams(head, name) => self.bad_params(alloc, head, name),
+            Refusal::BadParams(head, name) => self.bad_served(alloc, head, name),
             Refusal::OutOfMemory => Err(OutOfMemory),
         }
     }

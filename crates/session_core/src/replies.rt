@@ -142,6 +142,10 @@ fn list_told(message: LspOut) -> Diagnostics
             message: _message,
         } => unreachable!(),
         LspOut::Log { message: _message } => unreachable!(),
+        LspOut::Dap {
+            session: _session,
+            message: _message,
+        } => unreachable!(),
     }
 }
 

@@ -1,6 +1,8 @@
 //! Requests that are refused (JSON-RPC 2.0, "Error object"; LSP 3.17, `ErrorCodes`).
 ghost use Rattle.std.specs.Prelude.{◌≡◌, [], ◌∷◌, ℕ, List, true, false, Some, IfOk};
-ghost use Rattle.session_core.specs.Inside.{unknown_asked, wrong_asked};
+ghost use Rattle.session_core.specs.Inside.{unknown_asked, wrong_asked, refusal_asked};
+ghost use Rattle.lsp_messages.specs.declared.incoming.Refusal.TheVariants.{BadParams};
+ghost use Rattle.session_core.specs.Served.{is_unserved};
 ghost use Rattle.session_core.specs.Refusals.{TooEarly, OutOfPlace, is_initialize, reply};
 ghost use Rattle.session_core.specs.Step.{Acts};
 
@@ -17,6 +19,19 @@ fn is_initialize(method: &Text) -> bool
     ensures { result ≡ is_initialize method.now }
 {
     "initialize" == method.as_str()
+}
+
+/// Whether a method is that of a message that is read and not served yet.
+fn is_unserved(method: &Text) -> bool
+    ensures { result ≡ is_unserved method.now }
+{
+    let method = method.as_str();
+    method == "textDocument/definition"
+        || method == "textDocument/references"
+        || method == "textDocument/hover"
+        || method == "textDocument/documentSymbol"
+        || method == "$/cancelRequest"
+        || method == "hlasm/dap"
 }
 
 /// A request before `initialize`.
@@ -51,7 +66,11 @@ impl Standing {
         }
     }
 
-    fn unknown_request(&mut self, alloc: Global, id: Id) -> Result<Bodies, OutOfMemory>
+    pub(crate) fn unknown_request(
+        &mut self,
+        alloc: Global,
+        id: Id,
+    ) -> Result<Bodies, OutOfMemory>
         ensures { IfOk result (λ bodies. (method : List ℕ) → Acts (unknown_asked self.old (Some id) method) self.new bodies) }
     {
         match self.stage {
@@ -65,8 +84,24 @@ impl Standing {
         }
     }
 
+    /// The same; the parameters of what is not served yet are not looked at.
+    pub(crate) fn bad_served(
+        &mut self,
+        alloc: Global,
+        head: Head,
+        name: Text,
+    ) -> Result<Bodies, OutOfMemory>
+        ensures { IfOk result (λ bodies. Acts (refusal_asked self.old (BadParams head name)) self.new bodies) }
+    {
+        if is_unserved(&head.method) {
+            self.unknown_method(alloc, head)
+        } else {
+            self.bad_params(alloc, head, name)
+        }
+    }
+
     /// A request or a notification with a parameter that is missing or of a wrong kind.
-    pub(crate) fn bad_params(
+    fn bad_params(
         &mut self,
         alloc: Global,
         head: Head,
