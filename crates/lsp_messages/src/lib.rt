@@ -17,6 +17,9 @@ mod shapes;
 mod writing;
 
 pub use incoming::{ChangeKind, FileChange, FileChanges, Head, Id, LspIn, Refusal};
-pub use outgoing::{Diagnostic, Diagnostics, LspOut, Relation, Relations, Span};
+pub use outgoing::{
+    Diagnostic, Diagnostics, DocumentSymbol, DocumentSymbols, Location, Locations, LspOut, Relation,
+    Relations, Span, SymbolAnswer, SymbolKind,
+};
 pub use reading::{is_response, read_lsp};
 pub use writing::initialize_result;

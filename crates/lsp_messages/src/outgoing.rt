@@ -33,6 +33,47 @@ pub struct Diagnostic {
     pub related: Relations,
 }
 
+/// A place in a document (LSP 3.17, `Location`).
+#[derive(Debug, Drop)]
+pub struct Location {
+    pub uri: Text,
+    pub range: Span,
+}
+
+/// What a symbol of a document is (LSP 3.17, `SymbolKind`).
+#[derive(Clone, Copy, Debug, PartialEq, Eq)]
+pub enum SymbolKind {
+    Variable,
+    Constant,
+}
+
+/// A symbol that a document defines (LSP 3.17, `DocumentSymbol`); what is selected of it is its whole range.
+#[derive(Debug, Drop)]
+pub struct DocumentSymbol {
+    pub kind: SymbolKind,
+    pub name: Text,
+    pub range: Span,
+}
+
+/// What is answered to a question on the symbols of a document.
+#[derive(Debug, Drop)]
+pub enum SymbolAnswer {
+    /// There is nothing to show.
+    Nothing,
+
+    /// Where the symbol is defined.
+    Place(Location),
+
+    /// Where the symbol stands.
+    Places(Locations),
+
+    /// What is said of the symbol.
+    Hover(Text),
+
+    /// The symbols that the document defines.
+    Symbols(DocumentSymbols),
+}
+
 /// A message of the server.
 #[derive(Drop)]
 pub enum LspOut {
@@ -143,5 +184,89 @@ impl Diagnostics {
         ensures { result.now ≡ self.now }
     {
         self.diagnostics.as_slice()
+    }
+}
+
+/// Places in documents, in order. Contracts see the list.
+#[derive(Debug, Drop)]
+pub struct Locations {
+    locations: Vec<Location>,
+}
+
+impl Model for Locations {
+    ghost use Rattle.std.specs.Prelude.{List};
+    ghost use Rattle.lsp_messages.specs.declared.outgoing.Location.{Location};
+
+    ghost Value = { List Location };
+
+    ghost view = { λ s. s.locations.items };
+}
+
+impl Locations {
+    /// No location.
+    pub fn new(alloc: Global) -> Locations
+        ensures { result ≡ [] }
+    {
+        Locations {
+            locations: Vec::new(alloc),
+        }
+    }
+
+    /// Adds a location behind those that are there. An `Err` changes nothing.
+    pub fn push(&mut self, location: Location) -> Result<(), OutOfMemory>
+        ensures ok { OnOk result (self.new ≡ self.old ++ location ∷ []) }
+        ensures err { OnErr result (self.new ≡ self.old) }
+    {
+        self.locations.push(location)?;
+        Ok(())
+    }
+
+    /// The locations in order.
+    pub fn as_slice(&self) -> &[Location]
+        ensures { result.now ≡ self.now }
+    {
+        self.locations.as_slice()
+    }
+}
+
+/// Symbols of a document, in order. Contracts see the list.
+#[derive(Debug, Drop)]
+pub struct DocumentSymbols {
+    symbols: Vec<DocumentSymbol>,
+}
+
+impl Model for DocumentSymbols {
+    ghost use Rattle.std.specs.Prelude.{List};
+    ghost use Rattle.lsp_messages.specs.declared.outgoing.DocumentSymbol.{DocumentSymbol};
+
+    ghost Value = { List DocumentSymbol };
+
+    ghost view = { λ s. s.symbols.items };
+}
+
+impl DocumentSymbols {
+    /// No symbol.
+    pub fn new(alloc: Global) -> DocumentSymbols
+        ensures { result ≡ [] }
+    {
+        DocumentSymbols {
+            symbols: Vec::new(alloc),
+        }
+    }
+
+    /// Adds a symbol behind those that are there. An `Err` changes nothing.
+    pub fn push(&mut self, symbol: DocumentSymbol) -> Result<(), OutOfMemory>
+        ensures ok { OnOk result (self.new ≡ self.old ++ symbol ∷ []) }
+        ensures err { OnErr result (self.new ≡ self.old) }
+    {
+        self.symbols.push(symbol)?;
+        Ok(())
+    }
+
+    /// The symbols in order.
+    pub fn as_slice(&self) -> &[DocumentSymbol]
+        ensures { result.now ≡ self.now }
+    {
+        self.symbols.as_slice()
     }
 }

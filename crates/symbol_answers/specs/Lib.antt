@@ -1,0 +1,6 @@
+pub mod Answers
+pub mod Entities
+pub mod Hover
+pub mod Kept
+pub mod Order
+pub mod Questions
