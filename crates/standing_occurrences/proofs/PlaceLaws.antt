@@ -1,12 +1,13 @@
 -- Occurrences of which each is the first of its place.
-use Rattle.std.proofs.Common.{◌≡◌, Bool, true, false, not, cond, ◌||◌, List, [], ◌∷◌, ◌++◌, map, filter, refl, sym, ap, ◌∙◌}
+use Rattle.std.proofs.Common.{◌≡◌, ℕ, ◌+◌, ◌<◌, length, take, get_or, Bool, true, false, not, cond, ◌||◌, List, [], ◌∷◌, ◌++◌, map, filter, refl, sym, ap, ◌∙◌}
 use Rattle.std.specs.Cmp.{IsEquivalence}
 use Rattle.std.specs.List.{list_any}
 use Rattle.std.proofs.lemmas.Cmp.{on_equiv, and_equiv, nat_eq_equiv}
-use Rattle.std.proofs.lemmas.List.{append-nil}
+use Rattle.std.proofs.lemmas.List.{append-nil, take_more}
 use Rattle.std.proofs.lemmas.List.Elements.{filter-append}
 use Rattle.trace_values.specs.declared.occurrence.Occurrence.{Occurrence}
 use Rattle.standing_occurrences.specs.Kept.{place_of}
+use Rattle.standing_occurrences.specs.declared.place.Place.{Place}
 use Rattle.standing_occurrences.specs.Standing.{is_same_place, standing, with_first}
 
 -- ---- places
@@ -40,11 +41,11 @@ any_elsewhere one x differs (y ∷ ys) = by (is_same_place x y) refl (any_elsewh
 -- the place of each is the place of one that stands
 pub any_standing : (xs : List Occurrence) (one : Occurrence) → list_any (is_same_place one) (standing xs) ≡ list_any (is_same_place one) xs
 any_standing [] one = refl
-any_standing (x ∷ xs) one = by (is_same_place one x) refl where
-  by : (b : Bool) → is_same_place one x ≡ b
+any_standing (x ∷ xs) one = by (is_same_place one x) refl (any_standing xs one) where
+  by : (b : Bool) → is_same_place one x ≡ b → list_any (is_same_place one) (standing xs) ≡ list_any (is_same_place one) xs
       → (b || list_any (is_same_place one) (filter (elsewhere x) (standing xs))) ≡ (b || list_any (is_same_place one) xs)
-  by true e = refl
-  by false e = any_elsewhere one x e (standing xs) ∙ any_standing xs one
+  by true e rest = refl
+  by false e rest = any_elsewhere one x e (standing xs) ∙ rest
 
 -- ---- one more behind
 
@@ -136,3 +137,40 @@ standing-again (x ∷ xs) =
 pub any_kept : {P : Type 0} (of : Occurrence → P) (test : P → Bool) (xs : List Occurrence) → list_any test (map of xs) ≡ list_any (λ x. test (of x)) xs
 any_kept of test [] = refl
 any_kept of test (x ∷ xs) = ap (λ b. test (of x) || b) (any_kept of test xs)
+
+any_same : (p q : Occurrence → Bool) → ((x : Occurrence) → p x ≡ q x) → (xs : List Occurrence) → list_any p xs ≡ list_any q xs
+any_same p q same [] = refl
+any_same p q same (x ∷ xs) = ap (λ b. b || list_any p xs) (same x) ∙ ap (λ b. q x || b) (any_same p q same xs)
+
+-- the kept places tell whether an occurrence of a place is kept
+pub kept_tells : (eq : Place → Place → Bool) → ((x y : Occurrence) → eq (place_of x) (place_of y) ≡ is_same_place x y) → (keys : List Place) (items kept : List Occurrence) (place : Place) (next : Occurrence)
+    → keys ≡ map place_of items → items ≡ kept → place ≡ place_of next → list_any (eq place) keys ≡ list_any (is_same_place next) kept
+kept_tells eq same keys items kept place next are is_kept is =
+    ap (λ p. list_any (eq p) keys) is
+    ∙ ap (list_any (eq (place_of next))) are
+    ∙ any_kept place_of (eq (place_of next)) items
+    ∙ any_same (λ x. eq (place_of next) (place_of x)) (is_same_place next) (same next) items
+    ∙ ap (list_any (is_same_place next)) is_kept
+
+-- one of a new place stands, and one of another's does not
+pub stands_new : (kept new : List Occurrence) (next : Occurrence) (b : Bool) → b ≡ not (list_any (is_same_place next) kept) → b ≡ true → new ≡ kept ++ next ∷ [] → new ≡ with_first kept next
+stands_new kept new next b is yes grown = by (list_any (is_same_place next) kept) (sym is ∙ yes) where
+  by : (found : Bool) → not found ≡ true → new ≡ cond found kept (kept ++ next ∷ [])
+  by true e = cc
+  by false e = grown
+
+pub stands_not : (kept new : List Occurrence) (next : Occurrence) (b : Bool) → b ≡ not (list_any (is_same_place next) kept) → b ≡ false → new ≡ kept → new ≡ with_first kept next
+stands_not kept new next b is no same = by (list_any (is_same_place next) kept) (sym is ∙ no) where
+  by : (found : Bool) → not found ≡ false → new ≡ cond found kept (kept ++ next ∷ [])
+  by true e = same
+  by false e = cc
+
+-- what stands of the first so many, and of one more
+pub standing_next : (xs kept new : List Occurrence) (i : ℕ) (x next : Occurrence) → kept ≡ standing (take i xs) → i < length xs → x ≡ get_or xs i x → next ≡ x → new ≡ with_first kept next
+    → new ≡ standing (take (i + 1) xs)
+standing_next xs kept new i x next is within at same grown =
+    grown
+    ∙ ap (λ k. with_first k next) is
+    ∙ ap (with_first (standing (take i xs))) (same ∙ at)
+    ∙ sym (standing-behind (take i xs) (get_or xs i x))
+    ∙ ap standing (sym (take_more xs i x within))
