@@ -1,4 +1,4 @@
--- What is written has no float but in the result of a reply, so its text is known byte for byte.
+-- What is written has no float but in the result of a reply and in a debug message, so its text is known byte for byte.
 use Rattle.std.proofs.Common.{◌≡◌, ℤ, pos, negsuc, List, [], ◌∷◌, false, Option, Some, None, map, refl}
 use Rattle.serde_json.specs.Find.{is_float, of_integer}
 use Rattle.serde_json.specs.View.{items_of}
@@ -8,8 +8,12 @@ use Rattle.lsp_messages.specs.declared.incoming.Id.TheVariants.{Number, Words}
 use Rattle.lsp_messages.specs.declared.outgoing.Relation.{Relation}
 use Rattle.lsp_messages.specs.declared.outgoing.Diagnostic.{Diagnostic}
 use Rattle.lsp_messages.specs.declared.outgoing.LspOut.{LspOut}
-use Rattle.lsp_messages.specs.declared.outgoing.LspOut.TheVariants.{Reply, Fault, Log, Published}
-use Rattle.lsp_messages.specs.Written.{id_value, answered_value, relation_value, report_value, diagnostic_value, version_member, value_of, has_fraction}
+use Rattle.lsp_messages.specs.declared.outgoing.LspOut.TheVariants.{Reply, Fault, Log, Published, Dap}
+use Rattle.lsp_messages.specs.declared.outgoing.Location.{Location}
+use Rattle.lsp_messages.specs.declared.outgoing.DocumentSymbol.{DocumentSymbol}
+use Rattle.lsp_messages.specs.declared.outgoing.SymbolAnswer.{SymbolAnswer}
+use Rattle.lsp_messages.specs.declared.outgoing.SymbolAnswer.TheVariants.{Nothing, Place, Places, Hover, Symbols}
+use Rattle.lsp_messages.specs.Written.{id_value, answered_value, relation_value, report_value, diagnostic_value, version_member, place_value, symbol_value, answer_value, value_of, has_fraction}
 
 pub is_float-of_integer : (z : ℤ) → is_float (of_integer z) ≡ false
 is_float-of_integer (pos n) = refl
@@ -39,7 +43,23 @@ pub members_have_float-version_member : (version : Option ℤ) → members_have_
 members_have_float-version_member None = refl
 members_have_float-version_member (Some version) = rw (is_float-of_integer version) refl
 
--- no message has a float but for one in the result of a reply
+pub items_have_float-places : (ps : List Location) → items_have_float (items_of (map place_value ps)) ≡ false
+items_have_float-places [] = refl
+items_have_float-places (p ∷ ps) = items_have_float-places ps
+
+pub items_have_float-symbols : (ss : List DocumentSymbol) → items_have_float (items_of (map symbol_value ss)) ≡ false
+items_have_float-symbols [] = refl
+items_have_float-symbols (s ∷ ss) = items_have_float-symbols ss
+
+-- no answer to a request on symbols has a float
+pub has_float-answer_value : (answer : SymbolAnswer) → has_float (answer_value answer) ≡ false
+has_float-answer_value Nothing = refl
+has_float-answer_value (Place place) = refl
+has_float-answer_value (Places places) = items_have_float-places places
+has_float-answer_value (Hover text) = refl
+has_float-answer_value (Symbols symbols) = items_have_float-symbols symbols
+
+-- no message has a float but for one in the result of a reply or in a debug message
 pub has_float-value_of : (message : LspOut) → has_fraction message ≡ false → has_float (value_of message) ≡ false
 unfolding value_of
 has_float-value_of (Reply id result) is_whole = rw (has_float-id_value id, is_whole) refl
@@ -47,3 +67,4 @@ has_float-value_of (Fault id code message) is_whole = rw (is_float-of_integer co
 has_float-value_of (Log message) is_whole = refl
 has_float-value_of (Published uri version diagnostics) is_whole =
     rw (items_have_float-diagnostics diagnostics, members_have_float-version_member version) refl
+has_float-value_of (Dap session message) is_whole = rw is_whole refl

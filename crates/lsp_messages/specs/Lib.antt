@@ -1,3 +1,4 @@
+pub mod Codes
 pub mod Messages
 pub mod Parameters
 pub mod Shapes

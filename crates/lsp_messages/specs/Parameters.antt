@@ -1,12 +1,16 @@
 -- The members of the parameters of messages (LSP 3.17), by name and kind. A member that is missing or of another kind
 -- is what a refusal names.
-use Rattle.std.specs.Prelude.{◌≡◌, ℕ, ◌^◌, List, [], ◌∷◌, nat_eq, nat_lt, codes, if◌then◌else◌, Option, Some, None, option_and_then, ok_or, Result, Ok, Err, ⊤}
+use Rattle.std.specs.Prelude.{◌≡◌, ℕ, ◌^◌, ◌&&◌, List, [], ◌∷◌, nat_eq, nat_lt, codes, if◌then◌else◌, Option, Some, None, option_map, option_and_then, ok_or, Result, Ok, Err, chars, ⊤}
+use Rattle.std.specs.Option.{option_or}
 use Rattle.serde_json.specs.Data.{Data}
-use Rattle.json_view.specs.Members.{member_of, unless_missing, kept_if, as_object_value, as_u32}
+use Rattle.serde_json.specs.Find.{as_str}
+use Rattle.json_view.specs.Members.{member_of, unless_missing, kept_if, as_object_value, as_u32, as_i32}
 use Rattle.lsp_messages.specs.declared.incoming.ChangeKind.{ChangeKind}
 use Rattle.lsp_messages.specs.declared.incoming.ChangeKind.TheVariants.{Created, Changed, Deleted}
+use Rattle.lsp_messages.specs.declared.incoming.Id.{Id}
+use Rattle.lsp_messages.specs.declared.incoming.Id.TheVariants.{Number, Words}
 use Rattle.lsp_messages.specs.declared.parameters.Parameter.{Parameter}
-use Rattle.lsp_messages.specs.declared.parameters.Parameter.TheVariants.{Params, RootUri, WorkspaceFolders, TextDocument, Uri, LanguageId, Version, Text, ContentChanges, Range, Start, End, Line, Character, Changes, ChangeType}
+use Rattle.lsp_messages.specs.declared.parameters.Parameter.TheVariants.{Params, RootUri, WorkspaceFolders, TextDocument, Uri, LanguageId, Version, Text, ContentChanges, Range, Start, End, Line, Character, Changes, ChangeType, Place, Context, IncludeDeclaration, Request, Session, Message}
 use Rattle.lsp_messages.specs.declared.parameters.ParameterFault.{ParameterFault}
 use Rattle.lsp_messages.specs.declared.parameters.ParameterFault.TheVariants.{Bad, OutOfMemory}
 
@@ -28,6 +32,12 @@ name_of Line = codes "line"
 name_of Character = codes "character"
 name_of Changes = codes "changes"
 name_of ChangeType = codes "type"
+name_of Place = codes "position"
+name_of Context = codes "context"
+name_of IncludeDeclaration = codes "includeDeclaration"
+name_of Request = codes "id"
+name_of Session = codes "session"
+name_of Message = codes "message"
 
 -- what there is, or the parameter that there is not
 abbrev pub or_names : {A F : Type 0} → Parameter → Result A F → Result A Parameter
@@ -49,6 +59,14 @@ object_in list value = ok_or (as_object_value value) list
 -- a line or a character: a whole number from 0 to 2^31 - 1
 abbrev pub coordinate : Data → Option ℕ
 coordinate value = option_and_then (kept_if (λ n. nat_lt n (2 ^ 31))) (as_u32 value)
+
+-- the number of a debug session: a whole number from 1 to 2^31 - 1
+abbrev pub session_number : Data → Option ℕ
+session_number value = option_and_then (kept_if (λ n. nat_lt 0 n && nat_lt n (2 ^ 31))) (as_u32 value)
+
+-- an id is a text or a whole number of 32 bits
+abbrev pub as_id : Data → Option Id
+as_id value = option_or (option_map (λ text. Words (chars text)) (as_str value)) (option_map Number (as_i32 value))
 
 -- what happened to a file, by its number
 abbrev pub kind_numbered : ℕ → Option ChangeKind

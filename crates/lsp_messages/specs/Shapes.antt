@@ -2,16 +2,18 @@
 -- order; every member that is not named here is ignored.
 use Rattle.std.specs.Prelude.{ℕ, List, [], ◌∷◌, Bool, is_some, if◌then◌else◌, Option, Some, None, option_and_then, unwrap_or, Result, Ok, Err, chars, ⊤}
 use Rattle.serde_json.specs.Data.{Data, no_items, object, no_members}
-use Rattle.serde_json.specs.Find.{get, as_null, as_str, as_array}
+use Rattle.serde_json.specs.Find.{get, as_null, as_str, as_array, as_bool}
 use Rattle.json_view.specs.Members.{as_object_value, as_i32, list_of}
 use Rattle.hl_base.specs.declared.edit.Position.{Position}
 use Rattle.hl_base.specs.declared.edit.Edit.{Edit}
 use Rattle.lsp_messages.specs.declared.incoming.FileChange.{FileChange}
 use Rattle.lsp_messages.specs.declared.incoming.LspIn.{LspIn}
-use Rattle.lsp_messages.specs.declared.incoming.LspIn.TheVariants.{DidOpen, DidChange, DidClose, DidChangeWatchedFiles}
+use Rattle.lsp_messages.specs.declared.incoming.LspIn.TheVariants.{DidOpen, DidChange, DidClose, DidChangeWatchedFiles, Cancel, Dap}
 use Rattle.lsp_messages.specs.declared.parameters.Parameter.{Parameter}
-use Rattle.lsp_messages.specs.declared.parameters.Parameter.TheVariants.{Params, RootUri, WorkspaceFolders, TextDocument, Uri, LanguageId, Version, Text, ContentChanges, Range, Start, End, Line, Character, Changes, ChangeType}
-use Rattle.lsp_messages.specs.Parameters.{name_of, needed, optional, object_in, coordinate, as_change_kind, ◌>>=◌, each, all}
+use Rattle.lsp_messages.specs.declared.parameters.Parameter.TheVariants.{Params, RootUri, WorkspaceFolders, TextDocument, Uri, LanguageId, Version, Text, ContentChanges, Range, Start, End, Line, Character, Changes, ChangeType, Place, Context, IncludeDeclaration, Request, Session, Message}
+use Rattle.lsp_messages.specs.declared.shapes.AskedPlace.{AskedPlace}
+use Rattle.lsp_messages.specs.declared.shapes.AskedReferences.{AskedReferences}
+use Rattle.lsp_messages.specs.Parameters.{name_of, needed, optional, object_in, coordinate, session_number, as_id, as_change_kind, ◌>>=◌, each, all}
 use Rattle.file_uri.specs.Paths.{path_of}
 
 -- the parameters of a message; where there are none, an object without members
@@ -175,3 +177,54 @@ watched message = do
   params ← params_of message
   changes ← file_changes_in params
   Ok (DidChangeWatchedFiles changes)
+
+-- ---- requests on a document (`TextDocumentPositionParams`, `ReferenceParams`, `DocumentSymbolParams`)
+
+-- the URI of the document that is asked for, which must have the path of a file
+abbrev pub asked_uri : Data → Result (List ℕ) Parameter
+asked_uri params = do
+  document ← needed as_object_value TextDocument params
+  uri ← needed as_str Uri document
+  is_file ← checked_uri Uri uri
+  Ok (chars uri)
+
+-- textDocument/definition and textDocument/hover
+unfoldable pub place_asked : Data → Result AskedPlace Parameter
+place_asked message = do
+  params ← params_of message
+  uri ← asked_uri params
+  at ← place_at Place params
+  Ok (record { uri = uri; at = at })
+
+-- textDocument/references
+unfoldable pub references_asked : Data → Result AskedReferences Parameter
+references_asked message = do
+  params ← params_of message
+  uri ← asked_uri params
+  at ← place_at Place params
+  context ← needed as_object_value Context params
+  declarations ← needed as_bool IncludeDeclaration context
+  Ok (record { uri = uri; at = at; declarations = declarations })
+
+-- textDocument/documentSymbol
+unfoldable pub document_asked : Data → Result (List ℕ) Parameter
+document_asked message = do
+  params ← params_of message
+  asked_uri params
+
+-- ---- $/cancelRequest (`CancelParams`)
+
+unfoldable pub cancelled : Data → Result LspIn Parameter
+cancelled message = do
+  params ← params_of message
+  id ← needed as_id Request params
+  Ok (Cancel id)
+
+-- ---- hlasm/dap (this project): a message of the Debug Adapter Protocol for one of the debug sessions
+
+unfoldable pub debugged : Data → Result LspIn Parameter
+debugged message = do
+  params ← params_of message
+  session ← needed session_number Session params
+  request ← needed as_object_value Message params
+  Ok (Dap session request)

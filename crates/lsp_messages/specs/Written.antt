@@ -1,5 +1,6 @@
 -- What is written, as JSON values and their texts (JSON-RPC 2.0, "Response object"; LSP 3.17, `InitializeResult`,
--- `PublishDiagnosticsParams`, `LogMessageParams`). Members stand in the order of the bytes of their names.
+-- `PublishDiagnosticsParams`, `LogMessageParams`, `Location`, `Hover`, `DocumentSymbol`). Members stand in the order of the
+-- bytes of their names.
 use Rattle.std.specs.Prelude.{ℕ, ℤ, List, [], ◌∷◌, Bool, true, false, codes, map, encode_utf8_all, Option, Some, None}
 use Rattle.serde_json.specs.Data.{Data, Members, null, boolean, number, unsigned, string, array, object, member, no_members}
 use Rattle.serde_json.specs.Find.{of_integer}
@@ -11,8 +12,14 @@ use Rattle.lsp_messages.specs.declared.incoming.Id.TheVariants.{Number, Words}
 use Rattle.lsp_messages.specs.declared.outgoing.Span.{Span}
 use Rattle.lsp_messages.specs.declared.outgoing.Relation.{Relation}
 use Rattle.lsp_messages.specs.declared.outgoing.Diagnostic.{Diagnostic}
+use Rattle.lsp_messages.specs.declared.outgoing.Location.{Location}
+use Rattle.lsp_messages.specs.declared.outgoing.SymbolKind.{SymbolKind}
+use Rattle.lsp_messages.specs.declared.outgoing.SymbolKind.TheVariants.{Variable, Constant}
+use Rattle.lsp_messages.specs.declared.outgoing.DocumentSymbol.{DocumentSymbol}
+use Rattle.lsp_messages.specs.declared.outgoing.SymbolAnswer.{SymbolAnswer}
+use Rattle.lsp_messages.specs.declared.outgoing.SymbolAnswer.TheVariants.{Nothing, Place, Places, Hover, Symbols}
 use Rattle.lsp_messages.specs.declared.outgoing.LspOut.{LspOut}
-use Rattle.lsp_messages.specs.declared.outgoing.LspOut.TheVariants.{Reply, Fault, Log, Published}
+use Rattle.lsp_messages.specs.declared.outgoing.LspOut.TheVariants.{Reply, Fault, Log, Published, Dap}
 
 -- a text as JSON has it
 abbrev pub text_value : List ℕ → Data
@@ -130,6 +137,47 @@ published_params uri version diagnostics =
     (member (codes "uri") (text_value uri)
     (version_member version)))
 
+-- a message of a debug session for its client
+abbrev pub dap_params : (session : ℕ) → Data → Data
+dap_params session message =
+    object (member (codes "message") message
+    (member (codes "session") (number (unsigned session)) no_members))
+
+-- ---- answers to requests on symbols
+
+-- a place
+abbrev pub place_value : Location → Data
+place_value place = location_value place.uri place.range
+
+-- a text that is shown where the pointer is
+abbrev pub hover_value : List ℕ → Data
+hover_value text =
+    object (member (codes "contents")
+    (object (member (codes "kind") (string (codes "plaintext"))
+    (member (codes "value") (text_value text) no_members)))
+    no_members)
+
+-- what a symbol is to an editor, by its number
+abbrev pub kind_number : SymbolKind → ℕ
+kind_number Variable = 13
+kind_number Constant = 14
+
+-- a symbol of a document; what is selected is the statement that defines it
+abbrev pub symbol_value : DocumentSymbol → Data
+symbol_value symbol =
+    object (member (codes "kind") (number (unsigned (kind_number symbol.kind)))
+    (member (codes "name") (text_value symbol.name)
+    (member (codes "range") (span_value symbol.range)
+    (member (codes "selectionRange") (span_value symbol.range) no_members))))
+
+-- the result of a request on symbols
+abbrev pub answer_value : SymbolAnswer → Data
+answer_value Nothing = null
+answer_value (Place place) = place_value place
+answer_value (Places places) = array (items_of (map place_value places))
+answer_value (Hover text) = hover_value text
+answer_value (Symbols symbols) = array (items_of (map symbol_value symbols))
+
 -- ---- messages
 
 -- a message as a JSON value
@@ -139,17 +187,19 @@ value_of (Fault id code message) = fault_value id code message
 value_of (Log message) = notification_value (codes "window/logMessage") (log_params message)
 value_of (Published uri version diagnostics) =
     notification_value (codes "textDocument/publishDiagnostics") (published_params uri version diagnostics)
+value_of (Dap session message) = notification_value (codes "hlasm/dap") (dap_params session (view message))
 
 -- the body of a message: its value without blanks
 unfoldable pub text_of : LspOut → List ℕ
 text_of message = compact_text (value_of message)
 
--- whether a message has a number with a point or an exponent, which only the result of a reply can have
+-- whether a message has a number with a point or an exponent, which only the result of a reply and a debug message can have
 abbrev pub has_fraction : LspOut → Bool
 has_fraction (Reply id result) = has_float (view result)
 has_fraction (Fault id code message) = false
 has_fraction (Log message) = false
 has_fraction (Published uri version diagnostics) = false
+has_fraction (Dap session message) = has_float (view message)
 
 -- ---- the result of initialize
 

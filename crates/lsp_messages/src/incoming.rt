@@ -1,7 +1,9 @@
 //! What is read: the messages of a client, and why a value is none.
 ghost use Rattle.std.specs.Prelude.{◌≡◌, List, [], ◌∷◌, ◌++◌, IfOk, OnOk, OnErr};
+ghost use Rattle.serde_json.specs.View.{view};
 
-use hl_base::{Edits, OutOfMemory, Text};
+use hl_base::{Edits, OutOfMemory, Position, Text};
+use serde_json::Value;
 use std::alloc::Global;
 use std::marker::Model;
 use thiserror::Error;
@@ -89,8 +91,45 @@ impl FileChanges {
     }
 }
 
-/// A message of the client (LSP 3.17, "Lifecycle Messages", "Text Document Synchronization" and "Workspace Features").
-/// URIs and texts are as they came; `root` is the URI of the folder that the client works in.
+/// A message of a debugger's client, as it came: an object of JSON. Contracts see what it stands for.
+#[derive(Drop)]
+pub struct DebugMessage {
+    json: Value,
+}
+
+impl Model for DebugMessage {
+    ghost use Rattle.serde_json.specs.Data.{Data};
+    ghost use Rattle.serde_json.specs.View.{view as data_of};
+    ghost use Rattle.lsp_messages.specs.Codes.{data_code};
+
+    ghost Value = { Data };
+
+    ghost coded = { data_code };
+
+    ghost view = { λ s. data_of s.json };
+}
+
+impl DebugMessage {
+    /// A copy of this JSON.
+    pub fn of(json: &Value) -> Result<DebugMessage, OutOfMemory>
+        ensures { IfOk result (λ message. message ≡ view json.now) }
+    {
+        Ok(DebugMessage {
+            json: json.clone()?,
+        })
+    }
+
+    /// The JSON.
+    pub fn as_json(&self) -> &Value
+        ensures { view result.now ≡ self.now }
+    {
+        &self.json
+    }
+}
+
+/// A message of the client (LSP 3.17, "Lifecycle Messages", "Text Document Synchronization", "Language Features" and
+/// "Workspace Features"). URIs and texts are as they came; `root` is the URI of the folder that the client works in, and `Dap`
+/// a message for one of the debug sessions.
 #[derive(Drop)]
 pub enum LspIn {
     Initialize {
@@ -99,6 +138,26 @@ pub enum LspIn {
     },
     Shutdown {
         id: Id,
+    },
+    Definition {
+        id: Id,
+        uri: Text,
+        at: Position,
+    },
+    References {
+        id: Id,
+        uri: Text,
+        at: Position,
+        declarations: bool,
+    },
+    Hover {
+        id: Id,
+        uri: Text,
+        at: Position,
+    },
+    DocumentSymbol {
+        id: Id,
+        uri: Text,
     },
     Initialized,
     Exit,
@@ -120,6 +179,13 @@ pub enum LspIn {
     DidChangeConfiguration,
     DidChangeWatchedFiles {
         changes: FileChanges,
+    },
+    Cancel {
+        id: Id,
+    },
+    Dap {
+        session: u32,
+        message: DebugMessage,
     },
 }
 

@@ -40,14 +40,14 @@ pub struct Location {
     pub range: Span,
 }
 
-/// What a symbol of a document is (LSP 3.17, `SymbolKind`).
+/// What a symbol is to an editor (LSP 3.17, `SymbolKind`: 13 and 14). One with an absolute value is a constant.
 #[derive(Clone, Copy, Debug, PartialEq, Eq)]
 pub enum SymbolKind {
     Variable,
     Constant,
 }
 
-/// A symbol that a document defines (LSP 3.17, `DocumentSymbol`); what is selected of it is its whole range.
+/// A symbol of a document, and the statement that defines it (LSP 3.17, `DocumentSymbol`).
 #[derive(Debug, Drop)]
 pub struct DocumentSymbol {
     pub kind: SymbolKind,
@@ -55,22 +55,14 @@ pub struct DocumentSymbol {
     pub range: Span,
 }
 
-/// What is answered to a question on the symbols of a document.
+/// What a request on symbols is answered: nothing, the place of a definition, places of references, the text of a hover, or
+/// the symbols of a document.
 #[derive(Debug, Drop)]
 pub enum SymbolAnswer {
-    /// There is nothing to show.
     Nothing,
-
-    /// Where the symbol is defined.
     Place(Location),
-
-    /// Where the symbol stands.
     Places(Locations),
-
-    /// What is said of the symbol.
     Hover(Text),
-
-    /// The symbols that the document defines.
     Symbols(DocumentSymbols),
 }
 
@@ -100,6 +92,12 @@ pub enum LspOut {
         uri: Text,
         version: Option<i32>,
         diagnostics: Diagnostics,
+    },
+
+    /// A message of a debug session for its client.
+    Dap {
+        session: u32,
+        message: Value,
     },
 }
 
@@ -190,7 +188,7 @@ impl Diagnostics {
 /// Places in documents, in order. Contracts see the list.
 #[derive(Debug, Drop)]
 pub struct Locations {
-    locations: Vec<Location>,
+    places: Vec<Location>,
 }
 
 impl Model for Locations {
@@ -199,37 +197,37 @@ impl Model for Locations {
 
     ghost Value = { List Location };
 
-    ghost view = { λ s. s.locations.items };
+    ghost view = { λ s. s.places.items };
 }
 
 impl Locations {
-    /// No location.
+    /// No place.
     pub fn new(alloc: Global) -> Locations
         ensures { result ≡ [] }
     {
         Locations {
-            locations: Vec::new(alloc),
+            places: Vec::new(alloc),
         }
     }
 
-    /// Adds a location behind those that are there. An `Err` changes nothing.
-    pub fn push(&mut self, location: Location) -> Result<(), OutOfMemory>
-        ensures ok { OnOk result (self.new ≡ self.old ++ location ∷ []) }
+    /// Adds a place behind those that are there. An `Err` changes nothing.
+    pub fn push(&mut self, place: Location) -> Result<(), OutOfMemory>
+        ensures ok { OnOk result (self.new ≡ self.old ++ place ∷ []) }
         ensures err { OnErr result (self.new ≡ self.old) }
     {
-        self.locations.push(location)?;
+        self.places.push(place)?;
         Ok(())
     }
 
-    /// The locations in order.
+    /// The places in order.
     pub fn as_slice(&self) -> &[Location]
         ensures { result.now ≡ self.now }
     {
-        self.locations.as_slice()
+        self.places.as_slice()
     }
 }
 
-/// Symbols of a document, in order. Contracts see the list.
+/// Symbols, in order. Contracts see the list.
 #[derive(Debug, Drop)]
 pub struct DocumentSymbols {
     symbols: Vec<DocumentSymbol>,

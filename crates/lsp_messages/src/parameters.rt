@@ -1,14 +1,17 @@
 //! The parameters of messages, by name, and what each is read as.
 ghost use Rattle.std.specs.Prelude.{◌≡◌, option_map};
-ghost use Rattle.serde_json.specs.Find.{as_str, as_array};
+ghost use Rattle.serde_json.specs.Find.{as_str, as_array, as_bool};
 ghost use Rattle.serde_json.specs.View.{view, items_view};
 ghost use Rattle.json_view.specs.Members.{shown, as_i32, as_object_value};
-ghost use Rattle.lsp_messages.specs.Parameters.{name_of, needed, optional, object_in, coordinate, as_change_kind};
+ghost use Rattle.lsp_messages.specs.Parameters.{name_of, needed, optional, object_in, coordinate, session_number, as_id, as_change_kind, Answers};
 
-use crate::incoming::ChangeKind;
-use hl_base::OutOfMemory;
-use json_view::{need_int, need_list, need_object, need_text, need_uint, opt_object};
+use crate::incoming::{ChangeKind, Id};
+use hl_base::{OutOfMemory, Text};
+use json_view::{
+    MemberFault, need_int, need_list, need_object, need_text, need_uint, opt_bool, opt_object,
+};
 use serde_json::Value;
+use std::alloc::Global;
 
 /// A member of the parameters of a message.
 #[derive(Clone, Copy, Debug, PartialEq, Eq)]
@@ -29,6 +32,12 @@ pub enum Parameter {
     Character,
     Changes,
     ChangeType,
+    Place,
+    Context,
+    IncludeDeclaration,
+    Request,
+    Session,
+    Message,
 }
 
 impl Parameter {
@@ -53,6 +62,12 @@ impl Parameter {
             Parameter::Character => "character",
             Parameter::Changes => "changes",
             Parameter::ChangeType => "type",
+            Parameter::Place => "position",
+            Parameter::Context => "context",
+            Parameter::IncludeDeclaration => "includeDeclaration",
+            Parameter::Request => "id",
+            Parameter::Session => "session",
+            Parameter::Message => "message",
         }
     }
 }
@@ -105,6 +120,39 @@ pub fn coordinate(value: &Value, parameter: Parameter) -> Result<u32, Parameter>
         Ok(number)
     } else {
         Err(parameter)
+    }
+}
+
+/// The number of a debug session: from 1 to 2^31 - 1.
+pub fn session_number(value: &Value, parameter: Parameter) -> Result<u32, Parameter>
+    ensures { result ≡ needed session_number parameter (view value.now) }
+{
+    let number = need_uint(value, parameter.name()).map_err(|_| parameter)?;
+    if number > 0 && number < 0x8000_0000 {
+        Ok(number)
+    } else {
+        Err(parameter)
+    }
+}
+
+pub fn truth(value: &Value, parameter: Parameter) -> Result<bool, Parameter>
+    ensures { result ≡ needed as_bool parameter (view value.now) }
+{
+    match opt_bool(value, parameter.name()) {
+        Ok(Some(truth)) => Ok(truth),
+        Ok(None) => Err(parameter),
+        Err(_) => Err(parameter),
+    }
+}
+
+/// The id of a request: a text, or a whole number of 32 bits.
+pub fn request_id(alloc: Global, value: &Value, parameter: Parameter) -> Result<Id, ParameterFault>
+    ensures { Answers result (needed as_id parameter (view value.now)) }
+{
+    match need_text(value, parameter.name()) {
+        Ok(words) => Ok(Id::Words(Text::of(alloc, words)?)),
+        Err(MemberFault::Missing) => Err(ParameterFault::Bad(parameter)),
+        Err(MemberFault::WrongKind) => Ok(Id::Number(whole(value, parameter)?)),
     }
 }
 

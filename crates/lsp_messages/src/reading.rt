@@ -1,16 +1,19 @@
 //! Which message a value is.
 ghost use Rattle.std.specs.Prelude.{◌≡◌, Result, IfOk, IsTrue, Some, None, Err};
 ghost use Rattle.serde_json.specs.View.{view};
-ghost use Rattle.lsp_messages.specs.Messages.{is_response, is_version_2, method_of, id_of, head_with, unless_bad, refusal_for, initialized_at, request_of, notification_of, message_named, message_of, IsReading};
+ghost use Rattle.lsp_messages.specs.Messages.{is_response, is_version_2, method_of, id_of, head_with, unless_bad, refusal_for, initialized_at, definition_at, references_at, hover_at, symbols_of, request_of, notification_of, message_named, message_of, IsReading};
 ghost use Rattle.json_view.specs.Members.{shown};
 ghost use Rattle.lsp_messages.specs.Parameters.{Answers};
-ghost use Rattle.lsp_messages.specs.Shapes.{root_of};
+ghost use Rattle.lsp_messages.specs.Shapes.{root_of, place_asked, references_asked, document_asked};
 ghost use Rattle.lsp_messages.specs.declared.incoming.LspIn.{LspIn};
 ghost use Rattle.lsp_messages.specs.declared.parameters.Parameter.{Parameter};
 
 use crate::incoming::{Head, Id, LspIn, Refusal};
 use crate::parameters::{Parameter, ParameterFault};
-use crate::shapes::{changed, closed, opened, root, watched};
+use crate::shapes::{
+    cancelled, changed, closed, debugged, document_asked, opened, place_asked, references_asked,
+    root, watched,
+};
 use hl_base::{OutOfMemory, Text};
 use json_view::{MemberFault, need_int, need_text};
 use serde_json::Value;
@@ -86,6 +89,10 @@ fn request(alloc: Global, method: &str, id: Id, v: &Value) -> Result<LspIn, Refu
     match method {
         "initialize" => initialize(alloc, method, id, v),
         "shutdown" => Ok(LspIn::Shutdown { id }),
+        "textDocument/definition" => definition(alloc, method, id, v),
+        "textDocument/references" => references(alloc, method, id, v),
+        "textDocument/hover" => hover(alloc, method, id, v),
+        "textDocument/documentSymbol" => document_symbol(alloc, method, id, v),
         _ => unknown_method(alloc, method, Some(id)),
     }
 }
@@ -96,6 +103,59 @@ fn initialize(alloc: Global, method: &str, id: Id, v: &Value) -> Result<LspIn, R
 {
     match root(alloc, v) {
         Ok(root) => Ok(LspIn::Initialize { id, root }),
+        Err(fault) => bad_params(alloc, method, Some(id), fault),
+    }
+}
+
+fn definition(alloc: Global, method: &str, id: Id, v: &Value) -> Result<LspIn, Refusal>
+    ensures { IsReading result (unless_bad (head_with method.now (Some id))
+        (definition_at id (place_asked (view v.now)))) }
+{
+    match place_asked(alloc, v) {
+        Ok(asked) => Ok(LspIn::Definition {
+            id,
+            uri: asked.uri,
+            at: asked.at,
+        }),
+        Err(fault) => bad_params(alloc, method, Some(id), fault),
+    }
+}
+
+fn references(alloc: Global, method: &str, id: Id, v: &Value) -> Result<LspIn, Refusal>
+    ensures { IsReading result (unless_bad (head_with method.now (Some id))
+        (references_at id (references_asked (view v.now)))) }
+{
+    match references_asked(alloc, v) {
+        Ok(asked) => Ok(LspIn::References {
+            id,
+            uri: asked.uri,
+            at: asked.at,
+            declarations: asked.declarations,
+        }),
+        Err(fault) => bad_params(alloc, method, Some(id), fault),
+    }
+}
+
+fn hover(alloc: Global, method: &str, id: Id, v: &Value) -> Result<LspIn, Refusal>
+    ensures { IsReading result (unless_bad (head_with method.now (Some id))
+        (hover_at id (place_asked (view v.now)))) }
+{
+    match place_asked(alloc, v) {
+        Ok(asked) => Ok(LspIn::Hover {
+            id,
+            uri: asked.uri,
+            at: asked.at,
+        }),
+        Err(fault) => bad_params(alloc, method, Some(id), fault),
+    }
+}
+
+fn document_symbol(alloc: Global, method: &str, id: Id, v: &Value) -> Result<LspIn, Refusal>
+    ensures { IsReading result (unless_bad (head_with method.now (Some id))
+        (symbols_of id (document_asked (view v.now)))) }
+{
+    match document_asked(alloc, v) {
+        Ok(uri) => Ok(LspIn::DocumentSymbol { id, uri }),
         Err(fault) => bad_params(alloc, method, Some(id), fault),
     }
 }
@@ -112,6 +172,8 @@ fn notification(alloc: Global, method: &str, v: &Value) -> Result<LspIn, Refusal
         "textDocument/didSave" => Ok(LspIn::DidSave),
         "workspace/didChangeConfiguration" => Ok(LspIn::DidChangeConfiguration),
         "workspace/didChangeWatchedFiles" => unless_bad(alloc, method, watched(alloc, v)),
+        "$/cancelRequest" => unless_bad(alloc, method, cancelled(alloc, v)),
+        "hlasm/dap" => unless_bad(alloc, method, debugged(alloc, v)),
         _ => unknown_method(alloc, method, None),
     }
 }

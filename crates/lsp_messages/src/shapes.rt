@@ -5,18 +5,33 @@ ghost use Rattle.serde_json.specs.Find.{as_str, as_array};
 ghost use Rattle.serde_json.specs.View.{view, items_view};
 ghost use Rattle.json_view.specs.Members.{shown};
 ghost use Rattle.lsp_messages.specs.Parameters.{Answers, all, each};
-ghost use Rattle.lsp_messages.specs.Shapes.{params_of, document_in, is_null_at, given, checked_uri, folder_in, first_folder, root_among, own_root, folders_in, root_of, opened, place_in, place_at, edit_within, edit_in, edits_in, changed, closed, file_change_in, file_changes_in, watched};
+ghost use Rattle.lsp_messages.specs.Shapes.{params_of, document_in, is_null_at, given, checked_uri, folder_in, first_folder, root_among, own_root, folders_in, root_of, opened, place_in, place_at, edit_within, edit_in, edits_in, changed, closed, file_change_in, file_changes_in, watched, asked_uri, place_asked, references_asked, document_asked, cancelled, debugged};
 
-use crate::incoming::{FileChange, FileChanges, LspIn};
+use crate::incoming::{DebugMessage, FileChange, FileChanges, LspIn};
 use crate::parameters::{
-    Parameter, ParameterFault, change_kind, coordinate, element, list, object, object_if, text,
-    whole,
+    Parameter, ParameterFault, change_kind, coordinate, element, list, object, object_if,
+    request_id, session_number, text, truth, whole,
 };
 use file_uri::{UriFault, file_path};
 use hl_base::{Edit, Edits, Position, Text};
 use json_view::{opt_list, opt_text};
 use serde_json::{Map, Value};
 use std::alloc::Global;
+
+/// The document and the place that a request is on.
+#[derive(Drop)]
+pub struct AskedPlace {
+    pub uri: Text,
+    pub at: Position,
+}
+
+/// The same of a request for references, and whether the definition is to be among them.
+#[derive(Drop)]
+pub struct AskedReferences {
+    pub uri: Text,
+    pub at: Position,
+    pub declarations: bool,
+}
 
 /// The parameters of a message, or the value that is handed in where there are none.
 fn params<'a>(message: &'a Value, none: &'a Value) -> Result<&'a Value, Parameter>
@@ -293,5 +308,79 @@ fn file_change(alloc: Global, value: &Value) -> Result<FileChange, ParameterFaul
     Ok(FileChange {
         uri: Text::of(alloc, uri)?,
         kind,
+    })
+}
+
+/// The URI of the document that is asked for.
+fn asked_uri(alloc: Global, params: &Value) -> Result<Text, ParameterFault>
+    ensures { Answers result (asked_uri (view params.now)) }
+{
+    let uri = text(object(params, Parameter::TextDocument)?, Parameter::Uri)?;
+    check_uri(alloc, uri, Parameter::Uri)?;
+    Ok(Text::of(alloc, uri)?)
+}
+
+/// The place of which a definition or a hover is asked for.
+#[tactic(auto, unfolding(crate::specs::Shapes::place_asked))]
+pub fn place_asked(alloc: Global, message: &Value) -> Result<AskedPlace, ParameterFault>
+    ensures { Answers result (place_asked (view message.now)) }
+{
+    let none = Value::Object(Map::new(alloc));
+    let params = params(message, &none)?;
+    let uri = asked_uri(alloc, params)?;
+    let at = place_at(params, Parameter::Place)?;
+    Ok(AskedPlace { uri, at })
+}
+
+/// The place of which references are asked for.
+#[tactic(auto, unfolding(crate::specs::Shapes::references_asked))]
+pub fn references_asked(alloc: Global, message: &Value) -> Result<AskedReferences, ParameterFault>
+    ensures { Answers result (references_asked (view message.now)) }
+{
+    let none = Value::Object(Map::new(alloc));
+    let params = params(message, &none)?;
+    let uri = asked_uri(alloc, params)?;
+    let at = place_at(params, Parameter::Place)?;
+    let context = object(params, Parameter::Context)?;
+    let declarations = truth(context, Parameter::IncludeDeclaration)?;
+    Ok(AskedReferences {
+        uri,
+        at,
+        declarations,
+    })
+}
+
+/// The document of which the symbols are asked for.
+#[tactic(auto, unfolding(crate::specs::Shapes::document_asked))]
+pub fn document_asked(alloc: Global, message: &Value) -> Result<Text, ParameterFault>
+    ensures { Answers result (document_asked (view message.now)) }
+{
+    let none = Value::Object(Map::new(alloc));
+    asked_uri(alloc, params(message, &none)?)
+}
+
+/// A request that is cancelled.
+#[tactic(auto, unfolding(crate::specs::Shapes::cancelled))]
+pub fn cancelled(alloc: Global, message: &Value) -> Result<LspIn, ParameterFault>
+    ensures { Answers result (cancelled (view message.now)) }
+{
+    let none = Value::Object(Map::new(alloc));
+    let params = params(message, &none)?;
+    let id = request_id(alloc, params, Parameter::Request)?;
+    Ok(LspIn::Cancel { id })
+}
+
+/// A message of a debugger's client.
+#[tactic(auto, unfolding(crate::specs::Shapes::debugged))]
+pub fn debugged(alloc: Global, message: &Value) -> Result<LspIn, ParameterFault>
+    ensures { Answers result (debugged (view message.now)) }
+{
+    let none = Value::Object(Map::new(alloc));
+    let params = params(message, &none)?;
+    let session = session_number(params, Parameter::Session)?;
+    let request = object(params, Parameter::Message)?;
+    Ok(LspIn::Dap {
+        session,
+        message: DebugMessage::of(request)?,
     })
 }
