@@ -1,5 +1,5 @@
 //! Texts whose lines are found.
-ghost use Rattle.std.specs.Prelude.{◌≡◌, ◌≤◌, IfOk, [], map, min, take};
+ghost use Rattle.std.specs.Prelude.{◌≡◌, IfOk, map};
 ghost use Rattle.std.specs.Str.{chars};
 ghost use Rattle.hl_base.specs.Texts as texts;
 ghost use Rattle.document_store.specs.Positions.{line_of};
@@ -21,13 +21,13 @@ const SHOWN_COLUMNS: u32 = 71;
 pub struct TextSite<'a> {
     uri: Text,
     text: &'a str,
-    lines: Vec<&'a str>,
+    found: Vec<&'a str>,
 }
 
 impl<'a> Model for TextSite<'a> {
     ghost use Rattle.std.specs.Prelude.{◌≡◌, map};
     ghost use Rattle.std.specs.Str.{chars};
-    ghost use Rattle.hl_base.specs.Texts as texts;
+    ghost use Rattle.hl_base.specs.Texts.{lines};
     ghost use Rattle.text_sites.specs.Lines.{characters_of};
     ghost use Rattle.text_sites.specs.Sites.{Site};
 
@@ -35,7 +35,7 @@ impl<'a> Model for TextSite<'a> {
 
     ghost view = { λ s. record { uri = s.uri; text = chars s.text.now } };
 
-    ghost invariant = { λ s. map characters_of s.lines.items ≡ texts.lines (chars s.text.now) };
+    ghost invariant = { λ s. map characters_of s.found.items ≡ lines (chars s.text.now) };
 }
 
 /// The lines of a text.
@@ -62,8 +62,8 @@ impl<'a> TextSite<'a> {
     pub fn of(alloc: Global, uri: Text, text: &'a str) -> Result<TextSite<'a>, OutOfMemory>
         ensures { IfOk result (λ site. site ≡ record { uri = uri; text = chars text.now }) }
     {
-        let lines = lines_of(alloc, text)?;
-        Ok(TextSite { uri, text, lines })
+        let found = lines_of(alloc, text)?;
+        Ok(TextSite { uri, text, found })
     }
 
     /// The empty text, without a URI: what stands for a text that is not there.
@@ -84,7 +84,7 @@ impl<'a> TextSite<'a> {
     fn line(&self, line: u32) -> &str
         ensures { chars result.now ≡ line_of self.now.text line }
     {
-        match self.lines.get(line as usize) {
+        match self.found.get(line as usize) {
             Some(text) => text,
             None => "",
         }
