@@ -4,3 +4,4 @@ pub mod Hover
 pub mod Kept
 pub mod Order
 pub mod Questions
+pub mod Seen

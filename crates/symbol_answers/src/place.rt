@@ -1,6 +1,6 @@
 //! Places in their order.
 ghost use Rattle.std.specs.Prelude.{◌≡◌, [], encode_utf8_all, slice_index_or};
-ghost use Rattle.symbol_answers.specs.Kept.{seen};
+ghost use Rattle.symbol_answers.specs.Seen.{seen};
 ghost use Rattle.symbol_answers.specs.Order.{spot_of};
 
 use document_store::DocumentStore;

@@ -2,7 +2,7 @@
 ghost use Rattle.std.specs.Prelude.{◌≡◌, ◌++◌, ◌∷◌, [], IfOk, OnOk, map, if◌then◌else◌};
 ghost use Rattle.std.specs.Option.{option_copied};
 ghost use Rattle.symbol_answers.specs.Answers as answers;
-ghost use Rattle.symbol_answers.specs.Kept.{all_seen};
+ghost use Rattle.symbol_answers.specs.Seen.{all_seen};
 ghost use Rattle.symbol_answers.specs.Order as order;
 ghost use Rattle.symbol_answers.specs.Questions as questions;
 

@@ -1,4 +1,4 @@
-use Rattle.symbol_answers.specs.Kept.{seen}
+use Rattle.symbol_answers.specs.Seen.{seen}
 use Rattle.symbol_answers.proofs.OrderLaws.{in_order-sorted}
 use Rattle.std.proofs.Common.{sym}
 use Rattle.symbol_answers.proofs.spots.bring_in_order.Goals as goal

@@ -1,5 +1,5 @@
 use Rattle.std.proofs.Common.{◌≡◌, map, take}
-use Rattle.symbol_answers.specs.Kept.{all_seen}
+use Rattle.symbol_answers.specs.Seen.{all_seen}
 use Rattle.symbol_answers.specs.Order.{spot_of}
 use Rattle.symbol_answers.specs.Questions.{references_of}
 use Rattle.symbol_answers.proofs.spots.places_of.Given as goal
