@@ -154,13 +154,13 @@ kept_tells eq same keys items kept place next are is_kept is =
 
 -- one of a new place stands, and one of another's does not
 pub stands_new : (kept new : List Occurrence) (next : Occurrence) (b : Bool) → b ≡ not (list_any (is_same_place next) kept) → b ≡ true → new ≡ kept ++ next ∷ [] → new ≡ with_first kept next
-stands_new kept new next b is yes grown = by (list_any (is_same_place next) kept) (sym is ∙ yes) where
+stands_new kept new next b is fresh grown = by (list_any (is_same_place next) kept) (sym is ∙ fresh) where
   by : (found : Bool) → not found ≡ true → new ≡ cond found kept (kept ++ next ∷ [])
   by true e = cc
   by false e = grown
 
 pub stands_not : (kept new : List Occurrence) (next : Occurrence) (b : Bool) → b ≡ not (list_any (is_same_place next) kept) → b ≡ false → new ≡ kept → new ≡ with_first kept next
-stands_not kept new next b is no same = by (list_any (is_same_place next) kept) (sym is ∙ no) where
+stands_not kept new next b is stale same = by (list_any (is_same_place next) kept) (sym is ∙ stale) where
   by : (found : Bool) → not found ≡ false → new ≡ cond found kept (kept ++ next ∷ [])
   by true e = same
   by false e = cc

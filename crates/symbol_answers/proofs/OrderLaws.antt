@@ -63,9 +63,9 @@ then_tied Greater b e = cc
 
 same_number : (x y : ℕ) → is_eq (nat_cmp x y) ≡ true → x ≡ y
 same_number x y tied = by_ranked _ _ _ (nat_cmp x y) (ranked x y (nat_cmp x y) refl)
-    (λ is below. absurd (let h : is_eq Less ≡ true = ap is_eq (sym is) ∙ tied in (let no : false ≡ true = h in cc)))
+    (λ is below. absurd (let h : is_eq Less ≡ true = ap is_eq (sym is) ∙ tied in (let never : false ≡ true = h in cc)))
     (λ is same. same)
-    (λ is below. absurd (let h : is_eq Greater ≡ true = ap is_eq (sym is) ∙ tied in (let no : false ≡ true = h in cc)))
+    (λ is below. absurd (let h : is_eq Greater ≡ true = ap is_eq (sym is) ∙ tied in (let never : false ≡ true = h in cc)))
 
 same_bytes : (x y : List ℕ) → is_eq (slice_cmp nat_cmp x y) ≡ true → x ≡ y
 same_bytes x y tied = (bytes_eq-Decides x y).0 (sym (is_eq-slice_cmp x y) ∙ tied)

@@ -42,7 +42,7 @@ found_passes p q wider [] found is = cc
 found_passes {X} p q wider (x ∷ xs) found is = by (p x) (q x) refl refl is where
   by : (b c : Bool) → p x ≡ b → q x ≡ c → cond b (Some x) (find p xs) ≡ Some found → Contains (cond c (x ∷ filter q xs) (filter q xs)) found
   by true true e f at = let same : x ≡ found = cc in (zero, (let h : 0 < suc (length (filter q xs)) = omega arith in h), same)
-  by true false e f at = let no : true ≡ false = sym (wider x e) ∙ f in cc
+  by true false e f at = let never : true ≡ false = sym (wider x e) ∙ f in cc
   by false true e f at = behind_first found x (filter q xs) (found_passes p q wider xs found at)
   by false false e f at = found_passes p q wider xs found at
 
