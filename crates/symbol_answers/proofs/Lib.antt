@@ -1,0 +1,4 @@
+pub mod ListLaws
+pub mod OrderLaws
+pub mod PresentLaws
+pub mod ReferenceLaws

@@ -1,0 +1,7 @@
+pub mod Answers
+pub mod Entities
+pub mod Hover
+pub mod Kept
+pub mod Order
+pub mod Questions
+pub mod Seen
