@@ -10,23 +10,23 @@ use Rattle.macro_entry.specs.Shown.{is_positional, parameter_shown, positional_a
 -- ---- parameters
 
 -- what stands at a place, and what is behind it
-pub drop-there : {X : Type 0} (xs : List X) (i : ℕ) (x : X) → slice_get xs i ≡ Some x → drop i xs ≡ x ∷ drop (i + 1) xs
-drop-there [] i x is = cc
-drop-there (y ∷ ys) zero x is = let same : y ≡ x = cc in ap (λ z. z ∷ ys) same
-drop-there (y ∷ ys) (suc i) x is = drop-there ys i x is ∙ ap (λ k. x ∷ drop k (y ∷ ys)) (sym (add-one (suc i)))
+pub drop_there : {X : Type 0} (xs : List X) (i : ℕ) (x : X) → slice_get xs i ≡ Some x → drop i xs ≡ x ∷ drop (i + 1) xs
+drop_there [] i x is = cc
+drop_there (y ∷ ys) zero x is = let same : y ≡ x = cc in ap (λ z. z ∷ ys) same
+drop_there (y ∷ ys) (suc i) x is = drop_there ys i x is ∙ ap (λ k. x ∷ drop k (y ∷ ys)) (sym (add-one (suc i)))
 
-pub drop-past : {X : Type 0} (xs : List X) (i : ℕ) → slice_get xs i ≡ None → drop i xs ≡ []
-drop-past [] zero is = refl
-drop-past [] (suc i) is = refl
-drop-past (y ∷ ys) zero is = cc
-drop-past (y ∷ ys) (suc i) is = drop-past ys i is
+pub drop_past : {X : Type 0} (xs : List X) (i : ℕ) → slice_get xs i ≡ None → drop i xs ≡ []
+drop_past [] zero is = refl
+drop_past [] (suc i) is = refl
+drop_past (y ∷ ys) zero is = cc
+drop_past (y ∷ ys) (suc i) is = drop_past ys i is
 
 -- one parameter more is shown
-pub parameter-more : (before all : List Setting) (bounds : List Bound) (i : ℕ) (b : Bound) → slice_get bounds i ≡ Some b →
+pub parameter_more : (before all : List Setting) (bounds : List Bound) (i : ℕ) (b : Bound) → slice_get bounds i ≡ Some b →
     before ++ map parameter_shown (drop i bounds) ≡ all → (before ++ parameter_shown b ∷ []) ++ map parameter_shown (drop (i + 1) bounds) ≡ all
-parameter-more before all bounds i b there is =
+parameter_more before all bounds i b there is =
     append_assoc before (parameter_shown b ∷ []) (map parameter_shown (drop (i + 1) bounds))
-    ∙ ap (λ bs. before ++ map parameter_shown bs) (sym (drop-there bounds i b there))
+    ∙ ap (λ bs. before ++ map parameter_shown bs) (sym (drop_there bounds i b there))
     ∙ is
 
 -- ---- positional operands
@@ -56,23 +56,23 @@ alone : (operand : List ℕ) (g : Given) → IsText operand g → (length (posit
 alone operand (keyword name value) same is = cc
 alone operand (positional text) same is = ap (λ t. t ∷ []) same
 
-pub positional-alone : (parameters : List Parameter) (operand : List ℕ) → is_positional parameters operand ≡ true →
+pub positional_alone : (parameters : List Parameter) (operand : List ℕ) → is_positional parameters operand ≡ true →
     positional_among parameters (operand ∷ []) ≡ operand ∷ []
-positional-alone parameters operand is = alone operand (given parameters operand) (given-text parameters operand) is
+positional_alone parameters operand is = alone operand (given parameters operand) (given-text parameters operand) is
 
 none : (g : Given) → (length (positionals (g ∷ [])) == 1) ≡ false → positionals (g ∷ []) ≡ []
 none (keyword name value) is = refl
 none (positional text) is = cc
 
-pub keyword-alone : (parameters : List Parameter) (operand : List ℕ) → is_positional parameters operand ≡ false →
+pub keyword_alone : (parameters : List Parameter) (operand : List ℕ) → is_positional parameters operand ≡ false →
     positional_among parameters (operand ∷ []) ≡ []
-keyword-alone parameters operand is = none (given parameters operand) is
+keyword_alone parameters operand is = none (given parameters operand) is
 
 -- one and others
 ones : (g : Given) (rest : List Given) → positionals (g ∷ rest) ≡ positionals (g ∷ []) ++ positionals rest
 ones (keyword name value) rest = refl
 ones (positional text) rest = refl
 
-pub positional-more : (parameters : List Parameter) (operand : List ℕ) (rest : List (List ℕ)) →
+pub positional_more : (parameters : List Parameter) (operand : List ℕ) (rest : List (List ℕ)) →
     positional_among parameters (operand ∷ rest) ≡ positional_among parameters (operand ∷ []) ++ positional_among parameters rest
-positional-more parameters operand rest = ones (given parameters operand) (givens parameters rest)
+positional_more parameters operand rest = ones (given parameters operand) (givens parameters rest)

@@ -43,6 +43,7 @@ fn name_spelled(text: &str) -> Result<Name, OutOfMemory>
 }
 
 /// Adds the parameters.
+#[tactic(auto, using(crate::proofs::ShownLaws::parameter_more, crate::proofs::ShownLaws::drop_past))]
 fn add_parameters(
     settings: &mut Settings,
     alloc: Global,
@@ -101,6 +102,7 @@ fn is_positional(
 }
 
 /// Adds an operand of a call, if it is a positional one.
+#[tactic(auto, using(crate::proofs::ShownLaws::positional_alone, crate::proofs::ShownLaws::keyword_alone))]
 fn add_positional(
     texts: &mut Operands,
     alloc: Global,
@@ -116,6 +118,7 @@ fn add_positional(
 }
 
 /// Adds the positional ones among the operands of a call.
+#[tactic(auto, using(crate::proofs::ShownLaws::positional_more))]
 fn add_positionals(
     texts: &mut Operands,
     alloc: Global,

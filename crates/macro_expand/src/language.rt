@@ -69,6 +69,7 @@ fn with_fault(alloc: Global, mut notes: Notes, row: Option<Row>) -> Result<Notes
 }
 
 /// Whether a call is at the first statement of its own list.
+#[tactic(auto, using(crate::proofs::EntryLaws::below_count))]
 fn is_first(stack: &Stack<Passage, Knowledge>) -> bool
     ensures { result ≡ is_first (stack_by means stack.now) }
 {
