@@ -71,10 +71,10 @@ abbrev pub declared_all : List Declaration → Knowledge → Knowledge
 declared_all [] k = k
 declared_all (d ∷ ds) k = declared_all ds (declared_once d k)
 
--- what is known after a change; one that does not fit changes nothing
+-- what is known after a change; one that does not fit changes nothing. Behind a branch nothing is shown any more
 abbrev pub changed : Change → Knowledge → Knowledge
 changed change.Nothing k = k
 changed (change.Hold name element held) k = held_by (aim k name element (kind_of held)) k name element held
 changed (change.Declare list) k = declared_all list k
 changed (change.Limit branches) k = record k { branches = branches }
-changed change.Branch k = record k { branches = k.branches - 1 }
+changed change.Branch k = record k { branches = k.branches - 1; shown = [] }

@@ -1,5 +1,6 @@
 -- What a call knows of variable symbols (HLASM Language Reference SC26-4940, "SET symbols", "Subscripted SET symbols",
--- "Symbolic parameters", "System variable symbols", "ACTR instruction").
+-- "Symbolic parameters", "System variable symbols", "ACTR instruction"), and what its first statement shows of its entry (this
+-- project).
 use Rattle.std.specs.Prelude.{ℕ, ℤ, ◌||◌, Bool, true, false, List, [], ◌∷◌, length, is_some, Option, Some, None, find, codes}
 use Rattle.std.specs.Str.{bytes_eq}
 use Rattle.set_symbols.specs.Table.{Table, declared_of}
@@ -7,16 +8,19 @@ use Rattle.set_symbols.specs.declared.symbol.Declared.{Declared}
 use Rattle.macro_binding.specs.Bindings.{Binding}
 use Rattle.macro_binding.specs.Values.{bound_of, value_of}
 use Rattle.macro_binding.specs.declared.value.Worth.{Worth}
+use Rattle.trace_values.specs.declared.variable.Setting.{Setting}
 use Rattle.call_knowledge.specs.declared.system.SystemVariable.{SystemVariable}
 
 -- What is known: the SET symbols without a subscript and those with one, each declared here or set; how many branches are
--- left; the system variable symbols of this place but &SYSLIST; and in a macro what its parameters and &SYSLIST are worth.
+-- left; the system variable symbols of this place but &SYSLIST; in a macro what its parameters and &SYSLIST are worth; and what
+-- is shown of them at its first statement, to which a call may come back only by a branch: so nothing is behind one.
 pub record Knowledge : Type 0 where
   pub scalars : Table
   pub arrays : Table
   pub branches : ℕ
   pub systems : List SystemVariable
   pub binding : Option Binding
+  pub shown : List Setting
 
 -- how many branches a call may take, as long as no ACTR says otherwise
 abbrev pub most_branches : ℕ
@@ -30,16 +34,18 @@ open_code sysparm = record {
   branches = most_branches;
   systems = record { name = codes "SYSPARM"; text = sysparm } ∷ [];
   binding = None;
+  shown = [];
 }
 
--- what a macro knows before its first statement
-abbrev pub in_macro : List SystemVariable → Binding → Knowledge
-in_macro systems binding = record {
+-- what a macro knows before its first statement, which shows so much
+abbrev pub in_macro : List SystemVariable → Binding → (shown : List Setting) → Knowledge
+in_macro systems binding shown = record {
   scalars = [];
   arrays = [];
   branches = most_branches;
   systems = systems;
   binding = Some binding;
+  shown = shown;
 }
 
 -- what a parameter, or &SYSLIST, with these subscripts is worth, where the name is that of one

@@ -16,12 +16,14 @@ use macro_binding::{Binding, Worth};
 use set_symbols::SetTable;
 use std::alloc::Global;
 use std::marker::Model;
+use trace_values::Settings;
 
 /// How many branches a call may take, as long as no ACTR says otherwise.
 const MOST_BRANCHES: u32 = 4096;
 
 /// What a call knows of variable symbols. Contracts see the tables of its SET symbols, those without a subscript and those
-/// with one, how many branches are left, its system variable symbols, and what the operands of a macro call are bound to.
+/// with one, how many branches are left, its system variable symbols, what the operands of a macro call are bound to, and what
+/// its first statement shows of its entry.
 #[derive(Drop)]
 pub struct Knowledge {
     pub(crate) scalars: SetTable,
@@ -29,6 +31,7 @@ pub struct Knowledge {
     branches: u32,
     systems: Vec<SystemVariable>,
     binding: Option<Binding>,
+    shown: Settings,
     pub(crate) positionals: u32,
 }
 
@@ -47,6 +50,7 @@ impl Model for Knowledge {
       branches = k.branches;
       systems = k.systems.items;
       binding = k.binding;
+      shown = k.shown;
     } };
 
     ghost invariant = { λ k. k.positionals ≡ positional_count k.binding };
@@ -98,18 +102,20 @@ impl Knowledge {
             branches: MOST_BRANCHES,
             systems,
             binding: None,
+            shown: Settings::new(alloc),
             positionals: 0,
         })
     }
 
-    /// What a macro knows before its first statement: its system variable symbols but `&SYSLIST`, and what its operands are
-    /// bound to. `OutOfMemory` also where it has more operands than a `u32` counts.
+    /// What a macro knows before its first statement, which shows so much: its system variable symbols but `&SYSLIST`, and what
+    /// its operands are bound to. `OutOfMemory` also where it has more operands than a `u32` counts.
     pub fn in_macro(
         alloc: Global,
         systems: Vec<SystemVariable>,
         binding: Binding,
+        shown: Settings,
     ) -> Result<Knowledge, OutOfMemory>
-        ensures { IfOk result (λ k. k ≡ knowledge.in_macro systems.items binding) }
+        ensures { IfOk result (λ k. k ≡ knowledge.in_macro systems.items binding shown) }
     {
         let Ok(positionals) = u32::try_from(binding.positional_count()) else {
             return Err(OutOfMemory);
@@ -120,6 +126,7 @@ impl Knowledge {
             branches: MOST_BRANCHES,
             systems,
             binding: Some(binding),
+            shown,
             positionals,
         })
     }
@@ -161,6 +168,13 @@ impl Knowledge {
         ensures { result.now ≡ self.now.systems }
     {
         self.systems.as_slice()
+    }
+
+    /// What its first statement shows of its entry: nothing behind a branch.
+    pub fn shown(&self) -> &Settings
+        ensures { result.now ≡ self.now.shown }
+    {
+        &self.shown
     }
 
     /// What a name means.
@@ -263,6 +277,7 @@ impl Knowledge {
             }
             Change::Branch => {
                 self.branches = self.branches.saturating_sub(1);
+                self.shown = Settings::new(alloc);
                 Ok(())
             }
         }

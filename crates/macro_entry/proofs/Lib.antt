@@ -1,1 +1,2 @@
 pub mod SystemLaws
+pub mod ShownLaws

@@ -12,11 +12,13 @@ use Rattle.kept_values.specs.Keys.{key_tree}
 use Rattle.cond_expr.specs.Asking.{Answers}
 use Rattle.question_trees.specs.Bridge.{answers_in}
 use Rattle.macro_binding.specs.Prototypes.{Parameter, Prototype}
-use Rattle.macro_binding.specs.Bindings.{binding_of}
+use Rattle.macro_binding.specs.Bindings.{Binding, binding_of}
 use Rattle.macro_library.specs.Contents.{Content, copies_later_in, prototype_in, variables_in}
 use Rattle.macro_library.specs.declared.variables.SystemVariables.{SystemVariables}
+use Rattle.trace_values.specs.declared.variable.Setting.{Setting}
 use Rattle.call_knowledge.specs.declared.system.SystemVariable.{SystemVariable}
 use Rattle.call_knowledge.specs.Knowledge.{Knowledge, in_macro}
+use Rattle.macro_entry.specs.Shown.{shown}
 use Rattle.macro_entry.specs.declared.systems.System.{System}
 use Rattle.macro_entry.specs.declared.systems.System.TheVariants.{Sysect, Sysmac, Sysndx, Sysnest, Sysparm}
 
@@ -118,8 +120,18 @@ operation_in content = option_map_or operation_of (prototype_in content) []
 abbrev pub parameters_in : Content → List Parameter
 parameters_in content = option_map_or parameters_of (prototype_in content) []
 
+-- what its first statement shows: its parameters, and of its system variables those that its definition names, also where it knows
+-- all of them
+abbrev pub shown_at_entry : Content → Answers → Binding → List Setting
+shown_at_entry content told binding =
+    shown (variables_in content).syslist (systems_of (variables_in content) (operation_in content) told) binding
+
+-- what a macro knows that is bound so, by the answers of its entry
+abbrev pub entered : Content → Answers → Binding → Knowledge
+entered content told binding =
+    in_macro (systems_of (known_systems content) (operation_in content) told) binding (shown_at_entry content told binding)
+
 -- what a macro knows before its first statement, by what its name entry and its operands come to, and by the answers of its entry
 abbrev pub bound_at_entry : Content → (name_entry : List ℕ) (operands : List (List ℕ)) → List Pair → Knowledge
 bound_at_entry content name_entry operands pairs =
-    in_macro (systems_of (known_systems content) (operation_in content) (answers_in (look_up pairs)))
-    (binding_of (parameters_in content) name_entry operands)
+    entered content (answers_in (look_up pairs)) (binding_of (parameters_in content) name_entry operands)

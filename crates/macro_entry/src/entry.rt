@@ -3,17 +3,21 @@ ghost use Rattle.std.specs.Prelude.{◌≡◌, ◌++◌, map, IfOk, OnOk};
 ghost use Rattle.kept_values.specs.Keys.{key_tree};
 ghost use Rattle.asking_core.specs.Places.{pairs_of};
 ghost use Rattle.call_sites.specs.Values.{known_tree};
+ghost use Rattle.macro_binding.specs.Bindings.{binding_of};
 ghost use Rattle.macro_library.specs.Contents.{content_of};
+ghost use Rattle.call_knowledge.specs.Tellings.{answers_of};
 ghost use Rattle.macro_entry.specs.Entries as entries;
 
+use crate::showing::{all_shown, listed};
 use crate::systems::{known_systems, systems_of};
 use asking_core::Noted;
 use call_knowledge::Knowledge;
 use call_sites::{Known, MacroCall};
 use hl_base::{Key, OutOfMemory};
-use macro_binding::bind;
+use macro_binding::{Binding, bind};
 use macro_library::Def;
 use std::alloc::Global;
+use trace_values::Settings;
 
 /// Adds a key, if it is asked for.
 fn add_key(keys: &mut Vec<Key>, is_asked: bool, key: Key) -> Result<(), OutOfMemory>
@@ -39,6 +43,30 @@ pub fn entry_keys(alloc: Global, definition: &Def) -> Result<Vec<Key>, OutOfMemo
     Ok(keys)
 }
 
+/// What the first statement of a call shows whose operands are bound so, by the answers to the keys of its entry.
+fn shown_at_entry(
+    alloc: Global,
+    call: &MacroCall,
+    answers: &[Noted<Key, Known>],
+    binding: &Binding,
+) -> Result<Settings, OutOfMemory>
+    requires { binding.now ≡ binding_of (entries.parameters_in (content_of call.now.definition.definition.value)) call.now.name_entry call.now.operands }
+    ensures { IfOk result (λ settings. settings ≡ entries.shown_at_entry (content_of call.now.definition.definition.value) (answers_of answers.now) binding.now) }
+{
+    let definition = &call.definition.definition;
+    let prototype = definition.prototype();
+    let named = definition.variables();
+    let systems = systems_of(alloc, named, prototype.operation(), answers)?;
+    let texts = listed(
+        alloc,
+        named.syslist,
+        prototype,
+        &call.name_entry,
+        &call.operands,
+    )?;
+    all_shown(alloc, binding, systems.as_slice(), texts.as_slice())
+}
+
 /// What a macro knows before its first statement, by the answers to the keys of its entry. `OutOfMemory` also where it has more
 /// operands than a `u32` counts.
 pub fn bound_at_entry(
@@ -54,5 +82,6 @@ pub fn bound_at_entry(
     let named = known_systems(definition);
     let systems = systems_of(alloc, named, prototype.operation(), answers)?;
     let (binding, _notes) = bind(alloc, prototype, call.name_entry.as_str(), &call.operands)?;
-    Knowledge::in_macro(alloc, systems, binding)
+    let shown = shown_at_entry(alloc, call, answers, &binding)?;
+    Knowledge::in_macro(alloc, systems, binding, shown)
 }

@@ -3,3 +3,4 @@ pub mod EffectLaws
 pub mod GivenLaws
 pub mod PassageLaws
 pub mod CallLaws
+pub mod EntryLaws

@@ -1,5 +1,5 @@
 -- What is kept of a point, and the frames of a call (this project).
-use Rattle.std.specs.Prelude.{ℕ, List, [], ◌∷◌, ◌++◌, map, Option, Some, None, option_map}
+use Rattle.std.specs.Prelude.{ℕ, ◌==◌, ◌&&◌, Bool, List, [], ◌∷◌, ◌++◌, length, map, Option, Some, None, option_map, if◌then◌else◌}
 use Rattle.hl_base.specs.declared.note.Note.{Note}
 use Rattle.hl_base.specs.declared.place.Frame.{Frame}
 use Rattle.note_rows.specs.Table.{noted}
@@ -9,7 +9,8 @@ use Rattle.hlasm_statements.specs.declared.fault.ColumnFault.{ColumnFault}
 use Rattle.hlasm_statements.specs.declared.fault.ColumnFault.TheVariants.{MarginText, SurplusLines, MissingLine}
 use Rattle.trace_values.specs.CallFrames.{frames_of}
 use Rattle.trace_values.specs.declared.item.TraceItem.{TraceItem}
-use Rattle.plain_expansion.specs.Language.{Level, Point, Fault, NoFault, NoLabel, NoBranchLeft, NoRoom}
+use Rattle.trace_values.specs.declared.variable.Setting.{Setting}
+use Rattle.plain_expansion.specs.Language.{Level, Stack, Point, Fault, NoFault, NoLabel, NoBranchLeft, NoRoom}
 use Rattle.macro_expand.specs.Passages.{Passage, call_frames, faults_at}
 use Rattle.macro_expand.specs.Acts.{words}
 
@@ -37,13 +38,22 @@ abbrev pub notes_of : Option Row → List Note
 notes_of None = []
 notes_of (Some row) = noted row [] ∷ []
 
+-- a call is at the first statement of its own list
+abbrev pub is_first : Stack words → Bool
+is_first stack = (stack.here.position == 0) && (length stack.below == 0)
+
+-- What a point shows of the entry of its call: what its first statement shows, at that statement. A call comes back to it only by a
+-- branch, behind which nothing is shown: so the first point of a call shows it, and no other.
+abbrev pub entry_of : Stack words → List Setting
+entry_of stack = if is_first stack then stack.known.shown else []
+
 -- a point, with the column faults of its statement first and the notes of its fault last
 abbrev pub item_of : Point words → TraceItem
 item_of point = record {
   frames = call_frames point.stack.here.listing point.stack.here.position;
   definition = point.stack.here.listing.definition;
   called = point.said.called;
-  entry = [];
+  entry = entry_of point.stack;
   locals = point.said.locals;
   declared = point.said.declared;
   globals = point.said.globals;

@@ -2,12 +2,12 @@
 ghost use Rattle.std.specs.Prelude.{◌≡◌, ◌++◌, ◌∷◌, [], map, IfOk, option_copied};
 ghost use Rattle.hl_base.specs.declared.set.Key.TheVariants.{Parm};
 ghost use Rattle.kept_values.specs.Keys.{key_tree};
-ghost use Rattle.expansion_step.specs.Meaning.{fault_by};
+ghost use Rattle.expansion_step.specs.Meaning.{fault_by, stack_by};
 ghost use Rattle.call_sites.specs.Calls.{call_of};
 ghost use Rattle.call_sites.specs.Rules as rules;
-ghost use Rattle.macro_expand.specs.Items.{fault_row, notes_of};
+ghost use Rattle.macro_expand.specs.Items.{entry_of, fault_row, is_first, notes_of};
 ghost use Rattle.macro_expand.specs.Language.{hlasm, parm_in};
-ghost use Rattle.macro_expand.specs.Codes.{reading};
+ghost use Rattle.macro_expand.specs.Codes.{means, reading};
 
 use crate::columns::with_columns;
 use crate::passage::passage_of;
@@ -66,6 +66,24 @@ fn with_fault(alloc: Global, mut notes: Notes, row: Option<Row>) -> Result<Notes
             Ok(notes)
         }
     }
+}
+
+/// Whether a call is at the first statement of its own list.
+#[tactic(auto, using(crate::proofs::EntryLaws::below_count))]
+fn is_first(stack: &Stack<Passage, Knowledge>) -> bool
+    ensures { result ≡ is_first (stack_by means stack.now) }
+{
+    stack.here.position == 0 && stack.below.is_empty()
+}
+
+/// What a point shows of the entry of its call.
+fn entry_of(alloc: Global, stack: &Stack<Passage, Knowledge>) -> Result<Settings, OutOfMemory>
+    ensures { IfOk result (λ settings. settings ≡ entry_of (stack_by means stack.now)) }
+{
+    if is_first(stack) {
+        return stack.known.shown().copy(alloc);
+    }
+    Ok(Settings::new(alloc))
 }
 
 /// What open code asks at its entry.
@@ -209,11 +227,12 @@ impl CodedLanguage for HlasmLanguage {
         let notes = with_fault(alloc, notes, row)?;
         let notes = with_columns(alloc, &stack.here.listing, stack.here.position, notes)?;
         let frames = stack.here.listing.frames_at(stack.here.position)?;
+        let entry = entry_of(alloc, stack)?;
         Ok(TraceItem {
             frames,
             definition: stack.here.listing.definition,
             called,
-            entry: Settings::new(alloc),
+            entry,
             locals,
             declared,
             globals,
