@@ -1,0 +1,4 @@
+pub mod ListLaws
+pub mod ScanLaws
+pub mod GroupLaws
+pub mod OperandLaws
