@@ -1,5 +1,5 @@
 //! Ordinary symbols in constants.
-ghost use Rattle.std.specs.Prelude.{◌≡◌, ◌++◌, ◌+◌, ◌==◌, ◌&&◌, [], IfOk, OnOk};
+ghost use Rattle.std.specs.Prelude.{◌≡◌, ◌++◌, [], slice_index, IfOk, OnOk};
 ghost use Rattle.std.specs.Str.{chars};
 ghost use Rattle.statement_names.specs.Constants as constants;
 
@@ -12,11 +12,7 @@ use hl_base::{Nesting, OutOfMemory};
 use hlasm_statements::Field;
 
 /// Adds the ordinary symbols in a text that stands behind so many characters of an operand field.
-pub(crate) fn push_symbols(
-    at: u32,
-    text: &str,
-    found: &mut WrittenNames,
-) -> Result<(), OutOfMemory>
+pub(crate) fn push_symbols(at: u32, text: &str, found: &mut WrittenNames) -> Result<(), OutOfMemory>
     ensures { OnOk result (found.new ≡ found.old ++ constants.symbols at (chars text.now)) }
 {
     push_names(Sought::Symbols, Field::Operands, at, text, found)

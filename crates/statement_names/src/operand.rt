@@ -1,5 +1,5 @@
 //! Names in an operand field.
-ghost use Rattle.std.specs.Prelude.{◌≡◌, ◌++◌, OnOk};
+ghost use Rattle.std.specs.Prelude.{◌≡◌, ◌+◌, ◌++◌, length, IfOk, OnOk};
 ghost use Rattle.std.specs.Str.{chars};
 ghost use Rattle.statement_names.specs.Operands as operands;
 
@@ -58,15 +58,13 @@ fn push_operand(
 fn next_place(at: u32, text: &str) -> Result<u32, OutOfMemory>
     ensures { IfOk result (λ n. n ≡ at + length (chars text.now) + 1) }
 {
-    advance(at, character_count(text))?.checked_add(1).ok_or(OutOfMemory)
+    advance(at, character_count(text))?
+        .checked_add(1)
+        .ok_or(OutOfMemory)
 }
 
 /// Adds the names that an operation reads in operands, the first of which stands at the beginning of the field.
-fn push_each(
-    used: OperandUse,
-    texts: &[Text],
-    found: &mut WrittenNames,
-) -> Result<(), OutOfMemory>
+fn push_each(used: OperandUse, texts: &[Text], found: &mut WrittenNames) -> Result<(), OutOfMemory>
     ensures { OnOk result (found.new ≡ found.old ++ operands.each_operand used 0 texts.now) }
 {
     let mut at: u32 = 0;
@@ -95,7 +93,11 @@ fn push_member(field: &str, found: &mut WrittenNames) -> Result<(), OutOfMemory>
     ensures { OnOk result (found.new ≡ found.old ++ operands.member_name (chars field.now)) }
 {
     let count = counted(character_count(field))?;
-    found.push_at(Field::Operands, 0, named(NameKind::Member, count, name_of(field)))
+    found.push_at(
+        Field::Operands,
+        0,
+        named(NameKind::Member, count, name_of(field)),
+    )
 }
 
 /// Adds the names in an operand field.

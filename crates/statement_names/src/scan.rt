@@ -121,7 +121,13 @@ fn branch_name(is_second: bool, c: char, behind: &str) -> Result<Option<Named>, 
 }
 
 /// The name of those that are sought that begins with a character, with which this text begins.
-fn name_at(sought: Sought, marks: Marks, c: char, text: &str, behind: &str) -> Result<Option<Named>, OutOfMemory>
+fn name_at(
+    sought: Sought,
+    marks: Marks,
+    c: char,
+    text: &str,
+    behind: &str,
+) -> Result<Option<Named>, OutOfMemory>
     requires { chars text.now ≡ c ∷ chars behind.now }
     ensures { IfOk result (λ found. (before : List ℕ) → Stands marks before → found ≡ names.name_at sought before c (chars behind.now)) }
 {

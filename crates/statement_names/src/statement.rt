@@ -1,6 +1,9 @@
 //! The names of a statement.
-ghost use Rattle.std.specs.Prelude.{◌≡◌, ◌++◌, IfOk, OnOk};
+ghost use Rattle.std.specs.Prelude.{◌≡◌, ◌+◌, ◌++◌, length, IfOk, OnOk};
 ghost use Rattle.std.specs.Str.{chars};
+ghost use Rattle.hlasm_statements.specs.declared.statement.Field.TheVariants.{Label};
+ghost use Rattle.statement_names.specs.declared.name.NameKind.TheVariants as kinds;
+ghost use Rattle.statement_names.specs.Names as names;
 ghost use Rattle.statement_names.specs.Statements as statements;
 
 use crate::name::{NameKind, WrittenNames};
@@ -18,7 +21,11 @@ fn push_sequence(rest: &str, found: &mut WrittenNames) -> Result<(), OutOfMemory
     ensures { OnOk result (found.new ≡ found.old ++ names.stands Label 0 (names.named kinds.SequenceLabel (length (chars rest.now) + 1) (names.name_of (chars rest.now)))) }
 {
     let count = advance(1, character_count(rest))?;
-    found.push_at(Field::Label, 0, named(NameKind::SequenceLabel, count, name_of(rest)))
+    found.push_at(
+        Field::Label,
+        0,
+        named(NameKind::SequenceLabel, count, name_of(rest)),
+    )
 }
 
 /// Adds the name that all of a field is.

@@ -1,9 +1,8 @@
 //! Texts, character by character.
-ghost use Rattle.std.specs.Prelude.{◌≡◌, ◌==◌, ◌+◌, drop, take, length, slice_index, IfOk};
+ghost use Rattle.std.specs.Prelude.{◌≡◌, ◌==◌, ◌+◌, false, drop, take, slice_index, IfOk};
 ghost use Rattle.std.specs.List.{list_any, prefix_len};
 ghost use Rattle.std.specs.Char.{is_ascii_digit};
 ghost use Rattle.std.specs.Str.{chars};
-ghost use Rattle.hl_base.specs.Symbols as symbols;
 ghost use Rattle.statement_names.specs.Names as names;
 
 use conditional_fields::character::head;
