@@ -3,7 +3,7 @@ use Rattle.std.proofs.Common.{◌≡◌, ◌∙◌, ℕ, Bool, true, false, cond
 use Rattle.std.specs.Option.{option_map}
 use Rattle.std.specs.List.{find}
 use Rattle.std.specs.Str.{bytes_eq}
-use Rattle.std.proofs.lemmas.Str.{bytes_eq-refl}
+use Rattle.std.proofs.lemmas.Slice.Eq.{bytes_eq-Decides}
 use Rattle.variable_meanings.specs.declared.meaning.Meaning.{Meaning}
 use Rattle.variable_meanings.specs.Laws.{MeaningsStand, MeaningIsGiven}
 use Rattle.variable_meanings.specs.Meanings.{Known, has_name, meaning_in, meaning_of, with_meaning}
@@ -37,7 +37,7 @@ fresh_step false one rest more meaning goes none = goes none
 
 last_one : (known : List Known) (name : List ℕ) (meaning : Meaning) → meaning_of known name ≡ None →
     meaning_of (known ++ record { name = name; meaning = meaning } ∷ []) name ≡ Some meaning
-last_one [] name meaning none = ap (λ b. option_map meaning_in (cond b (Some (record { name = name; meaning = meaning })) None)) (bytes_eq-refl name)
+last_one [] name meaning none = ap (λ b. option_map meaning_in (cond b (Some (record { name = name; meaning = meaning })) None)) ((bytes_eq-Decides name name).1 refl)
 last_one (one ∷ known) name meaning none =
     fresh_step (has_name name one) one (find (has_name name) known) (find (has_name name) (known ++ record { name = name; meaning = meaning } ∷ [])) meaning
     (last_one known name meaning) none
