@@ -1,6 +1,6 @@
 -- What variable symbols mean in a call, as its statements are processed (HLASM Language Reference SC26-4940, "Symbolic
 -- parameters", "System variable symbols", "SET symbols").
-use Rattle.std.specs.Prelude.{◌==◌, ℕ, Bool, List, [], ◌∷◌, ◌++◌, Option, Some, None, find, is_some, option_map, if◌then◌else◌}
+use Rattle.std.specs.Prelude.{◌==◌, ℕ, Bool, List, [], ◌∷◌, ◌++◌, Option, Some, None, codes, find, is_some, option_map, if◌then◌else◌}
 use Rattle.std.specs.List.{fold}
 use Rattle.std.specs.Option.{option_or}
 use Rattle.std.specs.Str.{bytes_eq}
@@ -16,7 +16,7 @@ use Rattle.trace_values.specs.declared.occurrence.Scope.TheVariants.{Program, De
 use Rattle.trace_values.specs.declared.variable.Setting.{Setting}
 use Rattle.trace_variables.specs.Calls.{done_before}
 use Rattle.trace_variables.specs.Values.{kind_of, entry_of}
-use Rattle.macro_binding.specs.Prototypes as prototypes
+use Rattle.macro_binding.specs.Prototypes.{is_system}
 use Rattle.variable_meanings.specs.declared.meaning.Meaning.{Meaning}
 
 -- where the local symbols of a call are known, by the place of the prototype of its definition, which open code has not
@@ -24,13 +24,17 @@ abbrev pub own_scope : Option Origin → Scope
 own_scope None = Program
 own_scope (Some origin) = Definition origin
 
--- whether a name is that of a system variable; no parameter has such a name
-abbrev pub is_system : List ℕ → Bool
-is_system name = prototypes.is_system name
+-- whether a name is that of a system variable that a call knows: open code knows SYSPARM alone. No parameter has such a name
+abbrev pub knows_system : Option Origin → List ℕ → Bool
+knows_system None name = bytes_eq name (codes "SYSPARM")
+knows_system (Some origin) name = is_system name
 
--- what a symbol means that the call knows at its entry: a system variable, or else a parameter
-abbrev pub entry_meaning : Scope → List ℕ → Meaning
-entry_meaning own name = if is_system name then record { scope = own; role = role.System } else record { scope = own; role = role.Parameter }
+-- what a system variable means, and a parameter
+abbrev pub system_meaning : Scope → Meaning
+system_meaning own = record { scope = own; role = role.System }
+
+abbrev pub parameter_meaning : Scope → Meaning
+parameter_meaning own = record { scope = own; role = role.Parameter }
 
 -- what a symbol means that is declared: one that is global is the same wherever it is declared with this type
 abbrev pub declared_meaning : Scope → Declaration → Meaning
@@ -60,12 +64,12 @@ meaning_of known name = option_map meaning_in (find (has_name name) known)
 abbrev pub with_meaning : List Known → List ℕ → Meaning → List Known
 with_meaning known name meaning = if is_some (meaning_of known name) then known else known ++ record { name = name; meaning = meaning } ∷ []
 
--- those that a call knows at its entry, which gives them these values
+-- parameters are known by their values, among which those of system variables stand too
 abbrev pub with_entry : Scope → List Known → Setting → List Known
-with_entry own known setting = with_meaning known setting.name (entry_meaning own setting.name)
+with_entry own known setting = if is_system setting.name then known else with_meaning known setting.name (parameter_meaning own)
 
-unfoldable pub at_entry : Scope → List Setting → List Known
-at_entry own entry = fold (with_entry own) [] entry
+unfoldable pub with_entries : Scope → List Known → List Setting → List Known
+with_entries own known entry = fold (with_entry own) known entry
 
 -- those known behind declarations, and behind settings of local symbols
 abbrev pub with_declaration : Scope → List Known → Declaration → List Known
@@ -81,19 +85,35 @@ unfoldable pub with_settings : Scope → List Known → List Setting → List Kn
 with_settings own known settings = fold (with_setting own) known settings
 
 -- those known behind the statement of a point
-abbrev pub after_item : Scope → List Known → TraceItem → List Known
-after_item own known item = with_settings own (with_declarations own known item.declared) item.locals
+abbrev pub with_item : Scope → List Known → TraceItem → List Known
+with_item own known item = with_settings own (with_declarations own known item.declared) item.locals
 
--- those known before the statement of a point, where its call had done this
-abbrev pub known_with : Scope → List TraceItem → TraceItem → List Known
-known_with own done item = fold (after_item own) (at_entry own (entry_of (done ++ item ∷ []))) done
+-- a call, or open code: the place of the prototype of its definition, which open code has not, and the symbols to which its
+-- entry or its statements gave meanings
+pub record Call : Type 0 where
+  pub definition : Option Origin
+  pub known : List Known
 
-abbrev pub known_in : List TraceItem → TraceItem → List Known
-known_in done item = known_with (own_scope item.definition) done item
+-- one at its entry, which gives it these values
+abbrev pub entered : Option Origin → List Setting → Call
+entered definition entry = record { definition = definition; known = with_entries (own_scope definition) [] entry }
 
--- those known in the call of a level before a point of it, where these are the points before: a function of the points
-abbrev pub known_before : List (Point TraceItem) → (level : ℕ) → TraceItem → List Known
-known_before before level item = known_in (done_before level before) item
+-- one behind the statement of a point
+abbrev pub after_item : Call → TraceItem → Call
+after_item call item = record { definition = call.definition; known = with_item (own_scope call.definition) call.known item }
+
+-- the call that had done this and goes on with this item; and the call of a level before a point of it, where these are the
+-- points before: a function of the points
+abbrev pub call_with : List TraceItem → TraceItem → Call
+call_with done item = fold after_item (entered item.definition (entry_of (done ++ item ∷ []))) done
+
+abbrev pub call_before : List (Point TraceItem) → (level : ℕ) → TraceItem → Call
+call_before before level item = call_with (done_before level before) item
+
+-- what a symbol means in a call
+abbrev pub meaning : Call → List ℕ → Option Meaning
+meaning call name =
+    if knows_system call.definition name then Some (system_meaning (own_scope call.definition)) else meaning_of call.known name
 
 -- whether a declaration, or a setting, is one of this name
 abbrev pub declares : List ℕ → Declaration → Bool
@@ -102,13 +122,13 @@ declares name d = bytes_eq name d.name
 abbrev pub sets : List ℕ → Setting → Bool
 sets name setting = bytes_eq name setting.name
 
--- the meaning that a statement gives a symbol at a place of its fields: a declaration in the operands, a setting at the
--- beginning of the name entry
+-- the meaning that a statement of a call gives a symbol at a place of its fields: a declaration in the operands, a setting at
+-- the beginning of the name entry
 abbrev pub given : Scope → Field → (at : ℕ) → TraceItem → List ℕ → Option Meaning
 given own Label at item name = if at == 0 then option_map (set_meaning own) (find (sets name) item.locals) else None
 given own Op at item name = None
 given own Operands at item name = option_map (declared_meaning own) (find (declares name) item.declared)
 
--- what a symbol means at a place of the statement of a point: what it meant before, or what the statement gives it there
-abbrev pub meaning_at : List Known → Scope → Field → (at : ℕ) → TraceItem → List ℕ → Option Meaning
-meaning_at known own field at item name = option_or (meaning_of known name) (given own field at item name)
+-- what a symbol means at a place of a statement of a call: what it meant before, or what the statement gives it there
+abbrev pub meaning_at : Call → Field → (at : ℕ) → TraceItem → List ℕ → Option Meaning
+meaning_at call field at item name = option_or (meaning call name) (given (own_scope call.definition) field at item name)

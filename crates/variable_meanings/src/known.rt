@@ -2,17 +2,17 @@
 ghost use Rattle.std.specs.Prelude.{◌≡◌, IfOk, OnOk};
 ghost use Rattle.variable_meanings.specs.Meanings as meanings;
 
-use crate::meaning::{Meaning, declared_meaning, entry_meaning, set_meaning};
+use crate::meaning::{Meaning, declared_meaning, is_system, set_meaning};
 use hl_base::{Declaration, Name, OutOfMemory};
 use indexmap::IndexMap;
 use std::alloc::Global;
 use std::marker::Model;
-use trace_values::{Scope, Setting, TraceItem};
+use trace_values::{Role, Scope, Setting, TraceItem};
 
-/// The variable symbols that have a meaning in a call, with their meanings. Contracts see the list of them, in the order in
-/// which they got their meanings.
+/// The variable symbols to which the entry of a call or its statements gave meanings. Contracts see the list of them, in the
+/// order in which they got their meanings.
 #[derive(Drop)]
-pub struct KnownVariables {
+pub(crate) struct KnownVariables {
     meanings: IndexMap<String, Meaning>,
 }
 
@@ -30,7 +30,7 @@ impl KnownVariables {
     ghost use Rattle.std.specs.Prelude.{[]};
 
     /// None of them.
-    fn new(alloc: Global) -> KnownVariables
+    pub(crate) fn new(alloc: Global) -> KnownVariables
         ensures { result ≡ [] }
     {
         KnownVariables {
@@ -38,23 +38,8 @@ impl KnownVariables {
         }
     }
 
-    /// Those that a call knows at its entry, which gives them these values. Its local symbols are known in this scope.
-    pub fn at_entry(
-        alloc: Global,
-        own: Scope,
-        entry: &[Setting],
-    ) -> Result<KnownVariables, OutOfMemory>
-        ensures { IfOk result (λ known. known ≡ meanings.at_entry own entry.now) }
-    {
-        let mut known = KnownVariables::new(alloc);
-        for setting in entry {
-            known.note(alloc, &setting.name, entry_meaning(own, &setting.name))?;
-        }
-        Ok(known)
-    }
-
     /// What a symbol means, if it has a meaning.
-    pub fn meaning(&self, name: &Name) -> Option<Meaning>
+    pub(crate) fn meaning(&self, name: &Name) -> Option<Meaning>
         ensures { result ≡ meanings.meaning_of self.now name.now }
     {
         self.meanings.get(name.text()).copied()
@@ -72,6 +57,40 @@ impl KnownVariables {
         Ok(())
     }
 
+    /// Passes what a call knows at its entry.
+    fn note_entry(
+        &mut self,
+        alloc: Global,
+        own: Scope,
+        setting: &Setting,
+    ) -> Result<(), OutOfMemory>
+        ensures { OnOk result (self.new ≡ meanings.with_entry own self.old setting.now) }
+    {
+        if is_system(&setting.name) {
+            return Ok(());
+        }
+        let meaning = Meaning {
+            scope: own,
+            role: Role::Parameter,
+        };
+        self.note(alloc, &setting.name, meaning)
+    }
+
+    /// Passes the values that a call has at its entry.
+    pub(crate) fn enter(
+        &mut self,
+        alloc: Global,
+        own: Scope,
+        entry: &[Setting],
+    ) -> Result<(), OutOfMemory>
+        ensures { OnOk result (self.new ≡ meanings.with_entries own self.old entry.now) }
+    {
+        for setting in entry {
+            self.note_entry(alloc, own, setting)?;
+        }
+        Ok(())
+    }
+
     /// Passes declarations.
     fn declare(
         &mut self,
@@ -82,11 +101,7 @@ impl KnownVariables {
         ensures { OnOk result (self.new ≡ meanings.with_declarations own self.old declared.now) }
     {
         for declaration in declared {
-            self.note(
-                alloc,
-                &declaration.name,
-                declared_meaning(own, declaration),
-            )?;
+            self.note(alloc, &declaration.name, declared_meaning(own, declaration))?;
         }
         Ok(())
     }
@@ -101,14 +116,14 @@ impl KnownVariables {
         Ok(())
     }
 
-    /// Passes the statement of a point of the call. What an `Err` leaves is of no use.
-    pub fn pass(
+    /// Passes the statement of a point.
+    pub(crate) fn pass(
         &mut self,
         alloc: Global,
         own: Scope,
         item: &TraceItem,
     ) -> Result<(), OutOfMemory>
-        ensures { OnOk result (self.new ≡ meanings.after_item own self.old item.now) }
+        ensures { OnOk result (self.new ≡ meanings.with_item own self.old item.now) }
     {
         self.declare(alloc, own, item.declared.as_slice())?;
         self.set(alloc, own, item.locals.as_slice())

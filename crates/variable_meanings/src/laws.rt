@@ -6,5 +6,4 @@ ghost use Rattle.variable_meanings.specs.Laws.{MeaningsStand, MeaningIsGiven};
 pub fn first_meanings_stand()
     ensures stands { MeaningsStand }
     ensures given { MeaningIsGiven }
-{
-}
+{}

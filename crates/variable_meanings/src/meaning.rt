@@ -1,5 +1,6 @@
 //! Meanings of variable symbols.
 ghost use Rattle.std.specs.Prelude.{◌≡◌};
+ghost use Rattle.macro_binding.specs.Prototypes.{is_system};
 ghost use Rattle.trace_variables.specs.Values.{kind_of};
 ghost use Rattle.variable_meanings.specs.Meanings as meanings;
 
@@ -14,7 +15,7 @@ pub struct Meaning {
 }
 
 /// Where the local symbols of a call are known: in the macro definition of this prototype, or in open code.
-pub fn own_scope(definition: Option<Origin>) -> Scope
+pub(crate) fn own_scope(definition: Option<Origin>) -> Scope
     ensures { result ≡ meanings.own_scope definition }
 {
     match definition {
@@ -24,8 +25,8 @@ pub fn own_scope(definition: Option<Origin>) -> Scope
 }
 
 /// Whether a name is that of a system variable.
-fn is_system(name: &Name) -> bool
-    ensures { result ≡ meanings.is_system name.now }
+pub(crate) fn is_system(name: &Name) -> bool
+    ensures { result ≡ is_system name.now }
 {
     matches!(
         name.text(),
@@ -33,19 +34,13 @@ fn is_system(name: &Name) -> bool
     )
 }
 
-/// What a symbol means that a call knows at its entry.
-pub(crate) fn entry_meaning(own: Scope, name: &Name) -> Meaning
-    ensures { result ≡ meanings.entry_meaning own name.now }
+/// Whether a name is that of a system variable that a call knows.
+pub(crate) fn knows_system(definition: Option<Origin>, name: &Name) -> bool
+    ensures { result ≡ meanings.knows_system definition name.now }
 {
-    if is_system(name) {
-        return Meaning {
-            scope: own,
-            role: Role::System,
-        };
-    }
-    Meaning {
-        scope: own,
-        role: Role::Parameter,
+    match definition {
+        None => name.text() == "SYSPARM",
+        Some(_) => is_system(name),
     }
 }
 

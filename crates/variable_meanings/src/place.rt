@@ -33,7 +33,13 @@ fn by_declaration(own: Scope, declared: &[Declaration], name: &Name) -> Option<M
 
 /// The meaning that the statement of a point gives a symbol at a place of its fields, if it gives it one there: by a
 /// declaration in the operands, or by a setting at the beginning of the name entry.
-pub fn given(own: Scope, field: Field, at: u32, item: &TraceItem, name: &Name) -> Option<Meaning>
+pub(crate) fn given(
+    own: Scope,
+    field: Field,
+    at: u32,
+    item: &TraceItem,
+    name: &Name,
+) -> Option<Meaning>
     ensures { result ≡ meanings.given own field at item.now name.now }
 {
     match field {
