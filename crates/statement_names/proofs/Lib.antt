@@ -1,3 +1,4 @@
+pub mod TextLaws
 pub mod ListLaws
 pub mod ScanLaws
 pub mod GroupLaws

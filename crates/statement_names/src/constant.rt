@@ -5,8 +5,7 @@ ghost use Rattle.statement_names.specs.Constants as constants;
 
 use crate::name::WrittenNames;
 use crate::scan::{Sought, push_names};
-use crate::text::{advance, before, behind, digit_count};
-use conditional_fields::character::head;
+use crate::text::{advance, before, behind, digit_count, head};
 use constant_table::ConstantType;
 use hl_base::{Nesting, OutOfMemory};
 use hlasm_statements::Field;

@@ -6,8 +6,9 @@ ghost use Rattle.statement_names.specs.Names as names;
 ghost use Rattle.statement_names.specs.Scans.{Stands};
 
 use crate::name::{NameKind, Named, WrittenNames};
-use crate::text::{advance, before, behind, counted, is_front, word_length};
-use conditional_fields::character::{character_count, head, name_of};
+use crate::text::{
+    advance, before, behind, character_count, counted, head, is_front, name_of, word_length,
+};
 use hl_base::{Name, Nesting, OutOfMemory, is_symbol_character};
 use hlasm_statements::Field;
 

@@ -1,13 +1,37 @@
 //! Texts, character by character.
-ghost use Rattle.std.specs.Prelude.{◌≡◌, ◌==◌, ◌+◌, false, drop, take, slice_index, IfOk};
+ghost use Rattle.std.specs.Prelude.{◌≡◌, ◌==◌, ◌+◌, [], ◌∷◌, false, drop, length, take, slice_index, IfOk, MatchOption};
 ghost use Rattle.std.specs.List.{list_any, prefix_len};
 ghost use Rattle.std.specs.Char.{is_ascii_digit};
 ghost use Rattle.std.specs.Str.{chars};
 ghost use Rattle.statement_names.specs.Names as names;
 
-use conditional_fields::character::head;
-use hl_base::{OutOfMemory, is_symbol_character};
+use hl_base::{Name, OutOfMemory, is_symbol_character};
 use hlasm_statements::split_columns;
+
+/// How many characters a text has.
+pub(crate) fn character_count(text: &str) -> usize
+    ensures { result ≡ length (chars text.now) }
+{
+    text.chars().count()
+}
+
+/// The first character of a text, and what is behind it.
+pub(crate) fn head(text: &str) -> Option<(char, &str)>
+    ensures { MatchOption result (chars text.now ≡ []) (λ p. chars text.now ≡ p.0 ∷ chars p.1.now) }
+{
+    let mut rest = text.chars();
+    match rest.next() {
+        Some(c) => Some((c, rest.as_str())),
+        None => None,
+    }
+}
+
+/// The name that a text spells.
+pub(crate) fn name_of(text: &str) -> Option<Name>
+    ensures { result ≡ names.name_of (chars text.now) }
+{
+    Name::read(text)
+}
 
 /// Whether a text has an ampersand.
 pub(crate) fn has_ampersand(text: &str) -> bool
