@@ -2,4 +2,5 @@ pub mod TextLaws
 pub mod ListLaws
 pub mod ScanLaws
 pub mod GroupLaws
+pub mod ConstantLaws
 pub mod OperandLaws

@@ -110,8 +110,9 @@ fn push_apart(
 ) -> Result<(), OutOfMemory>
     ensures { OnOk result (found.new ≡ found.old ++ constants.apart count at (chars text.now)) }
 {
+    let next = advance(at, count)?;
     push_symbols(at, before(text, count), found)?;
-    push_symbols(advance(at, count)?, behind(text, count), found)
+    push_symbols(next, behind(text, count), found)
 }
 
 /// Adds the symbols of the length and the values, behind the type.
@@ -121,8 +122,10 @@ fn push_behind_type(at: u32, text: &str, found: &mut WrittenNames) -> Result<(),
     if !begins_length(text) {
         return push_symbols(at, text, found);
     }
+    let next = advance(at, 1)?;
     let rest = behind(text, 1);
-    push_apart(amount_count(rest)?, advance(at, 1)?, rest, found)
+    let count = amount_count(rest)?;
+    push_apart(count, next, rest, found)
 }
 
 /// Adds the symbols behind the duplication factor.
@@ -133,7 +136,8 @@ fn push_behind_factor(at: u32, text: &str, found: &mut WrittenNames) -> Result<(
     if letters == 0 {
         return push_symbols(at, text, found);
     }
-    push_behind_type(advance(at, letters)?, behind(text, letters), found)
+    let next = advance(at, letters)?;
+    push_behind_type(next, behind(text, letters), found)
 }
 
 /// Adds the symbols of a constant that stands behind so many characters of an operand field.
@@ -145,6 +149,7 @@ pub(crate) fn push_constant(
     ensures { OnOk result (found.new ≡ found.old ++ constants.constant_symbols at (chars text.now)) }
 {
     let count = amount_count(text)?;
+    let next = advance(at, count)?;
     push_symbols(at, before(text, count), found)?;
-    push_behind_factor(advance(at, count)?, behind(text, count), found)
+    push_behind_factor(next, behind(text, count), found)
 }

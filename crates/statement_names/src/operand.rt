@@ -29,7 +29,10 @@ fn push_instruction(at: u32, text: &str, found: &mut WrittenNames) -> Result<(),
     ensures { OnOk result (found.new ≡ found.old ++ operands.instruction_symbols at (chars text.now)) }
 {
     match head(text) {
-        Some(('=', rest)) => push_constant(advance(at, 1)?, rest, found),
+        Some(('=', rest)) => {
+            let next = advance(at, 1)?;
+            push_constant(next, rest, found)
+        }
         Some(_) => push_symbols(at, text, found),
         None => Ok(()),
     }
@@ -57,9 +60,8 @@ fn push_operand(
 fn next_place(at: u32, text: &str) -> Result<u32, OutOfMemory>
     ensures { IfOk result (λ n. n ≡ at + length (chars text.now) + 1) }
 {
-    advance(at, character_count(text))?
-        .checked_add(1)
-        .ok_or(OutOfMemory)
+    let end = advance(at, character_count(text))?;
+    end.checked_add(1).ok_or(OutOfMemory)
 }
 
 /// Adds the names that an operation reads in operands, the first of which stands at the beginning of the field.
@@ -68,8 +70,9 @@ fn push_each(used: OperandUse, texts: &[Text], found: &mut WrittenNames) -> Resu
 {
     let mut at: u32 = 0;
     for text in texts {
+        let next = next_place(at, text.as_str())?;
         push_operand(used, at, text.as_str(), found)?;
-        at = next_place(at, text.as_str())?;
+        at = next;
     }
     Ok(())
 }

@@ -153,9 +153,10 @@ pub(crate) fn push_names(
     let mut place = at;
     let mut left = text;
     while let Some((c, rest)) = head(left) {
-        found.push_at(field, place, name_at(sought, marks, c, left, rest)?)?;
+        let named = name_at(sought, marks, c, left, rest)?;
+        found.push_at(field, place, named)?;
         marks = marks.read(c)?;
-        place = place.checked_add(1).ok_or(OutOfMemory)?;
+        place = advance(place, 1)?;
         left = rest;
     }
     Ok(())
