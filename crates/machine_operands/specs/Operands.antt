@@ -1,8 +1,7 @@
 -- Operands of machine instructions as they are written (HLASM Language Reference SC26-4940, "Operand entries", "Addresses",
 -- "Literals"). One that cannot be read tells how many characters it has of the longest text that a right operand of its kind
 -- begins with and it begins with too.
-use Rattle.std.specs.Prelude.{ℕ, ◌+◌, ◌==◌, Bool, true, false, List, [], ◌∷◌, length, take, drop, Option, Some, None, Result, Ok, Err, if◌then◌else◌}
-use Rattle.constant_grammar.specs.Constants.{Constant}
+use Rattle.std.specs.Prelude.{ℕ, ◌+◌, ◌==◌, Bool, true, false, List, [], ◌∷◌, length, take, drop, is_some, Option, Some, None, Result, Ok, Err, if◌then◌else◌}
 use Rattle.constant_grammar.specs.Elements.{tree_in}
 use Rattle.constant_operands.specs.Operands as constants
 use Rattle.expression_grammar.specs.declared.character.Grammar.TheVariants.{Ordinary}
@@ -46,13 +45,13 @@ abbrev pub value_by : Result Tree ℕ → Written
 value_by (Ok tree) = value tree
 value_by (Err at) = wrong at
 
-abbrev pub plain_value : List ℕ → Written
+unfoldable pub plain_value : List ℕ → Written
 plain_value text = value_by (read Ordinary text)
 
--- a displacement alone, of so many characters
-abbrev pub bare : AddressForm → Displacement → ℕ → Written
-bare form displacement count =
-    if needs_parts form then wrong count else address (record { displacement = displacement; first = None; base = None })
+-- a displacement that is all of an operand
+abbrev pub bare : AddressForm → Displacement → List ℕ → Written
+bare form displacement text =
+    if needs_parts form then wrong (length text) else address (record { displacement = displacement; first = None; base = None })
 
 -- a displacement with what stands in parentheses
 abbrev pub with_parts : Displacement → Result Parts ℕ → Written
@@ -65,16 +64,19 @@ opened None form at rest = wrong at
 opened (Some tree) form at rest = with_parts (expression tree) (parts form (at + 1) rest)
 
 -- what stands where no expression goes on: an opening parenthesis (40)
-abbrev pub behind_expression : AddressForm → List ℕ → ℕ → List ℕ → Written
-behind_expression form text at [] = wrong at
-behind_expression form text at (c ∷ rest) = if c == 40 then opened (tree_in (read Ordinary (take at text))) form at rest else wrong at
+abbrev pub behind_by : AddressForm → List ℕ → ℕ → List ℕ → Written
+behind_by form text at [] = wrong at
+behind_by form text at (c ∷ rest) = if c == 40 then opened (tree_in (read Ordinary (take at text))) form at rest else wrong at
+
+unfoldable pub behind_expression : AddressForm → List ℕ → ℕ → Written
+behind_expression form text at = behind_by form text at (drop at text)
 
 abbrev pub address_by : AddressForm → List ℕ → Result Tree ℕ → Written
-address_by form text (Ok tree) = bare form (expression tree) (length text)
-address_by form text (Err at) = behind_expression form text at (drop at text)
+address_by form text (Ok tree) = bare form (expression tree) text
+address_by form text (Err at) = behind_expression form text at
 
 -- an address without literal
-abbrev pub plain_address : AddressForm → List ℕ → Written
+unfoldable pub plain_address : AddressForm → List ℕ → Written
 plain_address form text = address_by form text (read Ordinary text)
 
 -- an operand without literal
@@ -83,10 +85,14 @@ plain form.Value text = plain_value text
 plain form.Target text = plain_value text
 plain (form.Address form) text = plain_address form text
 
--- what stands behind a literal as a displacement
-abbrev pub behind_literal : AddressForm → ℕ → List ℕ → Written
-behind_literal form count [] = bare form literal count
-behind_literal form count (c ∷ rest) = if c == 40 then with_parts literal (parts form (count + 1) rest) else wrong count
+-- what stands in parentheses behind a literal of so many characters
+abbrev pub open_literal : AddressForm → ℕ → List ℕ → Written
+open_literal form count rest = with_parts literal (parts form (count + 1) rest)
+
+-- a literal as a displacement, and what stands behind it
+abbrev pub behind_literal : AddressForm → List ℕ → ℕ → List ℕ → Written
+behind_literal form text count [] = bare form literal text
+behind_literal form text count (c ∷ rest) = if c == 40 then open_literal form count rest else wrong count
 
 -- behind a literal as a target nothing stands
 abbrev pub target_literal : ℕ → List ℕ → Written
@@ -94,28 +100,35 @@ target_literal count [] = literal_target
 target_literal count (c ∷ rest) = wrong count
 
 -- a literal that was read, of so many characters with its equals sign
-abbrev pub literal_as : OperandForm → ℕ → List ℕ → Written
-literal_as form.Value count behind = wrong 0
-literal_as form.Target count behind = target_literal count behind
-literal_as (form.Address form) count behind = behind_literal form count behind
+abbrev pub literal_as : OperandForm → List ℕ → ℕ → List ℕ → Written
+literal_as form.Value text count behind = wrong 0
+literal_as form.Target text count behind = target_literal count behind
+literal_as (form.Address form) text count behind = behind_literal form text count behind
 
-abbrev pub literal_written : OperandForm → Option Constant → ℕ → List ℕ → Written
-literal_written form None count behind = no_literal
-literal_written form (Some constant) count behind = literal_as form count behind
+abbrev pub literal_written : OperandForm → (is_read : Bool) → (text literal behind : List ℕ) → Written
+literal_written form is_read text literal behind = if is_read then literal_as form text (1 + length literal) behind else no_literal
+
+abbrev pub with_literal : OperandForm → List ℕ → literals.Literal → Operand
+with_literal form text found = record {
+  literal = Some found.constant;
+  written = literal_written form (is_some found.constant.constant) text found.text found.behind;
+}
 
 -- an operand that begins with a literal or not
 abbrev pub operand_by : OperandForm → List ℕ → Option literals.Literal → Operand
 operand_by form text None = record { literal = None; written = plain form text }
-operand_by form text (Some found) = record {
-  literal = Some found.constant;
-  written = literal_written form found.constant.constant (length found.text + 1) found.behind;
-}
+operand_by form text (Some found) = with_literal form text found
 
 -- whether a literal may stand in an operand: in an address, and as a target where its instruction lets it
 abbrev pub takes_literal : OperandForm → (targets : Bool) → Bool
 takes_literal form.Value targets = false
 takes_literal form.Target targets = targets
 takes_literal (form.Address form) targets = true
+
+-- an operand that begins with an equals sign (61) begins with a literal
+abbrev pub begins_literal : List ℕ → Bool
+begins_literal [] = false
+begins_literal (c ∷ rest) = c == 61
 
 abbrev pub literal_if : Bool → List ℕ → Option literals.Literal
 literal_if takes text = if takes then literals.literal_in text else None

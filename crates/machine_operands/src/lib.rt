@@ -13,7 +13,8 @@ mod address;
 mod form;
 mod operand;
 mod parts;
+mod reading;
 mod text;
 
 pub use form::{AddressForm, OperandForm, form_of};
-pub use operand::{Address, Displacement, MachineOperand, Written};
+pub use operand::{Address, Displacement, MachineOperand, Written, begins_literal};

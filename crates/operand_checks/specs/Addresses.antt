@@ -1,6 +1,6 @@
 -- What is said of addresses, from left to right (this project): of the displacement, of an index, a length or a register in its
 -- place, and of the base. A literal as displacement is its place in its pool; of one that was refused nothing is said.
-use Rattle.std.specs.Prelude.{List, [], ◌++◌, Option, Some, None}
+use Rattle.std.specs.Prelude.{Bool, List, [], ◌++◌, Option, Some, None, is_some}
 use Rattle.expression_grammar.specs.Trees.{Tree}
 use Rattle.expression_notes.specs.Expressions.{listed}
 use Rattle.instruction_table.specs.declared.encodings.Kind.{Kind}
@@ -14,17 +14,20 @@ use Rattle.operand_checks.specs.Expressions.{judged, said_of_part}
 use Rattle.operand_checks.specs.Settings.{Setting}
 
 -- of a displacement that is an expression
-unfoldable pub said_of_displacement : Setting → Kind → Option Tree → Tree → List Row
-said_of_displacement setting kind base tree = judged setting tree (said_of_place setting.ranges (displacements kind) base)
+unfoldable pub said_of_displacement : Setting → Kind → (is_based : Bool) → Tree → List Row
+said_of_displacement setting kind is_based tree = judged setting tree (said_of_place setting.ranges (displacements kind) is_based)
 
 -- of one that is a literal with this place
-abbrev pub said_of_literal : Setting → Kind → Option Tree → Option Reloc → List Row
-said_of_literal setting kind base None = []
-said_of_literal setting kind base (Some place) = listed (said_of_place setting.ranges (displacements kind) base place)
+unfoldable pub said_of_literal : Setting → Kind → (is_based : Bool) → Reloc → List Row
+said_of_literal setting kind is_based place = listed (said_of_place setting.ranges (displacements kind) is_based place)
 
-abbrev pub said_of_either : Setting → Kind → Option Tree → Option Reloc → Displacement → List Row
-said_of_either setting kind base place (written.expression tree) = said_of_displacement setting kind base tree
-said_of_either setting kind base place written.literal = said_of_literal setting kind base place
+abbrev pub said_of_literal_if : Setting → Kind → (is_based : Bool) → Option Reloc → List Row
+said_of_literal_if setting kind is_based None = []
+said_of_literal_if setting kind is_based (Some place) = said_of_literal setting kind is_based place
+
+abbrev pub said_of_either : Setting → Kind → (is_based : Bool) → Option Reloc → Displacement → List Row
+said_of_either setting kind is_based place (written.expression tree) = said_of_displacement setting kind is_based tree
+said_of_either setting kind is_based place written.literal = said_of_literal_if setting kind is_based place
 
 -- what an index, a length or a register in its place is in an address of this kind
 abbrev pub first_kind : Kind → Kind
@@ -36,5 +39,5 @@ first_kind other = Register
 -- of an address whose literal, if it has one, has this place
 unfoldable pub said_of_address : Setting → Kind → Option Reloc → Address → List Row
 said_of_address setting kind place address =
-    (said_of_either setting kind address.base place address.displacement ++ said_of_part setting (first_kind kind) address.first)
+    (said_of_either setting kind (is_some address.base) place address.displacement ++ said_of_part setting (first_kind kind) address.first)
     ++ said_of_part setting Register address.base

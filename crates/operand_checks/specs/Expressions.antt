@@ -14,9 +14,13 @@ use Rattle.ordinary_symbols.specs.Values.{value}
 use Rattle.trace_values.specs.declared.section.Reloc.{Reloc}
 use Rattle.operand_checks.specs.Settings.{Setting}
 
+-- why an expression has no value
+unfoldable pub said_of_fault : Setting → Tree → List Row
+said_of_fault setting tree = said_of setting.known setting.here wanted.Value tree
+
 abbrev pub judged_by : Setting → Tree → (Reloc → Option Row) → Result Reloc EvalFault → List Row
 judged_by setting tree say (Ok place) = listed (say place)
-judged_by setting tree say (Err fault) = said_of setting.known setting.here wanted.Value tree
+judged_by setting tree say (Err fault) = said_of_fault setting tree
 
 -- of an expression of whose value something is said
 abbrev pub judged : Setting → Tree → (Reloc → Option Row) → List Row

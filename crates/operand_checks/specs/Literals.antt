@@ -1,23 +1,28 @@
 -- What is said of the addresses in S constants (HLASM Language Reference SC26-4940, "Address constants"; this project): they are
 -- checked as addresses in operands are that have a base and no index.
-use Rattle.std.specs.Prelude.{List, [], flat_map, Option, Some, None}
+use Rattle.std.specs.Prelude.{List, [], ◌++◌, flat_map, Option, Some, None, is_some}
 use Rattle.constant_grammar.specs.Constants.{Constant}
 use Rattle.constant_grammar.specs.Elements.{Element, expression, symbol, address_of}
 use Rattle.constant_grammar.specs.Nominals.{Nominal, quoted, enclosed}
 use Rattle.constant_operands.specs.Operands.{Operand}
-use Rattle.instruction_table.specs.declared.encodings.Kind.TheVariants.{Based}
-use Rattle.machine_operands.specs.Operands as written
+use Rattle.expression_grammar.specs.Trees.{Tree}
+use Rattle.instruction_table.specs.declared.encodings.Kind.TheVariants.{Based, Register}
 use Rattle.note_rows.specs.declared.row.Row.{Row}
 use Rattle.trace_values.specs.declared.section.Reloc.{Reloc}
-use Rattle.operand_checks.specs.Addresses.{said_of_address}
+use Rattle.operand_checks.specs.Addresses.{said_of_displacement}
+use Rattle.operand_checks.specs.Expressions.{said_of_part}
 use Rattle.operand_checks.specs.Settings.{Setting}
 
+-- of a displacement with a base or without
+abbrev pub said_of_based : Setting → Tree → Option Tree → List Row
+said_of_based setting displacement base =
+    said_of_displacement setting Based (is_some base) displacement ++ said_of_part setting Register base
+
 -- of a value that is an address
-abbrev pub said_of_element : Setting → Element → List Row
+unfoldable pub said_of_element : Setting → Element → List Row
 said_of_element setting (expression tree) = []
 said_of_element setting (symbol name) = []
-said_of_element setting (address_of displacement base) =
-    said_of_address setting Based None (record { displacement = written.expression displacement; first = None; base = base })
+said_of_element setting (address_of displacement base) = said_of_based setting displacement base
 
 -- of each value in turn
 abbrev pub said_of_elements : Setting → List Element → List Row

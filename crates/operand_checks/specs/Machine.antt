@@ -1,6 +1,7 @@
 -- What is said of the operands of a machine instruction (this project; HLASM Language Reference SC26-4940, "Machine instruction
 -- statements"): that there are not as many as it has; else of each operand, from left to right.
-use Rattle.std.specs.Prelude.{ℕ, ◌==◌, Bool, true, false, List, [], ◌∷◌, ◌++◌, length, Option, Some, None, if◌then◌else◌}
+use Rattle.std.specs.Prelude.{ℕ, Bool, true, false, List, [], ◌∷◌, ◌++◌, length, Option, Some, None, if◌then◌else◌}
+use Rattle.expression_notes.specs.Expressions.{listed}
 use Rattle.instruction_table.specs.declared.encodings.Encoding.{Encoding}
 use Rattle.instruction_table.specs.declared.encodings.Encoding.TheVariants.{Ril}
 use Rattle.instruction_table.specs.declared.encodings.Kind.{Kind}
@@ -8,7 +9,7 @@ use Rattle.instruction_table.specs.declared.format.Format.{Format}
 use Rattle.instruction_table.specs.Formats.{encoding_of, operands_of}
 use Rattle.machine_check.specs.Counts.{said_of_count}
 use Rattle.machine_operands.specs.Operands as written
-use Rattle.machine_operands.specs.Operands.{Operand, Written, operand}
+use Rattle.machine_operands.specs.Operands.{Operand, Written, begins_literal, operand}
 use Rattle.note_rows.specs.declared.row.Row.{Row}
 use Rattle.note_rows.specs.declared.row.Row.TheVariants.{Unreadable}
 use Rattle.trace_values.specs.declared.section.Reloc.{Reloc}
@@ -34,11 +35,6 @@ said_of_operand setting kind place operand =
 unfoldable pub said_of_text : Setting → (targets : Bool) → Kind → Option Reloc → List ℕ → List Row
 said_of_text setting targets kind place text = said_of_operand setting kind place (operand kind targets text)
 
--- whether an operand begins with an equals sign (61): such operands have the places of literals, in order
-abbrev pub begins_literal : List ℕ → Bool
-begins_literal [] = false
-begins_literal (c ∷ rest) = c == 61
-
 -- the first of some places, and those behind it
 abbrev pub first_place : List (Option Reloc) → Option Reloc
 first_place [] = None
@@ -48,7 +44,7 @@ abbrev pub other_places : List (Option Reloc) → List (Option Reloc)
 other_places [] = []
 other_places (place ∷ places) = places
 
--- the place of an operand's literal, and the places that are left for the operands behind it
+-- operands that begin with an equals sign have the places of literals, in order: the place of an operand's literal, and the places that are left for the operands behind it
 abbrev pub place_of : List ℕ → List (Option Reloc) → Option Reloc
 place_of text places = if begins_literal text then first_place places else None
 
@@ -74,7 +70,7 @@ takes_literal_targets format = is_ril (encoding_of format)
 -- that the number of operands is wrong, alone, or what is said of each
 abbrev pub said_by_count : Option Row → List Row → List Row
 said_by_count None others = others
-said_by_count (Some wrong) others = wrong ∷ []
+said_by_count (Some wrong) others = listed (Some wrong)
 
 -- of a machine instruction whose literals have these places
 unfoldable pub said_of_machine : Setting → Format → (places : List (Option Reloc)) → (texts : List (List ℕ)) → List Row
