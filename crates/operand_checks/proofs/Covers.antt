@@ -58,13 +58,15 @@ within range section offset h =
     let one = both (same_section range.section section) (is_near range offset) h in
     let two = both (int_le (beginning range) offset) (int_lt offset (beginning range +ℤ pos 4096) && is_before offset range.end) one.1 in
     let three = both (int_lt offset (beginning range +ℤ pos 4096)) (is_before offset range.end) two.1 in
-    let gap = above (beginning range) offset two.0 in
-    (gap.0, record {
-      section_is = section-is range.section section one.0;
-      offset_is = near-is range.start offset range.pages gap.0 gap.1;
-      near = less-is (beginning range) offset gap.0 gap.1 three.0;
-      before_end = before-is offset range.end three.1;
-    })
+    let gap = above (beginning range) offset two.0 in (
+      gap.0,
+      record {
+        section_is = section-is range.section section one.0;
+        offset_is = near-is range.start offset range.pages gap.0 gap.1;
+        near = less-is (beginning range) offset gap.0 gap.1 three.0;
+        before_end = before-is offset range.end three.1;
+      },
+    )
 
 all_three : (a b c d : Bool) → a ≡ true → b ≡ true → c ≡ true → d ≡ true → (a && (b && (c && d))) ≡ true
 all_three a b c d ha hb hc hd = cc
@@ -93,11 +95,13 @@ found (one ∷ others) section offset h = by one h (found others section offset)
   where
     deeper : (first : Option Range) → ((r : ℕ) × (d : ℕ) × Covers others section offset r d) → (r : ℕ) × (d : ℕ) × Covers (first ∷ others) section offset r d
     deeper first (r, d, range, at, is) = (suc r, d, range, at, is)
+
     here : (range : Range) (b : Bool) → has_address range section offset ≡ b → (b || list_any (register_has section offset) others) ≡ true →
         (list_any (register_has section offset) others ≡ true → (r : ℕ) × (d : ℕ) × Covers others section offset r d) →
         (r : ℕ) × (d : ℕ) × Covers (Some range ∷ others) section offset r d
     here range true is h rest = let w = within range section offset is in (0, w.0, range, refl, w.1)
     here range false is h rest = deeper (Some range) (rest h)
+
     by : (first : Option Range) → list_any (register_has section offset) (first ∷ others) ≡ true →
         (list_any (register_has section offset) others ≡ true → (r : ℕ) × (d : ℕ) × Covers others section offset r d) →
         (r : ℕ) × (d : ℕ) × Covers (first ∷ others) section offset r d

@@ -36,8 +36,15 @@ first_kind LengthTo256 = LengthTo256
 first_kind LengthTo16 = LengthTo16
 first_kind other = Register
 
--- of an address whose literal, if it has one, has this place
+-- of the displacement of an address whose literal, if it has one, has this place
+abbrev pub said_of_front : Setting → Kind → Option Reloc → Address → List Row
+said_of_front setting kind place address = said_of_either setting kind (is_some address.base) place address.displacement
+
+-- of what stands for an index or a length
+abbrev pub said_of_first : Setting → Kind → Option Tree → List Row
+said_of_first setting kind first = said_of_part setting (first_kind kind) first
+
+-- of the address
 unfoldable pub said_of_address : Setting → Kind → Option Reloc → Address → List Row
 said_of_address setting kind place address =
-    (said_of_either setting kind (is_some address.base) place address.displacement ++ said_of_part setting (first_kind kind) address.first)
-    ++ said_of_part setting Register address.base
+    (said_of_front setting kind place address ++ said_of_first setting kind address.first) ++ said_of_part setting Register address.base

@@ -14,9 +14,12 @@ use Rattle.operand_checks.specs.Expressions.{said_of_part}
 use Rattle.operand_checks.specs.Settings.{Setting}
 
 -- of a displacement with a base or without
+abbrev pub said_of_front : Setting → Tree → Option Tree → List Row
+said_of_front setting displacement base = said_of_displacement setting Based (is_some base) displacement
+
+-- of it and its base
 abbrev pub said_of_based : Setting → Tree → Option Tree → List Row
-said_of_based setting displacement base =
-    said_of_displacement setting Based (is_some base) displacement ++ said_of_part setting Register base
+said_of_based setting displacement base = said_of_front setting displacement base ++ said_of_part setting Register base
 
 -- of a value that is an address
 unfoldable pub said_of_element : Setting → Element → List Row

@@ -1,6 +1,6 @@
 //! Addresses.
-ghost use Rattle.std.specs.Prelude.{◌≡◌, ◌++◌, OnOk};
-ghost use Rattle.constant_grammar.specs.Views.{tree_in};
+ghost use Rattle.std.specs.Prelude.{◌≡◌, ◌++◌, is_some, OnOk};
+ghost use Rattle.constant_grammar.specs.Views.{tree_if, tree_in};
 ghost use Rattle.expression_notes.specs.Repeating.{once_behind};
 ghost use Rattle.machine_operands.specs.Views.{address_of, displacement_of};
 ghost use Rattle.operand_checks.specs.Addresses as spec;
@@ -99,8 +99,43 @@ fn first_kind(kind: Kind) -> Kind
     }
 }
 
+/// Says what there is to say of what stands for an index or a length in an address of this kind.
+fn push_first(
+    setting: &Setting<'_>,
+    kind: Kind,
+    first: &Option<Formula>,
+    rows: &mut Vec<Row>,
+) -> Result<(), OutOfMemory>
+    ensures { OnOk result (rows.new.items ≡ rows.old.items ++ once_behind rows.old.items (spec.said_of_first (setting_of setting.now) kind (tree_if first.now))) }
+{
+    push_part(setting, first_kind(kind), first, rows)
+}
+
+/// Whether there is a base.
+pub(crate) fn is_given(base: &Option<Formula>) -> bool
+    ensures { result ≡ is_some (tree_if base.now) }
+{
+    match base {
+        Some(_) => true,
+        None => false,
+    }
+}
+
+/// Says what there is to say of the displacement of an address.
+fn push_front(
+    setting: &Setting<'_>,
+    kind: Kind,
+    place: Option<Reloc>,
+    address: &Address,
+    rows: &mut Vec<Row>,
+) -> Result<(), OutOfMemory>
+    ensures { OnOk result (rows.new.items ≡ rows.old.items ++ once_behind rows.old.items (spec.said_of_front (setting_of setting.now) kind place (address_of address.now))) }
+{
+    let is_based = is_given(&address.base);
+    push_either(setting, kind, is_based, place, &address.displacement, rows)
+}
+
 /// Says what there is to say of an address of this kind, whose literal, if it has one, has this place.
-#[tactic(auto, unfolding(crate::specs::Addresses::said_of_address))]
 pub(crate) fn push_address(
     setting: &Setting<'_>,
     kind: Kind,
@@ -110,8 +145,7 @@ pub(crate) fn push_address(
 ) -> Result<(), OutOfMemory>
     ensures { OnOk result (rows.new.items ≡ rows.old.items ++ once_behind rows.old.items (spec.said_of_address (setting_of setting.now) kind place (address_of address.now))) }
 {
-    let is_based = address.base.is_some();
-    push_either(setting, kind, is_based, place, &address.displacement, rows)?;
-    push_part(setting, first_kind(kind), &address.first, rows)?;
+    push_front(setting, kind, place, address, rows)?;
+    push_first(setting, kind, &address.first, rows)?;
     push_part(setting, Kind::Register, &address.base, rows)
 }

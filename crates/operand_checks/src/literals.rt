@@ -8,7 +8,7 @@ ghost use Rattle.operand_checks.specs.Literals as spec;
 ghost use Rattle.operand_checks.specs.Settings.{setting_of};
 
 use crate::Setting;
-use crate::addresses::push_displacement;
+use crate::addresses::{is_given, push_displacement};
 use crate::expressions::push_part;
 use constant_grammar::{Element, Formula, Nominal};
 use constant_operands::ConstantOperand;
@@ -17,7 +17,19 @@ use instruction_table::Kind;
 use note_rows::Row;
 use trace_values::Reloc;
 
-/// Says what there is to say of a displacement with a base or without.
+/// Says what there is to say of a displacement before a base or none.
+fn push_front(
+    setting: &Setting<'_>,
+    displacement: &Formula,
+    base: &Option<Formula>,
+    rows: &mut Vec<Row>,
+) -> Result<(), OutOfMemory>
+    ensures { OnOk result (rows.new.items ≡ rows.old.items ++ once_behind rows.old.items (spec.said_of_front (setting_of setting.now) (tree_in displacement.now) (tree_if base.now))) }
+{
+    push_displacement(setting, Kind::Based, is_given(base), displacement, rows)
+}
+
+/// Says what there is to say of an address, and of its base.
 fn push_based(
     setting: &Setting<'_>,
     displacement: &Formula,
@@ -26,7 +38,7 @@ fn push_based(
 ) -> Result<(), OutOfMemory>
     ensures { OnOk result (rows.new.items ≡ rows.old.items ++ once_behind rows.old.items (spec.said_of_based (setting_of setting.now) (tree_in displacement.now) (tree_if base.now))) }
 {
-    push_displacement(setting, Kind::Based, base.is_some(), displacement, rows)?;
+    push_front(setting, displacement, base, rows)?;
     push_part(setting, Kind::Register, base, rows)
 }
 
