@@ -38,12 +38,12 @@ checked_more k literals held after lines old new number line first then inside h
     ∙ ap (λ rest. (take number old ++ then ∷ []) ++ all_checked k literals after behind rest) (drop-set-lt (number + 1) old number then less)
     ∙ append_assoc (take number old) (then ∷ []) (all_checked k literals after behind others)
     ∙ ap (λ rest. take number old ++ rest) (
-      ap (λ s. s ∷ all_checked k literals after behind others) then_is
-      ∙ ap (λ h. one.checked k literals held line first ∷ all_checked k literals h behind others) after_is
-      ∙ sym (ap (λ ls. all_checked k literals held ls (first ∷ others))
-        (drop_more lines number line has ∙ ap (λ l. l ∷ behind) (sym line_is)))
-      ∙ sym (ap (all_checked k literals held (drop number lines))
-        (drop_more old number first inside ∙ ap (λ s. s ∷ others) (sym first_is))))
+    ap (λ s. s ∷ all_checked k literals after behind others) then_is
+    ∙ ap (λ h. one.checked k literals held line first ∷ all_checked k literals h behind others) after_is
+    ∙ sym (ap (λ ls. all_checked k literals held ls (first ∷ others))
+    (drop_more lines number line has ∙ ap (λ l. l ∷ behind) (sym line_is)))
+    ∙ sym (ap (all_checked k literals held (drop number lines))
+    (drop_more old number first inside ∙ ap (λ s. s ∷ others) (sym first_is))))
 
 -- there is no further statement
 pub checked_end : (k : Knowledge) (literals : Literals) (held : Held) (lines : List Line) (statements : List Statement) (number : ℕ) →

@@ -37,11 +37,11 @@ bit-mask : (holds : ℕ → Bool) (n r : ℕ) → r < n → bit_at (mask_of hold
 unfolding mask_of
 bit-mask holds zero r h = absurd (omega arith)
 bit-mask holds (suc n) r h =
-    elim cases_lt r n [
-      inl less ↦ at_others (mask_of holds n) n r (holds n) less ∙ bit-mask holds n r less
+    elim (cases_lt r n) [
+      | inl less ↦ at_others (mask_of holds n) n r (holds n) less ∙ bit-mask holds n r less
       | inr more ↦ let is : n ≡ r = omega arith in
-        subst (λ (k : ℕ). bit_at (with_bit (mask_of holds n) n (holds n)) k ≡ (if holds k then 1 else 0)) is
-        (at_itself (mask_of holds n) n (holds n) (below holds n))
+          subst (λ (k : ℕ). bit_at (with_bit (mask_of holds n) n (holds n)) k ≡ (if holds k then 1 else 0)) is
+          (at_itself (mask_of holds n) n (holds n) (below holds n))
     ]
 
 test : (b : Bool) (n : ℕ) → n ≡ (if b then 1 else 0) → (n == 1) ≡ b

@@ -44,6 +44,7 @@ symbol-known known asked name n is = by (known name) refl is
     none : (r : Reference) → number_of_symbol r name None ≡ Ok n → ⊥
     none ValueOf h = cc
     none (Of attribute) h = cc
+
     by : (found : Option Known) → known name ≡ found → number_of_symbol asked name found ≡ Ok n → undefined known (name ∷ []) ≡ []
     by None found_is h = absurd (none asked h)
     by (Some one) found_is h = ap (λ o. map (λ (s : List ℕ). UndefinedSymbol s) (cond (is_none o) (name ∷ []) [])) found_is
@@ -156,8 +157,8 @@ read_using-kept known here held using None registers span_is registers_are fault
 read_using-kept known here held using (Some span) None span_is registers_are faulty = refl
 read_using-kept known here held using (Some span) (Some registers) span_is registers_are faulty =
     absurd (faulty (
-      ap (λ rows. bad_once (rows ++ said_of_registers known here using.registers)) (bounds-none known here using.bounds span span_is)
-      ∙ ap bad_once (registers-none known here using.registers registers registers_are)))
+    ap (λ rows. bad_once (rows ++ said_of_registers known here using.registers)) (bounds-none known here using.bounds span span_is)
+    ∙ ap bad_once (registers-none known here using.registers registers registers_are)))
 
 using_in-kept : (known : Knowledge) (here : Option Reloc) (held : Held) (using : Option UsingOperands) → said_of_read_using known here using ≢ [] →
     behind_read_using known here held using ≡ held
@@ -181,9 +182,9 @@ named-kept : (known : Knowledge) (here : Option Reloc) (held : Held) (trees : Li
 named-kept known here held trees None registers_are faulty = refl
 named-kept known here held trees (Some registers) registers_are faulty =
     absurd (false≢true (
-      sym (ap (λ rows. has_fault (bad_once rows ++ said_of_unused held registers)) (registers-none known here trees registers registers_are)
-      ∙ unused-no_fault (filter (is_unused held) (each_once registers)))
-      ∙ faulty))
+    sym (ap (λ rows. has_fault (bad_once rows ++ said_of_unused held registers)) (registers-none known here trees registers registers_are)
+    ∙ unused-no_fault (filter (is_unused held) (each_once registers)))
+    ∙ faulty))
 
 drop_in-kept : (known : Knowledge) (here : Option Reloc) (held : Held) (drop : Option DropOperands) →
     has_fault (said_of_read_drop known here held drop) ≡ true → behind_read_drop known here held drop ≡ held

@@ -59,15 +59,15 @@ marked_more mask old middle new registers i x first second h at =
     let last = if is_among x front then [] else x ∷ [] in
     let kept = filter (is_marked mask) (each_once front) in
     let grown : take (i + 1) registers ≡ front ++ x ∷ [] =
-        take_more registers i 0 h ∙ ap (λ y. front ++ y ∷ []) (sym at) in
+    take_more registers i 0 h ∙ ap (λ y. front ++ y ∷ []) (sym at) in
     second
     ∙ ap (λ rows. rows ++ said_of_one mask front x) first
     ∙ append_assoc old (unused_rows kept) (said_of_one mask front x)
     ∙ ap (λ rows. old ++ rows) (
-      ap (λ rows. unused_rows kept ++ rows) (sym (one_row mask front x))
-      ∙ sym (map-append (λ (register : ℕ). UnusedRegister register) kept (filter (is_marked mask) last))
-      ∙ ap unused_rows (sym (filter-append (is_marked mask) (each_once front) last) ∙ ap (filter (is_marked mask)) (sym (each_once-push front x)))
-      ∙ ap (λ all. unused_rows (filter (is_marked mask) (each_once all))) (sym grown))
+    ap (λ rows. unused_rows kept ++ rows) (sym (one_row mask front x))
+    ∙ sym (map-append (λ (register : ℕ). UnusedRegister register) kept (filter (is_marked mask) last))
+    ∙ ap unused_rows (sym (filter-append (is_marked mask) (each_once front) last) ∙ ap (filter (is_marked mask)) (sym (each_once-push front x)))
+    ∙ ap (λ all. unused_rows (filter (is_marked mask) (each_once all))) (sym grown))
 
 -- ---- registers that are marked
 
@@ -106,9 +106,9 @@ filter-alike p q [] same = refl
 filter-alike p q (y ∷ xs) same =
     let others = λ (other : ℕ). not (y == other) in
     let rest : filter p (filter others (each_once xs)) ≡ filter q (filter others (each_once xs)) =
-        filter-filter p others (each_once xs)
-        ∙ ap (filter others) (filter-alike p q xs (λ x is. same x (among-rest x y xs is)))
-        ∙ filter-filter others q (each_once xs) in
+    filter-filter p others (each_once xs)
+    ∙ ap (filter others) (filter-alike p q xs (λ x is. same x (among-rest x y xs is)))
+    ∙ filter-filter others q (each_once xs) in
     ap (λ b. cond b (y ∷ filter p (filter others (each_once xs))) (filter p (filter others (each_once xs))))
     (same y (ap (λ b. b || is_among y xs) (eq-eqb y y refl)))
     ∙ ap (λ all. cond (q y) (y ∷ all) all) rest
@@ -117,8 +117,8 @@ filter-alike p q (y ∷ xs) same =
 small : (xs : List ℕ) (x : ℕ) → All (λ r. r < 16) xs → is_among x xs ≡ true → x < 16
 small [] x all is = absurd (false≢true is)
 small (y ∷ xs) x all is =
-    elim or_cases (y == x) (is_among x xs) is [
-      inl first ↦ let P : ℕ → Type 0 = λ r. r < 16 in subst P (eqb-true y x first) (all 0 0 (omega arith))
+    elim (or_cases (y == x) (is_among x xs) is) [
+      | inl first ↦ let P : ℕ → Type 0 = λ r. r < 16 in subst P (eqb-true y x first) (all 0 0 (omega arith))
       | inr later ↦ small xs x (λ k d h. all (suc k) d (omega arith)) later
     ]
 

@@ -43,11 +43,7 @@ fn drop_these(ranges: &mut Ranges, registers: &[u8]) -> u16
 }
 
 /// Ends the ranges of these registers, which are below 16, and says which of them had none.
-fn drop_known(
-    ranges: &mut Ranges,
-    registers: &[u8],
-    rows: &mut Vec<Row>,
-) -> Result<(), OutOfMemory>
+fn drop_known(ranges: &mut Ranges, registers: &[u8], rows: &mut Vec<Row>) -> Result<(), OutOfMemory>
     requires { All (λ r. r < 16) registers.now }
     ensures said { OnOk result (rows.new.items ≡ rows.old.items ++ said.said_of_unused ranges.old registers.now) }
     ensures ranges { ranges.new ≡ held.dropped ranges.old registers.now }

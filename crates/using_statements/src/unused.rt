@@ -29,12 +29,7 @@ fn is_among(registers: &[u8], register: u8) -> bool
 }
 
 /// Says of a register, which is below 16, that it is not in use, where it is marked and is not one of those before it.
-fn push_one(
-    mask: u16,
-    before: &[u8],
-    register: u8,
-    rows: &mut Vec<Row>,
-) -> Result<(), OutOfMemory>
+fn push_one(mask: u16, before: &[u8], register: u8, rows: &mut Vec<Row>) -> Result<(), OutOfMemory>
     requires { register < 16 }
     ensures { OnOk result (rows.new.items ≡ rows.old.items ++ spec.said_of_one mask before.now register) }
 {

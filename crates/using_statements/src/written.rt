@@ -55,10 +55,7 @@ fn push(formulas: &mut Vec<Formula>, formula: Formula) -> Result<(), OutOfMemory
 }
 
 /// Reads some expressions, if each text is one.
-fn read_expressions(
-    alloc: Global,
-    mut texts: &[Text],
-) -> Result<Option<Vec<Formula>>, OutOfMemory>
+fn read_expressions(alloc: Global, mut texts: &[Text]) -> Result<Option<Vec<Formula>>, OutOfMemory>
     ensures { IfOk result (λ found. option_map (λ formulas. trees_of formulas.items) found ≡ spec.expressions texts.entry.now) }
 {
     let mut formulas = Vec::new(alloc);
@@ -175,10 +172,7 @@ impl DropOperands {
     }
 
     /// Reads the operands of DROP as registers.
-    fn read_named(
-        alloc: Global,
-        operands: &[Text],
-    ) -> Result<Option<DropOperands>, OutOfMemory>
+    fn read_named(alloc: Global, operands: &[Text]) -> Result<Option<DropOperands>, OutOfMemory>
         ensures { IfOk result (λ found. option_map drop_operands_of found ≡ spec.named (spec.expressions operands.now)) }
     {
         match read_expressions(alloc, operands)? {
