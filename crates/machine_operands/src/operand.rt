@@ -1,0 +1,203 @@
+//! Operands.
+ghost use Rattle.std.specs.Prelude.{◌≡◌, ◌+◌, length, is_some, IfOk};
+ghost use Rattle.std.specs.Option.{option_map};
+ghost use Rattle.std.specs.Str.{chars};
+ghost use Rattle.literal_operands.specs.Views.{literal_of};
+ghost use Rattle.machine_operands.specs.Operands as spec;
+ghost use Rattle.machine_operands.specs.Views.{machine_operand_of, written_of};
+
+use crate::address::{behind_literal, plain_address};
+use crate::reading::{Reading, read_whole};
+use crate::text::{character_count, head, sum};
+use crate::{OperandForm, form_of};
+use constant_grammar::Formula;
+use constant_operands::ConstantOperand;
+use hl_base::OutOfMemory;
+use instruction_table::Kind;
+use literal_operands::{LiteralOperand, literal_operand};
+use std::alloc::Global;
+
+/// The displacement of an address.
+#[derive(Drop)]
+pub enum Displacement {
+    Expression(Formula),
+    /// The literal with which the operand begins.
+    Literal,
+}
+
+/// An address: its displacement, what stands for an index or a length, and its base.
+#[derive(Drop)]
+pub struct Address {
+    pub displacement: Displacement,
+    pub first: Option<Formula>,
+    pub base: Option<Formula>,
+}
+
+/// What is read of an operand.
+#[derive(Drop)]
+pub enum Written {
+    /// The expression of a value or a target.
+    Value(Formula),
+    Address(Address),
+    /// A literal as a target.
+    LiteralTarget,
+    /// It begins as a literal and is none.
+    NoLiteral,
+    /// It cannot be read: a right operand of its kind begins with so many of its characters, and with no more.
+    Wrong(u32),
+}
+
+/// An operand of a machine instruction, and the literal with which it begins, if one may stand there.
+#[derive(Drop)]
+pub struct MachineOperand {
+    pub literal: Option<ConstantOperand>,
+    pub written: Written,
+}
+
+/// An expression alone.
+#[tactic(auto, unfolding(crate::specs::Operands::plain_value))]
+fn plain_value(alloc: Global, text: &str) -> Result<Written, OutOfMemory>
+    ensures { IfOk result (λ written. written_of written ≡ spec.plain_value (chars text.now)) }
+{
+    match read_whole(alloc, text)? {
+        Reading::Tree(tree) => Ok(Written::Value(tree)),
+        Reading::At(at) => Ok(Written::Wrong(at)),
+    }
+}
+
+/// An operand without literal.
+fn plain(alloc: Global, form: OperandForm, text: &str) -> Result<Written, OutOfMemory>
+    ensures { IfOk result (λ written. written_of written ≡ spec.plain form (chars text.now)) }
+{
+    match form {
+        OperandForm::Value | OperandForm::Target => plain_value(alloc, text),
+        OperandForm::Address(form) => plain_address(alloc, form, text),
+    }
+}
+
+/// A literal of so many characters as a target.
+fn target_literal(count: u32, behind: &str) -> Written
+    ensures { written_of result ≡ spec.target_literal count (chars behind.now) }
+{
+    match head(behind) {
+        Some(_) => Written::Wrong(count),
+        None => Written::LiteralTarget,
+    }
+}
+
+/// A literal of so many characters that was read.
+fn literal_as(
+    alloc: Global,
+    form: OperandForm,
+    text: &str,
+    count: u32,
+    behind: &str,
+) -> Result<Written, OutOfMemory>
+    ensures { IfOk result (λ written. written_of written ≡ spec.literal_as form (chars text.now) count (chars behind.now)) }
+{
+    match form {
+        OperandForm::Value => Ok(Written::Wrong(0)),
+        OperandForm::Target => Ok(target_literal(count, behind)),
+        OperandForm::Address(form) => behind_literal(alloc, form, text, count, behind),
+    }
+}
+
+/// The same of one that was read or not.
+fn literal_written(
+    alloc: Global,
+    form: OperandForm,
+    is_read: bool,
+    text: &str,
+    literal: &str,
+    behind: &str,
+) -> Result<Written, OutOfMemory>
+    ensures { IfOk result (λ written. written_of written ≡ spec.literal_written form is_read (chars text.now) (chars literal.now) (chars behind.now)) }
+{
+    if is_read {
+        let count = sum(1, character_count(literal))?;
+        return literal_as(alloc, form, text, count, behind);
+    }
+    Ok(Written::NoLiteral)
+}
+
+/// An operand that begins with a literal.
+fn with_literal(
+    alloc: Global,
+    form: OperandForm,
+    text: &str,
+    found: LiteralOperand<'_>,
+) -> Result<MachineOperand, OutOfMemory>
+    ensures { IfOk result (λ operand. machine_operand_of operand ≡ spec.with_literal form (chars text.now) (literal_of found)) }
+{
+    let is_read = found.constant.constant.is_some();
+    let written = literal_written(alloc, form, is_read, text, found.text, found.behind)?;
+    Ok(MachineOperand {
+        literal: Some(found.constant),
+        written,
+    })
+}
+
+/// Whether a literal may stand in an operand, of an instruction that lets literals be targets or not.
+fn takes_literal(form: OperandForm, targets: bool) -> bool
+    ensures { result ≡ spec.takes_literal form targets }
+{
+    match form {
+        OperandForm::Value => false,
+        OperandForm::Target => targets,
+        OperandForm::Address(_) => true,
+    }
+}
+
+/// Whether an operand begins with an equals sign, so that it has a literal.
+pub fn begins_literal(text: &str) -> bool
+    ensures { result ≡ spec.begins_literal (chars text.now) }
+{
+    matches!(head(text), Some(('=', _)))
+}
+
+/// The literal in an operand, if one may stand there.
+fn literal_if(
+    alloc: Global,
+    takes: bool,
+    text: &str,
+) -> Result<Option<LiteralOperand<'_>>, OutOfMemory>
+    ensures { IfOk result (λ found. option_map literal_of found ≡ spec.literal_if takes (chars text.now)) }
+{
+    if takes {
+        return literal_operand(alloc, text);
+    }
+    Ok(None)
+}
+
+/// An operand of a form.
+fn read_form(
+    alloc: Global,
+    form: OperandForm,
+    targets: bool,
+    text: &str,
+) -> Result<MachineOperand, OutOfMemory>
+    ensures { IfOk result (λ operand. machine_operand_of operand ≡ spec.operand_of_form form targets (chars text.now)) }
+{
+    match literal_if(alloc, takes_literal(form, targets), text)? {
+        Some(found) => with_literal(alloc, form, text, found),
+        None => Ok(MachineOperand {
+            literal: None,
+            written: plain(alloc, form, text)?,
+        }),
+    }
+}
+
+impl MachineOperand {
+    /// Reads an operand of a kind. Literals may be targets or not, as its instruction lets them.
+    #[tactic(auto, unfolding(crate::specs::Operands::operand))]
+    pub fn read(
+        alloc: Global,
+        kind: Kind,
+        targets: bool,
+        text: &str,
+    ) -> Result<MachineOperand, OutOfMemory>
+        ensures { IfOk result (λ operand. machine_operand_of operand ≡ spec.operand kind targets (chars text.now)) }
+    {
+        read_form(alloc, form_of(kind), targets, text)
+    }
+}

@@ -1,0 +1,4 @@
+pub mod Rows
+pub mod Judged
+pub mod Turns
+pub mod Covers

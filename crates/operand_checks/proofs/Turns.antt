@@ -1,0 +1,47 @@
+-- What is said of operands and of the values of a constant, one after the other.
+use Rattle.std.proofs.Common.{◌≡◌, ◌∙◌, ℕ, ◌+◌, ◌<◌, Bool, List, [], ◌∷◌, ◌++◌, length, take, get_or, map, refl, sym, ap, append-nil}
+use Rattle.std.specs.Prelude.{Option}
+use Rattle.std.proofs.lemmas.Grind.{flat_map-append}
+use Rattle.std.proofs.lemmas.List.{map_more}
+use Rattle.constant_grammar.specs.declared.element.Element as declared
+use Rattle.constant_grammar.specs.Elements.{Element}
+use Rattle.constant_grammar.specs.Views.{element_of}
+use Rattle.expression_notes.specs.Repeating.{once_behind}
+use Rattle.expression_notes.proofs.Turns.{in_turn}
+use Rattle.instruction_table.specs.declared.encodings.Kind.{Kind}
+use Rattle.note_rows.specs.declared.row.Row.{Row}
+use Rattle.trace_values.specs.declared.section.Reloc.{Reloc}
+use Rattle.operand_checks.specs.Literals.{said_of_element, said_of_elements}
+use Rattle.operand_checks.specs.Machine.{said_of_text, said_of_operands, place_of, places_behind}
+use Rattle.operand_checks.specs.Settings.{Setting}
+
+said_of_elements-push : (setting : Setting) (xs : List Element) (x : Element) →
+    said_of_elements setting (xs ++ x ∷ []) ≡ said_of_elements setting xs ++ said_of_element setting x
+said_of_elements-push setting xs x =
+    flat_map-append (said_of_element setting) xs (x ∷ [])
+    ∙ ap (λ rows. said_of_elements setting xs ++ rows) (append-nil (said_of_element setting x))
+
+-- one more value
+pub elements_more : (setting : Setting) (before middle after : List Row) (elements : List declared.Element) (i : ℕ) (e : declared.Element) →
+    middle ≡ before ++ once_behind before (said_of_elements setting (map element_of (take i elements))) →
+    after ≡ middle ++ once_behind middle (said_of_element setting (element_of e)) →
+    i < length elements → e ≡ get_or elements i e →
+    after ≡ before ++ once_behind before (said_of_elements setting (map element_of (take (i + 1) elements)))
+elements_more setting before middle after elements i e first second h at =
+    let front = map element_of (take i elements) in
+    in_turn before middle after (said_of_elements setting front) (said_of_element setting (element_of e)) first second
+    ∙ ap (λ rows. before ++ once_behind before rows)
+    (sym (said_of_elements-push setting front (element_of e))
+    ∙ ap (λ y. said_of_elements setting (front ++ element_of y ∷ [])) at
+    ∙ ap (said_of_elements setting) (sym (map_more element_of elements i e h)))
+
+-- an operand, and then those behind it
+pub operands_next : (setting : Setting) (targets : Bool) (places : List (Option Reloc)) (kind : Kind) (kinds : List Kind)
+    (text : List ℕ) (texts : List (List ℕ)) (old new : List Row) →
+    new ≡ old ++ once_behind old (said_of_text setting targets kind (place_of text places) text) →
+    new ++ once_behind new (said_of_operands setting targets (places_behind text places) kinds texts)
+    ≡ old ++ once_behind old (said_of_operands setting targets places (kind ∷ kinds) (text ∷ texts))
+operands_next setting targets places kind kinds text texts old new is =
+    in_turn old new (new ++ once_behind new (said_of_operands setting targets (places_behind text places) kinds texts))
+    (said_of_text setting targets kind (place_of text places) text)
+    (said_of_operands setting targets (places_behind text places) kinds texts) is refl

@@ -1,0 +1,7 @@
+pub mod Settings
+pub mod Coverage
+pub mod Displacements
+pub mod Expressions
+pub mod Addresses
+pub mod Literals
+pub mod Machine

@@ -1,0 +1,102 @@
+//! Expressions of operands.
+ghost use Rattle.std.specs.Prelude.{◌≡◌, ◌++◌, OnOk};
+ghost use Rattle.constant_grammar.specs.Views.{tree_if, tree_in};
+ghost use Rattle.expression_notes.specs.Repeating.{once_behind};
+ghost use Rattle.operand_checks.specs.Expressions as spec;
+ghost use Rattle.operand_checks.specs.Settings.{setting_of};
+
+use crate::Setting;
+use constant_grammar::Formula;
+use expression_notes::{Wanted, push_expression, push_row};
+use hl_base::OutOfMemory;
+use instruction_table::Kind;
+use machine_check::{target_note, value_note};
+use note_rows::Row;
+use trace_values::Reloc;
+
+/// Says why an expression has no value.
+#[tactic(auto, unfolding(crate::specs::Expressions::said_of_fault))]
+pub(crate) fn push_fault(
+    setting: &Setting<'_>,
+    formula: &Formula,
+    rows: &mut Vec<Row>,
+) -> Result<(), OutOfMemory>
+    ensures { OnOk result (rows.new.items ≡ rows.old.items ++ once_behind rows.old.items (spec.said_of_fault (setting_of setting.now) (tree_in formula.now))) }
+{
+    push_expression(
+        setting.symbols,
+        &formula.tree,
+        setting.here,
+        Wanted::Value,
+        rows,
+    )
+}
+
+/// Says what there is to say of a register, a mask, an immediate value or a length.
+pub(crate) fn push_value(
+    setting: &Setting<'_>,
+    kind: Kind,
+    formula: &Formula,
+    rows: &mut Vec<Row>,
+) -> Result<(), OutOfMemory>
+    ensures { OnOk result (rows.new.items ≡ rows.old.items ++ once_behind rows.old.items (spec.said_of_value (setting_of setting.now) kind (tree_in formula.now))) }
+{
+    match setting.symbols.eval(&formula.tree, setting.here) {
+        Ok(place) => push_row(rows, value_note(kind, Ok(place))),
+        Err(_) => push_fault(setting, formula, rows),
+    }
+}
+
+/// The same of one that may be left away.
+pub(crate) fn push_part(
+    setting: &Setting<'_>,
+    kind: Kind,
+    part: &Option<Formula>,
+    rows: &mut Vec<Row>,
+) -> Result<(), OutOfMemory>
+    ensures { OnOk result (rows.new.items ≡ rows.old.items ++ once_behind rows.old.items (spec.said_of_part (setting_of setting.now) kind (tree_if part.now))) }
+{
+    match part {
+        Some(formula) => push_value(setting, kind, formula, rows),
+        None => Ok(()),
+    }
+}
+
+/// What is said of a relative target of an instruction that has a place or none.
+fn target_note_from(here: Option<Reloc>, place: Reloc) -> Option<Row>
+    ensures { result ≡ spec.said_of_target_from here place }
+{
+    match here {
+        Some(here) => target_note(here, Ok(place)),
+        None => None,
+    }
+}
+
+/// Says what there is to say of a relative target.
+fn push_target(
+    setting: &Setting<'_>,
+    formula: &Formula,
+    rows: &mut Vec<Row>,
+) -> Result<(), OutOfMemory>
+    ensures { OnOk result (rows.new.items ≡ rows.old.items ++ once_behind rows.old.items (spec.said_of_target (setting_of setting.now) (tree_in formula.now))) }
+{
+    match setting.symbols.eval(&formula.tree, setting.here) {
+        Ok(place) => push_row(rows, target_note_from(setting.here, place)),
+        Err(_) => push_fault(setting, formula, rows),
+    }
+}
+
+/// Says what there is to say of an expression that is an operand of this kind.
+pub(crate) fn push_alone(
+    setting: &Setting<'_>,
+    kind: Kind,
+    formula: &Formula,
+    rows: &mut Vec<Row>,
+) -> Result<(), OutOfMemory>
+    ensures { OnOk result (rows.new.items ≡ rows.old.items ++ once_behind rows.old.items (spec.said_of_alone (setting_of setting.now) kind (tree_in formula.now))) }
+{
+    match kind {
+        Kind::Target => push_target(setting, formula, rows),
+        _ => push_value(setting, kind, formula, rows),
+    }
+}
