@@ -18,7 +18,7 @@ use Rattle.machine_operands.specs.Parts.{Parts, parts}
 -- the displacement of an address: an expression, or a literal
 pub data Displacement : Type 0 where
   expression : (tree : Tree) → Displacement
-  literal : Displacement
+  literal_place : Displacement
 
 -- an address: its displacement, what stands for an index or a length, and its base
 pub record Address : Type 0 where
@@ -87,11 +87,11 @@ plain (form.Address form) text = plain_address form text
 
 -- what stands in parentheses behind a literal of so many characters
 abbrev pub open_literal : AddressForm → ℕ → List ℕ → Written
-open_literal form count rest = with_parts literal (parts form (count + 1) rest)
+open_literal form count rest = with_parts literal_place (parts form (count + 1) rest)
 
 -- a literal as a displacement, and what stands behind it
 abbrev pub behind_literal : AddressForm → List ℕ → ℕ → List ℕ → Written
-behind_literal form text count [] = bare form literal text
+behind_literal form text count [] = bare form literal_place text
 behind_literal form text count (c ∷ rest) = if c == 40 then open_literal form count rest else wrong count
 
 -- behind a literal as a target nothing stands
