@@ -25,12 +25,12 @@ use Rattle.operand_laws.proofs.Reads.{read_ok, tree_some, tree_there, IsClosedFr
 
 -- nothing that ends is at the front of a text, and so far some expression goes
 pub record IsBlocked (form : AddressForm) (text : List ℕ) (at : ℕ) : Type 0 where
-  pub open : IsOpenFront text at
+  pub reached : IsOpenFront text at
   pub no_two : IsTrue (has_two form) → (d z : List ℕ) → text ≡ d ++ 44 ∷ z → IsOrdinary d → ⊥
   pub no_omitted : IsTrue (may_omit_first form) → (z : List ℕ) → text ≡ 44 ∷ z → ⊥
 
 blocked-none : (form : AddressForm) (text : List ℕ) (at : ℕ) → IsBlocked form text at → (inner : List ℕ) → text ≡ inner ++ 41 ∷ [] → IsInner form inner → ⊥
-blocked-none form text at k inner ends (one o) = k.open.never inner [] ends o
+blocked-none form text at k inner ends (one o) = k.reached.never inner [] ends o
 blocked-none form text at k inner ends (second t base is o) = k.no_omitted t (base ++ 41 ∷ []) (ends ∙ ap (λ l. l ++ 41 ∷ []) is)
 blocked-none form text at k inner ends (both t first base is of ob) =
     k.no_two t first (base ++ 41 ∷ []) (ends ∙ ap (λ l. l ++ 41 ∷ []) is ∙ append_assoc first (44 ∷ base) (41 ∷ [])) of
@@ -55,18 +55,18 @@ first-comma (x ∷ text) (suc k) h le never r w e = let same : x ≡ 44 = cc in 
 blocked-longest : (form : AddressForm) (text : List ℕ) (at : ℕ) → IsBlocked form text at → (more : ℕ) → at < more → more ≤ length text → (r inner : List ℕ) →
     take more text ++ r ≡ inner ++ 41 ∷ [] → IsInner form inner → ⊥
 blocked-longest form text at k more h le r inner ends (one o) =
-    crossed text more (k.open.longest more h le) r inner [] 41 o (λ z is. k.open.never inner z is o) ends
+    crossed text more (k.reached.longest more h le) r inner [] 41 o (λ z is. k.reached.never inner z is o) ends
 blocked-longest form text at k more h le r inner ends (second t base is o) =
     first-comma text more (omega arith) le (k.no_omitted t) r (base ++ 41 ∷ []) (ends ∙ ap (λ l. l ++ 41 ∷ []) is)
 blocked-longest form text at k more h le r inner ends (both t first base is of ob) =
-    crossed text more (k.open.longest more h le) r first (base ++ 41 ∷ []) 44 of (λ z there. k.no_two t first z there of)
+    crossed text more (k.reached.longest more h le) r first (base ++ 41 ∷ []) 44 of (λ z there. k.no_two t first z there of)
     (ends ∙ ap (λ l. l ++ 41 ∷ []) is ∙ append_assoc first (44 ∷ base) (41 ∷ []))
 
 pub blocked : (form : AddressForm) (text : List ℕ) (at : ℕ) → IsBlocked form text at → IsLongest (IsEnclosed form) text at
 blocked form text at k =
-    let begun = k.open.begun in
+    let begun = k.reached.begun in
     record {
-      within = k.open.within;
+      within = k.reached.within;
       begun = record {
         rest = begun.rest ++ 41 ∷ [];
         right = record {
@@ -124,12 +124,12 @@ ended text before k end form =
 
 not-ended : (text : List ℕ) (before : ℕ) → IsClosedFront text before → (before + 1 ≡ length text → ⊥) → (form : AddressForm) →
     IsLongest (IsEnclosed form) text (before + 1)
-not-ended text before k open form =
+not-ended text before k reached form =
     let d = take before text in
     let z = drop (suc before) text in
     let cut = k.cut in
     let count = cut.count in
-    let some : z ≡ [] → ⊥ = λ e. open (
+    let some : z ≡ [] → ⊥ = λ e. reached (
         let whole : text ≡ d ++ 41 ∷ [] = cut.parts ∙ ap (λ l. d ++ 41 ∷ l) e in
         let size : length text ≡ length d + 1 = ap length whole ∙ length-one d 41 in omega arith) in
     subst (λ (l : List ℕ). IsLongest (IsEnclosed form) l (before + 1)) (sym cut.parts)
@@ -150,7 +150,7 @@ last-by count text (Err at) e = record {
   more = at;
   sum = refl;
   longest = blocked Based text at (record {
-    open = front_err text at e;
+    reached = front_err text at e;
     no_two = λ t. absurd (false≢true t);
     no_omitted = λ t. absurd (false≢true t);
   });
@@ -224,13 +224,13 @@ two-found form count at text rest size is o t first (Err n) f =
 stuck : (form : AddressForm) (count : ℕ) (text : List ℕ) (at : ℕ) → IsOpenFront text at →
     (IsTrue (may_omit_first form) → (z : List ℕ) → text ≡ 44 ∷ z → ⊥) →
     (IsTrue (has_two form) → (z : List ℕ) → drop at text ≡ 44 ∷ z → IsOrdinary (take at text) → ⊥) → IsWrong form count text (count + at)
-stuck form count text at open no_omitted no_two = record {
+stuck form count text at reached no_omitted no_two = record {
   more = at;
   sum = refl;
   longest = blocked form text at (record {
-    open = open;
+    reached = reached;
     no_two = λ t d z is o.
-        let there : at ≡ length d = stops_at text at open.begun open.longest d 44 z is o (parts_at refl) in
+        let there : at ≡ length d = stops_at text at reached.begun reached.longest d 44 z is o (parts_at refl) in
         let front : take at text ≡ d = ap (λ n. take n text) there ∙ ap (take (length d)) is ∙ take-all d (44 ∷ z) in
         let behind : drop at text ≡ 44 ∷ z = ap (λ n. drop n text) there ∙ ap (drop (length d)) is ∙ drop-all d (44 ∷ z) in
         no_two t z behind (subst IsOrdinary (sym front) o);
@@ -245,10 +245,10 @@ stuck form count text at open no_omitted no_two = record {
 with-first : (form : AddressForm) (count at : ℕ) (text rest : List ℕ) → IsOpenFront text at → (IsTrue (may_omit_first form) → (z : List ℕ) → text ≡ 44 ∷ z → ⊥) →
     drop at text ≡ 44 ∷ rest → IsTrue (has_two form) → (found : Option Tree) → tree_in (read Ordinary (take at text)) ≡ found →
     FindsParts form count text (with_first found count at rest)
-with-first form count at text rest open no_omitted is t None none =
-    stuck form count text at open no_omitted (λ u z there o. tree_some (take at text) o none)
-with-first form count at text rest open no_omitted is t (Some first) some =
-    two-found form count at text rest (length-take-le at text open.within) (rejoin text at ∙ ap (λ l. take at text ++ l) is)
+with-first form count at text rest reached no_omitted is t None none =
+    stuck form count text at reached no_omitted (λ u z there o. tree_some (take at text) o none)
+with-first form count at text rest reached no_omitted is t (Some first) some =
+    two-found form count at text rest (length-take-le at text reached.within) (rejoin text at ∙ ap (λ l. take at text ++ l) is)
     (tree_there (take at text) first some) t first (last ((count + at) + 1) rest) (last_finds ((count + at) + 1) rest)
 
 and-both : (a b : Bool) → (a && b) ≡ true → (a ≡ true) × (b ≡ true)
@@ -261,19 +261,19 @@ both-and a b ha hb = cc
 two-at : (form : AddressForm) (count at : ℕ) (text : List ℕ) (c : ℕ) (rest : List ℕ) → IsOpenFront text at →
     (IsTrue (may_omit_first form) → (z : List ℕ) → text ≡ 44 ∷ z → ⊥) → drop at text ≡ c ∷ rest → (b : Bool) → ((c == 44) && has_two form) ≡ b →
     FindsParts form count text (if b then with_first (tree_in (read Ordinary (take at text))) count at rest else Err (count + at))
-two-at form count at text c rest open no_omitted is true e =
+two-at form count at text c rest reached no_omitted is true e =
     let k = and-both (c == 44) (has_two form) e in
-    with-first form count at text rest open no_omitted (is ∙ ap (λ y. y ∷ rest) (eqb-true c 44 k.0)) k.1
+    with-first form count at text rest reached no_omitted (is ∙ ap (λ y. y ∷ rest) (eqb-true c 44 k.0)) k.1
     (tree_in (read Ordinary (take at text))) refl
-two-at form count at text c rest open no_omitted is false e =
-    stuck form count text at open no_omitted (λ t z there o.
+two-at form count at text c rest reached no_omitted is false e =
+    stuck form count text at reached no_omitted (λ t z there o.
         let same : c ≡ 44 = let head : c ∷ rest ≡ 44 ∷ z = sym is ∙ there in cc in
         false≢true (sym e ∙ both-and (c == 44) (has_two form) (eq-eqb c 44 same) t))
 
 two-by : (form : AddressForm) (count at : ℕ) (text : List ℕ) → IsOpenFront text at → (IsTrue (may_omit_first form) → (z : List ℕ) → text ≡ 44 ∷ z → ⊥) →
     (left : List ℕ) → drop at text ≡ left → FindsParts form count text (two_by form count text at left)
-two-by form count at text open no_omitted [] is = stuck form count text at open no_omitted (λ t z there o. let never : [] ≡ 44 ∷ z = sym is ∙ there in cc)
-two-by form count at text open no_omitted (c ∷ rest) is = two-at form count at text c rest open no_omitted is ((c == 44) && has_two form) refl
+two-by form count at text reached no_omitted [] is = stuck form count text at reached no_omitted (λ t z there o. let never : [] ≡ 44 ∷ z = sym is ∙ there in cc)
+two-by form count at text reached no_omitted (c ∷ rest) is = two-at form count at text c rest reached no_omitted is ((c == 44) && has_two form) refl
 
 closed-given : (form : AddressForm) (count : ℕ) (text : List ℕ) (front : Front) → IsClosedFront text front.before → (b : Bool) →
     ((front.before + 1) == length text) ≡ b → FindsParts form count text (alone form (if b then Ok front.tree else Err (count + (front.before + 1))))
@@ -334,8 +334,8 @@ parts-at form count c rest false e =
         let same : c ≡ 44 = cc in false≢true (sym e ∙ both-and (c == 44) (may_omit_first form) (eq-eqb c 44 same) t))
 
 -- the empty text
-empty-open : IsOpenFront [] 0
-empty-open = record {
+empty-reached : IsOpenFront [] 0
+empty-reached = record {
   within = omega arith;
   begun = reaches-viable Ordinary most_parts [] (Want []) (reaches-start Ordinary most_parts (omega arith));
   longest = λ more h le v. absurd (omega arith);
@@ -348,7 +348,7 @@ parts-by form count text [] e =
       more = 0;
       sum = omega arith;
       longest = blocked form [] 0 (record {
-        open = empty-open;
+        reached = empty-reached;
         no_two = λ t d z is o. nil-not d z 44 is;
         no_omitted = λ t z is. nil-not [] z 44 is;
       });
@@ -364,7 +364,7 @@ parts_finds form count text = parts-by form count text text refl
 -- something right begins so
 pub some_enclosed : (form : AddressForm) → IsBegun (IsEnclosed form) []
 some_enclosed form =
-    let begun = empty-open.begun in
+    let begun = empty-reached.begun in
     record {
       rest = begun.rest ++ 41 ∷ [];
       right = record { inner = begun.rest; ends = refl; fits = one (record { tree = begun.tree; expression = begun.expression }) };
