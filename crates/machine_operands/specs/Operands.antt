@@ -1,7 +1,8 @@
 -- Operands of machine instructions as they are written (HLASM Language Reference SC26-4940, "Operand entries", "Addresses",
 -- "Literals"). One that cannot be read tells how many characters it has of the longest text that a right operand of its kind
 -- begins with and it begins with too.
-use Rattle.std.specs.Prelude.{ℕ, ◌+◌, ◌==◌, Bool, true, false, List, [], ◌∷◌, length, take, drop, is_some, Option, Some, None, Result, Ok, Err, if◌then◌else◌}
+use Rattle.std.specs.Prelude.{ℕ, ◌+◌, ◌==◌, Bool, true, false, List, [], ◌∷◌, length, take, drop, Option, Some, None, Result, Ok, Err, if◌then◌else◌}
+use Rattle.constant_grammar.specs.Constants.{Constant}
 use Rattle.constant_grammar.specs.Elements.{tree_in}
 use Rattle.constant_operands.specs.Operands as constants
 use Rattle.expression_grammar.specs.declared.character.Grammar.TheVariants.{Ordinary}
@@ -18,7 +19,7 @@ use Rattle.machine_operands.specs.Parts.{Parts, parts}
 -- the displacement of an address: an expression, or a literal
 pub data Displacement : Type 0 where
   expression : (tree : Tree) → Displacement
-  literal : Displacement
+  literal_place : Displacement
 
 -- an address: its displacement, what stands for an index or a length, and its base
 pub record Address : Type 0 where
@@ -87,11 +88,11 @@ plain (form.Address form) text = plain_address form text
 
 -- what stands in parentheses behind a literal of so many characters
 abbrev pub open_literal : AddressForm → ℕ → List ℕ → Written
-open_literal form count rest = with_parts literal (parts form (count + 1) rest)
+open_literal form count rest = with_parts literal_place (parts form (count + 1) rest)
 
 -- a literal as a displacement, and what stands behind it
 abbrev pub behind_literal : AddressForm → List ℕ → ℕ → List ℕ → Written
-behind_literal form text count [] = bare form literal text
+behind_literal form text count [] = bare form literal_place text
 behind_literal form text count (c ∷ rest) = if c == 40 then open_literal form count rest else wrong count
 
 -- behind a literal as a target nothing stands
@@ -105,13 +106,14 @@ literal_as form.Value text count behind = wrong 0
 literal_as form.Target text count behind = target_literal count behind
 literal_as (form.Address form) text count behind = behind_literal form text count behind
 
-abbrev pub literal_written : OperandForm → (is_read : Bool) → (text literal behind : List ℕ) → Written
-literal_written form is_read text literal behind = if is_read then literal_as form text (1 + length literal) behind else no_literal
+abbrev pub literal_written : OperandForm → Option Constant → (text literal behind : List ℕ) → Written
+literal_written form None text literal behind = no_literal
+literal_written form (Some constant) text literal behind = literal_as form text (1 + length literal) behind
 
 abbrev pub with_literal : OperandForm → List ℕ → literals.Literal → Operand
 with_literal form text found = record {
   literal = Some found.constant;
-  written = literal_written form (is_some found.constant.constant) text found.text found.behind;
+  written = literal_written form found.constant.constant text found.text found.behind;
 }
 
 -- an operand that begins with a literal or not

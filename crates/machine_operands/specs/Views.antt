@@ -38,7 +38,7 @@ parts_reading_of (some_parts.At at) = Err at
 
 abbrev pub displacement_of : displacement.Displacement → spec.Displacement
 displacement_of (variants.Expression formula) = spec.expression (tree_in formula)
-displacement_of variants.Literal = spec.literal
+displacement_of variants.Literal = spec.literal_place
 
 abbrev pub address_of : address.Address → spec.Address
 address_of one = record {

@@ -1,7 +1,8 @@
 //! Operands.
-ghost use Rattle.std.specs.Prelude.{◌≡◌, ◌+◌, length, is_some, IfOk};
+ghost use Rattle.std.specs.Prelude.{◌≡◌, IfOk};
 ghost use Rattle.std.specs.Option.{option_map};
 ghost use Rattle.std.specs.Str.{chars};
+ghost use Rattle.constant_operands.specs.Views.{operand_of};
 ghost use Rattle.literal_operands.specs.Views.{literal_of};
 ghost use Rattle.machine_operands.specs.Operands as spec;
 ghost use Rattle.machine_operands.specs.Views.{machine_operand_of, written_of};
@@ -106,33 +107,37 @@ fn literal_as(
 fn literal_written(
     alloc: Global,
     form: OperandForm,
-    is_read: bool,
+    constant: &ConstantOperand,
     text: &str,
     literal: &str,
     behind: &str,
 ) -> Result<Written, OutOfMemory>
-    ensures { IfOk result (λ written. written_of written ≡ spec.literal_written form is_read (chars text.now) (chars literal.now) (chars behind.now)) }
+    ensures { IfOk result (λ written. written_of written ≡ spec.literal_written form (operand_of constant.now).constant (chars text.now) (chars literal.now) (chars behind.now)) }
 {
-    if is_read {
-        let count = sum(1, character_count(literal))?;
-        return literal_as(alloc, form, text, count, behind);
+    match &constant.constant {
+        Some(_) => {
+            let count = sum(1, character_count(literal))?;
+            literal_as(alloc, form, text, count, behind)
+        }
+        None => Ok(Written::NoLiteral),
     }
-    Ok(Written::NoLiteral)
 }
 
-/// An operand that begins with a literal.
+/// An operand that begins with a literal, which is this constant.
 fn with_literal(
     alloc: Global,
     form: OperandForm,
     text: &str,
-    found: LiteralOperand<'_>,
+    literal: &str,
+    constant: ConstantOperand,
+    behind: &str,
 ) -> Result<MachineOperand, OutOfMemory>
-    ensures { IfOk result (λ operand. machine_operand_of operand ≡ spec.with_literal form (chars text.now) (literal_of found)) }
+    ensures { IfOk result (λ operand. machine_operand_of operand
+        ≡ spec.with_literal form (chars text.now) (record { text = chars literal.now; constant = operand_of constant; behind = chars behind.now })) }
 {
-    let is_read = found.constant.constant.is_some();
-    let written = literal_written(alloc, form, is_read, text, found.text, found.behind)?;
+    let written = literal_written(alloc, form, &constant, text, literal, behind)?;
     Ok(MachineOperand {
-        literal: Some(found.constant),
+        literal: Some(constant),
         written,
     })
 }
@@ -179,7 +184,7 @@ fn read_form(
     ensures { IfOk result (λ operand. machine_operand_of operand ≡ spec.operand_of_form form targets (chars text.now)) }
 {
     match literal_if(alloc, takes_literal(form, targets), text)? {
-        Some(found) => with_literal(alloc, form, text, found),
+        Some(found) => { with_literal(alloc, form, text, found.text, found.constant, found.behind) }
         None => Ok(MachineOperand {
             literal: None,
             written: plain(alloc, form, text)?,

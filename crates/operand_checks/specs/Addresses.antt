@@ -27,7 +27,7 @@ said_of_literal_if setting kind is_based (Some place) = said_of_literal setting 
 
 abbrev pub said_of_either : Setting → Kind → (is_based : Bool) → Option Reloc → Displacement → List Row
 said_of_either setting kind is_based place (written.expression tree) = said_of_displacement setting kind is_based tree
-said_of_either setting kind is_based place written.literal = said_of_literal_if setting kind is_based place
+said_of_either setting kind is_based place written.literal_place = said_of_literal_if setting kind is_based place
 
 -- what an index, a length or a register in its place is in an address of this kind
 abbrev pub first_kind : Kind → Kind
