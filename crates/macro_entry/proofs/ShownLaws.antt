@@ -1,5 +1,7 @@
 -- What is shown, one parameter and one operand after the other.
 use Rattle.std.proofs.Common.{◌≡◌, ◌∙◌, ◌+◌, ◌++◌, ℕ, Bool, true, false, List, [], ◌∷◌, Option, Some, None, length, drop, map, refl, sym, ap, zero, suc, add-one, append_assoc}
+use Rattle.std.proofs.Math.Seq.{drop-cons}
+use Rattle.std.proofs.lemmas.Option.{get_or_from_slice_get, slice_get_within}
 use Rattle.std.specs.Prelude.{◌==◌, if◌then◌else◌}
 use Rattle.std.specs.List.{slice_get}
 use Rattle.macro_binding.specs.Bindings.{Bound, Given, keyword, positional, given, given_named, given_parted, givens, is_keyword_role, positionals}
@@ -11,9 +13,10 @@ use Rattle.macro_entry.specs.Shown.{is_positional, parameter_shown, positional_a
 
 -- what stands at a place, and what is behind it
 pub drop_there : {X : Type 0} (xs : List X) (i : ℕ) (x : X) → slice_get xs i ≡ Some x → drop i xs ≡ x ∷ drop (i + 1) xs
-drop_there [] i x is = cc
-drop_there (y ∷ ys) zero x is = let same : y ≡ x = cc in ap (λ z. z ∷ ys) same
-drop_there (y ∷ ys) (suc i) x is = drop_there ys i x is ∙ ap (λ k. x ∷ drop k (y ∷ ys)) (sym (add-one (suc i)))
+drop_there xs i x is =
+    drop-cons xs i x (slice_get_within xs i x is)
+    ∙ ap (λ y. y ∷ drop (suc i) xs) (get_or_from_slice_get xs i x x is)
+    ∙ ap (λ k. x ∷ drop k xs) (sym (add-one i))
 
 pub drop_past : {X : Type 0} (xs : List X) (i : ℕ) → slice_get xs i ≡ None → drop i xs ≡ []
 drop_past [] zero is = refl

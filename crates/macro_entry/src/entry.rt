@@ -44,6 +44,7 @@ pub fn entry_keys(alloc: Global, definition: &Def) -> Result<Vec<Key>, OutOfMemo
 }
 
 /// What the first statement of a call shows whose operands are bound so, by the answers to the keys of its entry.
+#[tactic(auto, using(crate::proofs::SystemLaws::variables_said))]
 fn shown_at_entry(
     alloc: Global,
     call: &MacroCall,

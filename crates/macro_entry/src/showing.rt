@@ -1,5 +1,5 @@
 //! What is shown of a macro's call as it is entered.
-ghost use Rattle.std.specs.Prelude.{◌≡◌, [], ◌∷◌, ◌++◌, map, IfOk, OnOk, codes};
+ghost use Rattle.std.specs.Prelude.{◌≡◌, ◌+◌, [], ◌∷◌, ◌++◌, map, IfOk, OnOk, codes};
 ghost use Rattle.std.specs.Str.{chars};
 ghost use Rattle.macro_entry.specs.Shown as spec;
 
@@ -42,8 +42,14 @@ fn name_spelled(text: &str) -> Result<Name, OutOfMemory>
     Err(OutOfMemory)
 }
 
+/// The place behind one.
+fn behind(place: usize) -> Result<usize, OutOfMemory>
+    ensures { IfOk result (λ n. n ≡ place + 1) }
+{
+    place.checked_add(1).ok_or(OutOfMemory)
+}
+
 /// Adds the parameters.
-#[tactic(auto, using(crate::proofs::ShownLaws::parameter_more, crate::proofs::ShownLaws::drop_past))]
 fn add_parameters(
     settings: &mut Settings,
     alloc: Global,
@@ -55,7 +61,7 @@ fn add_parameters(
     while let Some(bound) = binding.at(place) {
         let name = name_spelled(bound.name)?;
         add(settings, alloc, name, 0, bound.value)?;
-        place = place.checked_add(1).ok_or(OutOfMemory)?;
+        place = behind(place)?;
     }
     Ok(())
 }
@@ -69,13 +75,7 @@ fn add_systems(
     ensures { OnOk result (settings.new ≡ settings.old ++ map spec.system_shown systems.now) }
 {
     for system in systems {
-        add(
-            settings,
-            alloc,
-            system.name.copy(),
-            0,
-            system.text.as_str(),
-        )?;
+        add(settings, alloc, system.name.copy(), 0, system.text.as_str())?;
     }
     Ok(())
 }
