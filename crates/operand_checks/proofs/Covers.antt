@@ -94,12 +94,12 @@ found [] section offset h = absurd (false≢true h)
 found (one ∷ others) section offset h = by one h (found others section offset)
   where
     deeper : (first : Option Range) → ((r : ℕ) × (d : ℕ) × Covers others section offset r d) → (r : ℕ) × (d : ℕ) × Covers (first ∷ others) section offset r d
-    deeper first (r, d, range, at, is) = (suc r, d, range, at, is)
+    deeper first w = (suc w.0, w.1, w.2)
 
     here : (range : Range) (b : Bool) → has_address range section offset ≡ b → (b || list_any (register_has section offset) others) ≡ true →
         (list_any (register_has section offset) others ≡ true → (r : ℕ) × (d : ℕ) × Covers others section offset r d) →
         (r : ℕ) × (d : ℕ) × Covers (Some range ∷ others) section offset r d
-    here range true is h rest = let w = within range section offset is in (0, w.0, range, refl, w.1)
+    here range true is h rest = let w = within range section offset is in (0, w.0, (range, refl, w.1))
     here range false is h rest = deeper (Some range) (rest h)
 
     by : (first : Option Range) → list_any (register_has section offset) (first ∷ others) ≡ true →

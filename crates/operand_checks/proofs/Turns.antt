@@ -12,7 +12,7 @@ use Rattle.instruction_table.specs.declared.encodings.Kind.{Kind}
 use Rattle.note_rows.specs.declared.row.Row.{Row}
 use Rattle.trace_values.specs.declared.section.Reloc.{Reloc}
 use Rattle.operand_checks.specs.Literals.{said_of_element, said_of_elements}
-use Rattle.operand_checks.specs.Machine.{said_of_text, said_of_operands, place_of, places_behind}
+use Rattle.operand_checks.specs.Machine.{said_of_next, said_of_operands, places_behind, others_of}
 use Rattle.operand_checks.specs.Settings.{Setting}
 
 said_of_elements-push : (setting : Setting) (xs : List Element) (x : Element) →
@@ -36,12 +36,15 @@ elements_more setting before middle after elements i e first second h at =
     ∙ ap (said_of_elements setting) (sym (map_more element_of elements i e h)))
 
 -- an operand, and then those behind it
-pub operands_next : (setting : Setting) (targets : Bool) (places : List (Option Reloc)) (kind : Kind) (kinds : List Kind)
+pub operands_next : (setting : Setting) (targets : Bool) (places others : List (Option Reloc)) (kinds behind : List Kind)
     (text : List ℕ) (texts : List (List ℕ)) (old new : List Row) →
-    new ≡ old ++ once_behind old (said_of_text setting targets kind (place_of text places) text) →
-    new ++ once_behind new (said_of_operands setting targets (places_behind text places) kinds texts)
-    ≡ old ++ once_behind old (said_of_operands setting targets places (kind ∷ kinds) (text ∷ texts))
-operands_next setting targets places kind kinds text texts old new is =
-    in_turn old new (new ++ once_behind new (said_of_operands setting targets (places_behind text places) kinds texts))
-    (said_of_text setting targets kind (place_of text places) text)
-    (said_of_operands setting targets (places_behind text places) kinds texts) is refl
+    others ≡ places_behind text places → behind ≡ others_of kinds →
+    new ≡ old ++ once_behind old (said_of_next setting targets places kinds text) →
+    new ++ once_behind new (said_of_operands setting targets others behind texts)
+    ≡ old ++ once_behind old (said_of_operands setting targets places kinds (text ∷ texts))
+operands_next setting targets places others kinds behind text texts old new first second is =
+    ap (λ (p : List (Option Reloc)). new ++ once_behind new (said_of_operands setting targets p behind texts)) first
+    ∙ ap (λ (k : List Kind). new ++ once_behind new (said_of_operands setting targets (places_behind text places) k texts)) second
+    ∙ in_turn old new (new ++ once_behind new (said_of_operands setting targets (places_behind text places) (others_of kinds) texts))
+    (said_of_next setting targets places kinds text)
+    (said_of_operands setting targets (places_behind text places) (others_of kinds) texts) is refl
