@@ -148,23 +148,21 @@ fn push_next(
 }
 
 /// Says what there is to say of operands of these kinds, in order.
-#[tactic(auto, using(crate::proofs::Turns::operands_next))]
 fn push_operands(
     alloc: Global,
     setting: &Setting<'_>,
     targets: bool,
     mut places: &[Option<Reloc>],
     mut kinds: &[Kind],
-    mut texts: &[Text],
+    texts: &[Text],
     rows: &mut Vec<Row>,
 ) -> Result<(), OutOfMemory>
-    ensures { OnOk result (rows.new.items ≡ rows.old.items ++ once_behind rows.old.items (spec.said_of_operands (setting_of setting.now) targets places.entry.now kinds.entry.now texts.entry.now)) }
+    ensures { OnOk result (rows.new.items ≡ rows.old.items ++ once_behind rows.old.items (spec.said_of_operands (setting_of setting.now) targets places.entry.now kinds.entry.now texts.now)) }
 {
-    while let [text, others @ ..] = texts {
+    for text in texts {
         push_next(alloc, setting, targets, places, kinds, text, rows)?;
         places = places_behind(text, places);
         kinds = others_of(kinds);
-        texts = others;
     }
     Ok(())
 }
