@@ -1,14 +1,14 @@
 -- What the ranges in force cover, as a test and as a relation.
-use Rattle.std.proofs.Common.{◌≡◌, ◌∙◌, ℕ, zero, suc, ◌+◌, ◌*◌, ◌<◌, ◌≤◌, Bool, true, false, ◌&&◌, ◌||◌, ◌==◌, ℤ, pos, negsuc, ◌+ℤ◌, ◌-ℤ◌, List, [], ◌∷◌, length, get_or, Option, Some, None, is_some, MatchOption, refl, sym, ap, subst, arith}
+use Rattle.std.proofs.Common.{◌≡◌, ◌∙◌, ℕ, zero, suc, ◌+◌, ◌*◌, ◌<◌, ◌≤◌, inl, inr, Bool, true, false, ◌&&◌, ◌||◌, ◌==◌, ℤ, pos, negsuc, ◌+ℤ◌, ◌-ℤ◌, List, [], ◌∷◌, length, get_or, Option, Some, None, is_some, MatchOption, refl, sym, ap, subst, arith}
 use Rattle.std.specs.Prelude.{int_le, int_lt, ◌≤ℤ◌, ◌<ℤ◌, slice_index_or}
 use Rattle.std.specs.List.{list_any}
-use Rattle.std.proofs.lemmas.Bool.{false≢true, eqb-true, eq-eqb}
+use Rattle.std.proofs.lemmas.Bool.{false≢true, eqb-true, eq-eqb, cases_lt}
+use Rattle.std.proofs.lemmas.List.{get_or_past}
 use Rattle.std.proofs.lemmas.Int.{ints}
 use Rattle.std.proofs.lemmas.List.Folds.{list_any_at}
 use Rattle.trace_values.specs.declared.section.SectionId.{SectionId}
 use Rattle.using_ranges.specs.declared.range.Range.{Range}
 use Rattle.using_ranges.specs.Ranges.{Held, IsWithin, IsBefore, Covers, IsCover, range_at}
-use Rattle.using_ranges.proofs.Best.{in_range}
 use Rattle.operand_checks.specs.Coverage.{same_section, beginning, is_before, is_near, has_address, register_has, is_covered}
 
 both : (a b : Bool) → (a && b) ≡ true → (a ≡ true) × (b ≡ true)
@@ -94,12 +94,12 @@ found [] section offset h = absurd (false≢true h)
 found (one ∷ others) section offset h = by one h (found others section offset)
   where
     deeper : (first : Option Range) → ((r : ℕ) × (d : ℕ) × Covers others section offset r d) → (r : ℕ) × (d : ℕ) × Covers (first ∷ others) section offset r d
-    deeper first (r, d, range, at, is) = (suc r, d, range, at, is)
+    deeper first w = (suc w.0, w.1, w.2)
 
     here : (range : Range) (b : Bool) → has_address range section offset ≡ b → (b || list_any (register_has section offset) others) ≡ true →
         (list_any (register_has section offset) others ≡ true → (r : ℕ) × (d : ℕ) × Covers others section offset r d) →
         (r : ℕ) × (d : ℕ) × Covers (Some range ∷ others) section offset r d
-    here range true is h rest = let w = within range section offset is in (0, w.0, range, refl, w.1)
+    here range true is h rest = let w = within range section offset is in (0, w.0, (range, refl, w.1))
     here range false is h rest = deeper (Some range) (rest h)
 
     by : (first : Option Range) → list_any (register_has section offset) (first ∷ others) ≡ true →
@@ -108,10 +108,19 @@ found (one ∷ others) section offset h = by one h (found others section offset)
     by None h rest = deeper None (rest h)
     by (Some range) h rest = here range (has_address range section offset) refl h rest
 
+-- a register that has an address has a range, so it is one of them
+in-range : (held : Held) (section : Option SectionId) (offset : ℤ) (r d : ℕ) → Covers held section offset r d → r < length held
+in-range held section offset r d (x, at, is) = elim (cases_lt r (length held)) [
+  | inl l ↦ l
+  | inr ge ↦
+      let past : get_or held r None ≡ None = get_or_past held r None ge in
+      let never : Some x ≡ None = sym at ∙ past in absurd cc
+]
+
 covered : (held : Held) (section : Option SectionId) (offset : ℤ) (r d : ℕ) → Covers held section offset r d →
     list_any (register_has section offset) held ≡ true
 covered held section offset r d (range, at, is) =
-    list_any_at (register_has section offset) held r None (in_range held section offset r d (range, at, is))
+    list_any_at (register_has section offset) held r None (in-range held section offset r d (range, at, is))
     (ap (register_has section offset) at ∙ tested range section offset d is)
 
 -- what the search for a range finds is what the test says

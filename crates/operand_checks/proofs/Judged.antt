@@ -24,7 +24,9 @@ pub judged_ok : {T E : Type 0} (r : Result T E) (before after : List Row) (setti
     (place : Reloc) (said : Option Row) → Ok place ≡ value setting.known setting.here tree → said ≡ say place → Stays (say place) →
     OnOk r (after ≡ before ++ listed said) → OnOk r (after ≡ before ++ once_behind before (judged setting tree say))
 judged_ok (Ok x) before after setting tree say place said found is stays first =
-    said_row {T = T} {E = E} (Ok x) before after said (say place) is stays first
+    first
+    ∙ ap (λ one. before ++ listed one) is
+    ∙ ap (λ rows. before ++ rows) (sym (stays before))
     ∙ ap (λ result. before ++ once_behind before (judged_by setting tree say result)) found
 judged_ok (Err e) before after setting tree say place said found is stays first = first
 

@@ -51,13 +51,29 @@ place_of text places = if begins_literal text then first_place places else None
 abbrev pub places_behind : List ℕ → List (Option Reloc) → List (Option Reloc)
 places_behind text places = if begins_literal text then other_places places else places
 
+-- the first of some kinds, and those behind it
+abbrev pub first_of : List Kind → Option Kind
+first_of [] = None
+first_of (kind ∷ kinds) = Some kind
+
+abbrev pub others_of : List Kind → List Kind
+others_of [] = []
+others_of (kind ∷ kinds) = kinds
+
+-- of an operand of the first kind; there are as many kinds as operands
+abbrev pub said_by_kind : Setting → (targets : Bool) → (place : Option Reloc) → Option Kind → List ℕ → List Row
+said_by_kind setting targets place None text = []
+said_by_kind setting targets place (Some kind) text = said_of_text setting targets kind place text
+
+unfoldable pub said_of_next : Setting → (targets : Bool) → (places : List (Option Reloc)) → List Kind → List ℕ → List Row
+said_of_next setting targets places kinds text = said_by_kind setting targets (place_of text places) (first_of kinds) text
+
 -- of operands of these kinds, in order
 abbrev pub said_of_operands : Setting → (targets : Bool) → (places : List (Option Reloc)) → List Kind → (texts : List (List ℕ)) → List Row
 said_of_operands setting targets places kinds [] = []
-said_of_operands setting targets places [] (text ∷ texts) = []
-said_of_operands setting targets places (kind ∷ kinds) (text ∷ texts) =
-    said_of_text setting targets kind (place_of text places) text
-    ++ said_of_operands setting targets (places_behind text places) kinds texts
+said_of_operands setting targets places kinds (text ∷ texts) =
+    said_of_next setting targets places kinds text
+    ++ said_of_operands setting targets (places_behind text places) (others_of kinds) texts
 
 -- whether an instruction lets literals be targets
 abbrev pub is_ril : Encoding → Bool

@@ -1,6 +1,5 @@
 //! Machine instructions.
 ghost use Rattle.std.specs.Prelude.{◌≡◌, ◌++◌, OnOk};
-ghost use Rattle.std.specs.Str.{chars};
 ghost use Rattle.expression_notes.specs.Repeating.{once_behind};
 ghost use Rattle.machine_operands.specs.Views.{machine_operand_of, written_of};
 ghost use Rattle.operand_checks.specs.Machine as spec;
@@ -59,12 +58,12 @@ fn push_text(
     targets: bool,
     kind: Kind,
     place: Option<Reloc>,
-    text: &str,
+    text: &Text,
     rows: &mut Vec<Row>,
 ) -> Result<(), OutOfMemory>
-    ensures { OnOk result (rows.new.items ≡ rows.old.items ++ once_behind rows.old.items (spec.said_of_text (setting_of setting.now) targets kind place (chars text.now))) }
+    ensures { OnOk result (rows.new.items ≡ rows.old.items ++ once_behind rows.old.items (spec.said_of_text (setting_of setting.now) targets kind place text.now)) }
 {
-    let operand = MachineOperand::read(alloc, kind, targets, text)?;
+    let operand = MachineOperand::read(alloc, kind, targets, text.as_str())?;
     push_operand(setting, kind, place, &operand, rows)
 }
 
@@ -89,47 +88,81 @@ fn other_places(places: &[Option<Reloc>]) -> &[Option<Reloc>]
 }
 
 /// The place of the literal of an operand, if it has one.
-fn place_of(text: &str, places: &[Option<Reloc>]) -> Option<Reloc>
-    ensures { result ≡ spec.place_of (chars text.now) places.now }
+fn place_of(text: &Text, places: &[Option<Reloc>]) -> Option<Reloc>
+    ensures { result ≡ spec.place_of text.now places.now }
 {
-    if begins_literal(text) {
+    if begins_literal(text.as_str()) {
         return first_place(places);
     }
     None
 }
 
 /// The places that are left for the operands behind it.
-fn places_behind<'a>(text: &str, places: &'a [Option<Reloc>]) -> &'a [Option<Reloc>]
-    ensures { result.now ≡ spec.places_behind (chars text.now) places.now }
+fn places_behind<'a>(text: &Text, places: &'a [Option<Reloc>]) -> &'a [Option<Reloc>]
+    ensures { result.now ≡ spec.places_behind text.now places.now }
 {
-    if begins_literal(text) {
+    if begins_literal(text.as_str()) {
         return other_places(places);
     }
     places
 }
 
+/// The first of some kinds.
+fn first_of(kinds: &[Kind]) -> Option<Kind>
+    ensures { result ≡ spec.first_of kinds.now }
+{
+    match kinds {
+        [kind, ..] => Some(*kind),
+        [] => None,
+    }
+}
+
+/// The kinds behind the first.
+fn others_of(kinds: &[Kind]) -> &[Kind]
+    ensures { result.now ≡ spec.others_of kinds.now }
+{
+    match kinds {
+        [_, others @ ..] => others,
+        [] => &[],
+    }
+}
+
+/// Says what there is to say of an operand of the first of these kinds.
+#[tactic(auto, unfolding(crate::specs::Machine::said_of_next))]
+fn push_next(
+    alloc: Global,
+    setting: &Setting<'_>,
+    targets: bool,
+    places: &[Option<Reloc>],
+    kinds: &[Kind],
+    text: &Text,
+    rows: &mut Vec<Row>,
+) -> Result<(), OutOfMemory>
+    ensures { OnOk result (rows.new.items ≡ rows.old.items ++ once_behind rows.old.items (spec.said_of_next (setting_of setting.now) targets places.now kinds.now text.now)) }
+{
+    let place = place_of(text, places);
+    match first_of(kinds) {
+        Some(kind) => push_text(alloc, setting, targets, kind, place, text, rows),
+        None => Ok(()),
+    }
+}
+
 /// Says what there is to say of operands of these kinds, in order.
-#[tactic(auto, using(crate::proofs::Turns::operands_next))]
 fn push_operands(
     alloc: Global,
     setting: &Setting<'_>,
     targets: bool,
     mut places: &[Option<Reloc>],
     mut kinds: &[Kind],
-    mut texts: &[Text],
+    texts: &[Text],
     rows: &mut Vec<Row>,
 ) -> Result<(), OutOfMemory>
-    ensures { OnOk result (rows.new.items ≡ rows.old.items ++ once_behind rows.old.items (spec.said_of_operands (setting_of setting.now) targets places.entry.now kinds.entry.now texts.entry.now)) }
+    ensures { OnOk result (rows.new.items ≡ rows.old.items ++ once_behind rows.old.items (spec.said_of_operands (setting_of setting.now) targets places.entry.now kinds.entry.now texts.now)) }
 {
-    while let [text, other_texts @ ..] = texts {
-        let [kind, other_kinds @ ..] = kinds else {
-            return Ok(());
-        };
-        let place = place_of(text.as_str(), places);
-        push_text(alloc, setting, targets, *kind, place, text.as_str(), rows)?;
-        places = places_behind(text.as_str(), places);
-        kinds = other_kinds;
-        texts = other_texts;
+    for text in texts {
+        push_next(alloc, setting, targets, places, kinds, text, rows)?;
+        places = places_behind(text, places);
+        kinds = others_of(kinds);
     }
     Ok(())
 }
