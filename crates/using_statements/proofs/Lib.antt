@@ -1,7 +1,7 @@
 pub mod Fronts
 pub mod Bad
 pub mod Turns
-pub mod Registers
+pub mod RegisterLists
 pub mod Marks
-pub mod Unused
+pub mod Once
 pub mod Silence

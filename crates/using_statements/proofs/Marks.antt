@@ -1,9 +1,8 @@
 -- The bits of a mask.
-use Rattle.std.proofs.Common.{◌≡◌, ◌∙◌, ℕ, zero, suc, ◌+◌, ◌-◌, ◌*◌, ◌/◌, ◌%◌, ◌^◌, ◌<◌, ◌≤◌, inl, inr, ◌==◌, Bool, true, false, refl, sym, ap, subst, arith, add-one, if◌then◌else◌}
+use Rattle.std.proofs.Common.{◌≡◌, ◌∙◌, ℕ, zero, suc, ◌+◌, ◌-◌, ◌*◌, ◌/◌, ◌%◌, ◌^◌, ◌<◌, ◌≤◌, inl, inr, ◌==◌, Bool, true, false, refl, sym, ap, subst, arith, add-one, pow-suc, if◌then◌else◌}
 use Rattle.std.specs.Int.{bit_at}
 use Rattle.std.proofs.lemmas.Bool.{cases_lt}
 use Rattle.std.proofs.lemmas.Nat.Bits.{bit_at_cat_low, bit_at_cat_high, bit_at_above}
-use Rattle.using_ranges.proofs.Masks.{bits_below}
 use Rattle.using_ranges.specs.Ranges.{mask_of}
 use Rattle.using_statements.specs.Said.{is_marked}
 
@@ -11,12 +10,16 @@ use Rattle.using_statements.specs.Said.{is_marked}
 abbrev with_bit : (mask n : ℕ) → Bool → ℕ
 with_bit mask n holds = mask + (if holds then 2 ^ n else 0)
 
+bits-below : (mask n : ℕ) (holds : Bool) → mask < 2 ^ n → with_bit mask n holds < 2 ^ (n + 1)
+bits-below mask n true small = let double : 2 ^ (n + 1) ≡ 2 ^ n * 2 = ap (λ k. 2 ^ k) (add-one n) ∙ pow-suc 2 n in omega arith
+bits-below mask n false small = let double : 2 ^ (n + 1) ≡ 2 ^ n * 2 = ap (λ k. 2 ^ k) (add-one n) ∙ pow-suc 2 n in omega arith
+
 below : (holds : ℕ → Bool) (n : ℕ) → mask_of holds n < 2 ^ n
 unfolding mask_of
 below holds zero = omega arith
 below holds (suc n) =
     let P : ℕ → Type 0 = λ k. with_bit (mask_of holds n) n (holds n) < 2 ^ k in
-    subst P (add-one n) (bits_below (mask_of holds n) n (if holds n then 2 ^ n else 0) (holds n) (below holds n) refl)
+    subst P (add-one n) (bits-below (mask_of holds n) n (holds n) (below holds n))
 
 turned : (mask n : ℕ) → mask + 2 ^ n ≡ 1 * 2 ^ n + mask
 turned mask n = omega arith

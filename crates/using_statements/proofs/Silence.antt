@@ -101,15 +101,16 @@ register-none known here tree r is = by (value known here tree) refl is
 registers-none : (known : Knowledge) (here : Option Reloc) (trees : List Tree) (registers : List ℕ) → registers_of known here trees ≡ Some registers →
     said_of_registers known here trees ≡ []
 registers-none known here [] registers is = refl
-registers-none known here (tree ∷ trees) registers is = by (register_at known here tree) (registers_of known here trees) refl refl is
+registers-none known here (tree ∷ trees) registers is =
+    by (register_at known here tree) (registers_of known here trees) refl is (λ rs rest. registers-none known here trees rs rest)
   where
-    by : (one : Option ℕ) (others : Option (List ℕ)) → register_at known here tree ≡ one → registers_of known here trees ≡ others →
-        with_others one others ≡ Some registers → said_of_registers known here (tree ∷ trees) ≡ []
-    by None others first rest all = absurd cc
-    by (Some r) None first rest all = absurd cc
-    by (Some r) (Some rs) first rest all =
-        ap (λ rows. rows ++ said_of_registers known here trees) (register-none known here tree r first)
-        ∙ registers-none known here trees rs rest
+    by : (one : Option ℕ) (others : Option (List ℕ)) → register_at known here tree ≡ one →
+        with_others one others ≡ Some registers → ((rs : List ℕ) → others ≡ Some rs → said_of_registers known here trees ≡ []) →
+        said_of_registers known here (tree ∷ trees) ≡ []
+    by None others first all none = absurd cc
+    by (Some r) None first all none = absurd cc
+    by (Some r) (Some rs) first all none =
+        ap (λ rows. rows ++ said_of_registers known here trees) (register-none known here tree r first) ∙ none rs refl
 
 -- ---- bounds
 

@@ -27,6 +27,7 @@ use using_ranges::{REGISTERS, Ranges};
 const ALL_REGISTERS: [u8; REGISTERS] = [0, 1, 2, 3, 4, 5, 6, 7, 8, 9, 10, 11, 12, 13, 14, 15];
 
 /// Ends the ranges of all registers.
+#[tactic(auto, using(crate::proofs::RegisterLists::is_dropped))]
 fn drop_all(ranges: &mut Ranges)
     ensures { ranges.new ≡ held.dropped ranges.old held.all_registers }
 {
@@ -34,6 +35,7 @@ fn drop_all(ranges: &mut Ranges)
 }
 
 /// Ends the ranges of these registers, which are below 16. The result marks those of them that had none.
+#[tactic(auto, using(crate::proofs::RegisterLists::is_dropped))]
 fn drop_these(ranges: &mut Ranges, registers: &[u8]) -> u16
     requires { All (λ r. r < 16) registers.now }
     ensures ranges { ranges.new ≡ held.dropped ranges.old registers.now }
@@ -73,6 +75,7 @@ fn drop_named(
 }
 
 /// Says what there is to say of registers that are dropped, and ends their ranges, where each operand is in order.
+#[tactic(auto, using(crate::proofs::Turns::dropped_said))]
 fn push_named(
     alloc: Global,
     symbols: &Symbols,

@@ -31,6 +31,7 @@ fn push(registers: &mut Vec<u8>, register: u8) -> Result<(), OutOfMemory>
 }
 
 /// The registers that some expressions are, if each is one.
+#[tactic(auto, using(crate::proofs::Fronts::behind_none, crate::proofs::Fronts::behind_more, crate::proofs::Fronts::behind_all))]
 pub(crate) fn registers_of(
     alloc: Global,
     symbols: &Symbols,

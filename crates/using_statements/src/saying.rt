@@ -1,5 +1,5 @@
 //! What is said of bounds and registers.
-ghost use Rattle.std.specs.Prelude.{◌≡◌, ◌++◌, ◌||◌, IfOk, OnOk};
+ghost use Rattle.std.specs.Prelude.{◌≡◌, ◌++◌, ◌&&◌, ◌||◌, not, IfOk, OnOk};
 ghost use Rattle.std.specs.List.{list_any};
 ghost use Rattle.constant_grammar.specs.Views.{tree_in};
 ghost use Rattle.expression_notes.specs.Expressions.{listed};
@@ -38,18 +38,19 @@ fn is_no_register(value: &Result<Reloc, EvalFault>) -> bool
     }
 }
 
-/// Says that the statement cannot be read, where this is so.
-fn push_bad(is_bad: bool, rows: &mut Vec<Row>) -> Result<(), OutOfMemory>
-    ensures { OnOk result (rows.new.items ≡ rows.old.items ++ once_behind rows.old.items (spec.bad_if is_bad)) }
+/// Says that the statement cannot be read, where this is so and was not said before. The result is whether it is said now.
+fn push_bad(is_said: bool, is_bad: bool, rows: &mut Vec<Row>) -> Result<bool, OutOfMemory>
+    ensures said { OnOk result (rows.new.items ≡ rows.old.items ++ once_behind rows.old.items (spec.bad_if (is_bad && not is_said))) }
+    ensures bad { IfOk result (λ said. said ≡ (is_said || is_bad)) }
 {
-    if is_bad {
+    if is_bad && !is_said {
         rows.push(Row::BadUsing)?;
     }
-    Ok(())
+    Ok(is_said || is_bad)
 }
 
 /// Says what there is to say of an end, and of it and its base. The result is whether the statement cannot be read.
-#[tactic(auto, using(crate::proofs::Bad::any_behind, crate::proofs::Turns::said_in_turn), unfolding(crate::specs::Said::said_of_end))]
+#[tactic(auto, using(crate::proofs::Turns::end_said, crate::proofs::Turns::end_flag))]
 fn push_end(
     symbols: &Symbols,
     here: Option<Reloc>,
@@ -63,12 +64,9 @@ fn push_end(
         (spec.said_of_end (known (table_of symbols.now)) here (tree_in start.now) (tree_in end.now))) }
 {
     push_expression(symbols, &end.tree, here, Wanted::Value, rows)?;
-    let is_bad = is_bad_pair(
-        &symbols.eval(&start.tree, here),
-        &symbols.eval(&end.tree, here),
-    );
-    push_bad(is_bad, rows)?;
-    Ok(is_bad)
+    let base = symbols.eval(&start.tree, here);
+    let end = symbols.eval(&end.tree, here);
+    push_bad(false, is_bad_pair(&base, &end), rows)
 }
 
 /// The same of an end, if there is one.
@@ -90,6 +88,7 @@ fn push_end_in(
 }
 
 /// Says what there is to say of bounds. The result is whether the statement cannot be read.
+#[tactic(auto, using(crate::proofs::Turns::bounds_said, crate::proofs::Turns::bounds_flag))]
 pub(crate) fn push_bounds(
     symbols: &Symbols,
     here: Option<Reloc>,
@@ -107,6 +106,7 @@ pub(crate) fn push_bounds(
 
 /// Says what there is to say of a register, where it is said already or not yet that the statement cannot be read. The result is
 /// whether it is said now.
+#[tactic(auto, using(crate::proofs::Turns::register_said, crate::proofs::Turns::register_flag))]
 fn push_register(
     symbols: &Symbols,
     here: Option<Reloc>,
@@ -120,25 +120,23 @@ fn push_register(
         (spec.said_of_register (known (table_of symbols.now)) here (tree_in formula.now)))) }
 {
     push_expression(symbols, &formula.tree, here, Wanted::Number, rows)?;
-    let is_none = is_no_register(&symbols.eval(&formula.tree, here));
-    push_bad(is_none && !is_bad, rows)?;
-    Ok(is_bad || is_none)
+    let found = symbols.eval(&formula.tree, here);
+    push_bad(is_bad, is_no_register(&found), rows)
 }
 
 /// The same of some registers, in order.
 pub(crate) fn push_registers(
     symbols: &Symbols,
     here: Option<Reloc>,
-    mut formulas: &[Formula],
+    formulas: &[Formula],
     mut is_bad: bool,
     rows: &mut Vec<Row>,
 ) -> Result<(), OutOfMemory>
     ensures { OnOk result (rows.new.items ≡ rows.old.items ++ once_behind rows.old.items
-        (spec.bad_left is_bad (spec.said_of_registers (known (table_of symbols.now)) here (trees_of formulas.entry.now)))) }
+        (spec.bad_left is_bad (spec.said_of_registers (known (table_of symbols.now)) here (trees_of formulas.now)))) }
 {
-    while let [formula, rest @ ..] = formulas {
+    for formula in formulas {
         is_bad = push_register(symbols, here, formula, is_bad, rows)?;
-        formulas = rest;
     }
     Ok(())
 }

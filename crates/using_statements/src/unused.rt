@@ -1,5 +1,5 @@
 //! Registers that are not in use.
-ghost use Rattle.std.specs.Prelude.{◌≡◌, ◌++◌, map, OnOk};
+ghost use Rattle.std.specs.Prelude.{◌≡◌, ◌++◌, ◌<◌, length, take, slice_index, map, OnOk};
 ghost use Rattle.std.specs.List.{All, filter};
 ghost use Rattle.note_rows.specs.declared.row.Row.TheVariants.{UnusedRegister};
 ghost use Rattle.using_ranges.specs.Ranges.{is_among};
@@ -39,6 +39,22 @@ fn push_one(mask: u16, before: &[u8], register: u8, rows: &mut Vec<Row>) -> Resu
     Ok(())
 }
 
+/// The same of the register at a place among these, which are below 16.
+fn push_at(
+    mask: u16,
+    registers: &[u8],
+    place: usize,
+    rows: &mut Vec<Row>,
+) -> Result<(), OutOfMemory>
+    requires small { All (λ r. r < 16) registers.now }
+    requires inside { place < length registers.now }
+    ensures { OnOk result (rows.new.items ≡ rows.old.items ++ spec.said_of_one mask (take place registers.now) (slice_index registers.now place)) }
+{
+    let before = &registers[..place];
+    let register = registers[place];
+    push_one(mask, before, register, rows)
+}
+
 /// Says of each of these registers that is marked that it is not in use, once. They are below 16.
 pub(crate) fn push_marked(
     mask: u16,
@@ -49,8 +65,8 @@ pub(crate) fn push_marked(
     ensures { OnOk result (rows.new.items ≡ rows.old.items
         ++ map (λ register. UnusedRegister register) (filter (spec.is_marked mask) (spec.each_once registers.now))) }
 {
-    for (index, register) in registers.iter().enumerate() {
-        push_one(mask, &registers[..index], *register, rows)?;
+    for place in 0..registers.len() {
+        push_at(mask, registers, place, rows)?;
     }
     Ok(())
 }

@@ -23,6 +23,7 @@ use trace_values::Reloc;
 use using_ranges::Ranges;
 
 /// Says what there is to say of a USING that was read.
+#[tactic(auto, using(crate::proofs::Turns::using_said))]
 pub(crate) fn push_read(
     symbols: &Symbols,
     here: Option<Reloc>,
@@ -37,6 +38,7 @@ pub(crate) fn push_read(
 }
 
 /// Gives these registers, which are below 16, ranges.
+#[tactic(auto, using(crate::proofs::RegisterLists::is_used))]
 fn use_these(ranges: &mut Ranges, span: Span, registers: &[u8])
     requires { All (λ r. r < 16) registers.now }
     ensures { ranges.new ≡ held.used ranges.old span.base.section span.base.value span.end registers.now }

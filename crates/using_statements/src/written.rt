@@ -55,6 +55,7 @@ fn push(formulas: &mut Vec<Formula>, formula: Formula) -> Result<(), OutOfMemory
 }
 
 /// Reads some expressions, if each text is one.
+#[tactic(auto, using(crate::proofs::Fronts::behind_none, crate::proofs::Fronts::behind_more, crate::proofs::Fronts::behind_all))]
 fn read_expressions(alloc: Global, mut texts: &[Text]) -> Result<Option<Vec<Formula>>, OutOfMemory>
     ensures { IfOk result (λ found. option_map (λ formulas. trees_of formulas.items) found ≡ spec.expressions texts.entry.now) }
 {

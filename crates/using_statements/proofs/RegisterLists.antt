@@ -61,13 +61,13 @@ pub registers-small : (known : Knowledge) (here : Option Reloc) (trees : List Tr
 registers-small known here [] registers is =
     let same : [] ≡ registers = cc in subst (λ (rs : List ℕ). All (λ r. r < 16) rs) same (All-nil (λ r. r < 16))
 registers-small known here (tree ∷ trees) registers is =
-    by (register_at known here tree) (registers_of known here trees) refl refl is
+    by (register_at known here tree) (registers_of known here trees) refl is (λ rs rest. registers-small known here trees rs rest)
   where
-    by : (one : Option ℕ) (others : Option (List ℕ)) → register_at known here tree ≡ one → registers_of known here trees ≡ others →
-        with_others one others ≡ Some registers → All (λ r. r < 16) registers
-    by None others first rest all = absurd cc
-    by (Some r) None first rest all = absurd cc
-    by (Some r) (Some rs) first rest all =
+    by : (one : Option ℕ) (others : Option (List ℕ)) → register_at known here tree ≡ one →
+        with_others one others ≡ Some registers → ((rs : List ℕ) → others ≡ Some rs → All (λ r. r < 16) rs) → All (λ r. r < 16) registers
+    by None others first all small = absurd cc
+    by (Some r) None first all small = absurd cc
+    by (Some r) (Some rs) first all small =
         let same : r ∷ rs ≡ registers = cc in
         subst (λ (ns : List ℕ). All (λ n. n < 16) ns) same
-        (All-cons (λ n. n < 16) r rs (register-small known here tree r first) (registers-small known here trees rs rest))
+        (All-cons (λ n. n < 16) r rs (register-small known here tree r first) (small rs refl))
