@@ -9,7 +9,10 @@ use symbol_answers::{definition, document_symbols, hover, references};
 
 /// `LINE.UNIT-LINE.UNIT`.
 fn span_worded(alloc: Global, span: Span) -> Result<String, AllocError> {
-    format!(in alloc; "{}.{}-{}.{}", span.start.line, span.start.character, span.end.line, span.end.character)
+    format!(in alloc;
+        "{}.{}-{}.{}",
+        span.start.line, span.start.character, span.end.line, span.end.character
+    )
 }
 
 /// `URI SPAN`.

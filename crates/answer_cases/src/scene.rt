@@ -8,9 +8,7 @@ use hl_base::{Attr, Frame, FrameKind, Frames, Name, Origin, OutOfMemory};
 use standing_occurrences::Standing;
 use std::alloc::Global;
 use text_pool::LONGEST_TEXT;
-use trace_values::{
-    Occurrences, Reloc, Section, SectionId, Sections, SymbolRow, SymbolRows,
-};
+use trace_values::{Occurrences, Reloc, Section, SectionId, Sections, SymbolRow, SymbolRows};
 
 /// What is asked about.
 #[derive(Drop)]

@@ -22,7 +22,13 @@ impl CaseTable for Table {
     fn answer(&self, alloc: Global, fields: &[String]) -> Result<String, OutOfMemory> {
         match (self, fields) {
             (Table::SymbolAnswers, [texts, symbols, places, questions @ ..]) => {
-                asking::answers(alloc, texts.as_str(), symbols.as_str(), places.as_str(), questions)
+                asking::answers(
+                    alloc,
+                    texts.as_str(),
+                    symbols.as_str(),
+                    places.as_str(),
+                    questions,
+                )
             }
             _ => Ok(String::from_str(alloc, "of other fields than the table's")?),
         }

@@ -1,11 +1,12 @@
 -- Occurrences of which each is the first of its place.
-use Rattle.std.proofs.Common.{◌≡◌, ℕ, ◌+◌, ◌<◌, length, take, get_or, Bool, true, false, not, cond, ◌||◌, List, [], ◌∷◌, ◌++◌, map, filter, refl, sym, ap, ◌∙◌}
+use Rattle.std.proofs.Common.{◌≡◌, ℕ, ◌+◌, ◌<◌, length, take, get_or, Bool, true, false, not, cond, ◌==◌, ◌&&◌, ◌||◌, List, [], ◌∷◌, ◌++◌, map, filter, refl, sym, ap, ◌∙◌, rules}
 use Rattle.std.specs.Cmp.{IsEquivalence}
 use Rattle.std.specs.List.{list_any}
 use Rattle.std.proofs.lemmas.Cmp.{on_equiv, and_equiv, nat_eq_equiv}
 use Rattle.std.proofs.lemmas.List.{append-nil, take_more}
 use Rattle.std.proofs.lemmas.List.Elements.{filter-append}
 use Rattle.trace_values.specs.declared.occurrence.Occurrence.{Occurrence}
+use Rattle.standing_occurrences.specs.contracts.place.PlacePartialEq.TheImpl as place_eq
 use Rattle.standing_occurrences.specs.Kept.{place_of}
 use Rattle.standing_occurrences.specs.declared.place.Place.{Place}
 use Rattle.standing_occurrences.specs.Standing.{is_same_place, standing, with_first}
@@ -133,6 +134,17 @@ standing-again (x ∷ xs) =
 
 -- ---- places as they are kept
 
+left_grouped : (a b c d : Bool) → (((a && b) && c) && d) ≡ (a && (b && (c && d)))
+left_grouped true b c d = left_rest b where
+  left_rest : (e : Bool) → ((e && c) && d) ≡ (e && (c && d))
+  left_rest true = refl
+  left_rest false = refl
+left_grouped false b c d = refl
+
+-- two places as they are kept are the same in all their parts
+same_kept : (x y : Place) → (place_eq.ghosts).eq x y ≡ (x.path == y.path && (x.line == y.line && (x.from == y.from && x.to == y.to)))
+same_kept x y = search (rules, left_grouped)
+
 -- a test of places answers as the test of their occurrences
 pub any_kept : {P : Type 0} (of : Occurrence → P) (test : P → Bool) (xs : List Occurrence) → list_any test (map of xs) ≡ list_any (λ x. test (of x)) xs
 any_kept of test [] = refl
@@ -143,13 +155,13 @@ any_same p q same [] = refl
 any_same p q same (x ∷ xs) = ap (λ b. b || list_any p xs) (same x) ∙ ap (λ b. q x || b) (any_same p q same xs)
 
 -- the kept places tell whether an occurrence of a place is kept
-pub kept_tells : (eq : Place → Place → Bool) → ((x y : Occurrence) → eq (place_of x) (place_of y) ≡ is_same_place x y) → (keys : List Place) (items kept : List Occurrence) (place : Place) (next : Occurrence)
-    → keys ≡ map place_of items → items ≡ kept → place ≡ place_of next → list_any (eq place) keys ≡ list_any (is_same_place next) kept
-kept_tells eq same keys items kept place next are is_kept is =
-    ap (λ p. list_any (eq p) keys) is
-    ∙ ap (list_any (eq (place_of next))) are
-    ∙ any_kept place_of (eq (place_of next)) items
-    ∙ any_same (λ x. eq (place_of next) (place_of x)) (is_same_place next) (same next) items
+pub kept_tells : (keys : List Place) (items kept : List Occurrence) (place : Place) (next : Occurrence)
+    → keys ≡ map place_of items → items ≡ kept → place ≡ place_of next → list_any ((place_eq.ghosts).eq place) keys ≡ list_any (is_same_place next) kept
+kept_tells keys items kept place next are is_kept is =
+    ap (λ p. list_any ((place_eq.ghosts).eq p) keys) is
+    ∙ ap (list_any ((place_eq.ghosts).eq (place_of next))) are
+    ∙ any_kept place_of ((place_eq.ghosts).eq (place_of next)) items
+    ∙ any_same (λ x. (place_eq.ghosts).eq (place_of next) (place_of x)) (is_same_place next) (λ x. same_kept (place_of next) (place_of x)) items
     ∙ ap (list_any (is_same_place next)) is_kept
 
 -- one of a new place stands, and one of another's does not

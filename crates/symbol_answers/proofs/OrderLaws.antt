@@ -1,13 +1,13 @@
 -- The spots in order are the only list of them that ascends.
-use Rattle.std.proofs.Common.{◌≡◌, ◌≢◌, ℕ, ◌+◌, Bool, true, false, cond, List, [], ◌∷◌, map, get_or, suc, add-one, refl, ap, sym, ◌∙◌, subst, arith}
+use Rattle.std.proofs.Common.{◌≡◌, ◌≢◌, ℕ, ◌+◌, ◌<◌, Bool, true, false, cond, List, [], ◌∷◌, map, get_or, suc, add-one, refl, ap, sym, ◌∙◌, subst, arith}
 use Rattle.std.specs.Cmp.{IsTotalOrder}
-use Rattle.std.specs.Ordering.{is_lt, is_gt, is_eq, nat_cmp, ordering_reverse, ordering_then}
+use Rattle.std.specs.Ordering.{MatchOrdering, is_lt, is_gt, is_eq, nat_cmp, ordering_reverse, ordering_then}
 use Rattle.std.specs.declared.cmp.Ordering.{Ordering}
 use Rattle.std.specs.declared.cmp.Ordering.TheVariants.{Less, Equal, Greater}
 use Rattle.std.specs.Cmp.Lexicographic.{slice_cmp}
 use Rattle.std.specs.List.Sorted.{IsPermutation, IsSorted, IsSortedBy}
 use Rattle.std.specs.Str.{bytes_eq}
-use Rattle.std.proofs.lemmas.Cmp.{nat_list_cmp_total, nat_cmp_total, then_total, on_total, upto, tied_itself, ranked, by_ranked}
+use Rattle.std.proofs.lemmas.Cmp.{nat_list_cmp_total, nat_cmp_total, then_total, on_total, upto, tied_itself, ranked}
 use Rattle.std.proofs.lemmas.List.Recursion.{is_count_by}
 use Rattle.std.proofs.lemmas.List.Sorted.{sum_by-IsPermutation, IsPermutation-map}
 use Rattle.std.proofs.lemmas.Map.Text.{is_eq-slice_cmp}
@@ -61,11 +61,13 @@ then_tied Less b e = cc
 then_tied Equal b e = e
 then_tied Greater b e = cc
 
+same_by : (o : Ordering) (x y : ℕ) → MatchOrdering o (x < y) (x ≡ y) (y < x) → is_eq o ≡ true → x ≡ y
+same_by Less x y ranks e = cc
+same_by Equal x y ranks e = ranks
+same_by Greater x y ranks e = cc
+
 same_number : (x y : ℕ) → is_eq (nat_cmp x y) ≡ true → x ≡ y
-same_number x y tied = by_ranked _ _ _ (nat_cmp x y) (ranked x y (nat_cmp x y) refl)
-    (λ is below. absurd (let h : is_eq Less ≡ true = ap is_eq (sym is) ∙ tied in (let never : false ≡ true = h in cc)))
-    (λ is same. same)
-    (λ is below. absurd (let h : is_eq Greater ≡ true = ap is_eq (sym is) ∙ tied in (let never : false ≡ true = h in cc)))
+same_number x y tied = same_by (nat_cmp x y) x y (ranked x y (nat_cmp x y) refl) tied
 
 same_bytes : (x y : List ℕ) → is_eq (slice_cmp nat_cmp x y) ≡ true → x ≡ y
 same_bytes x y tied = (bytes_eq-Decides x y).0 (sym (is_eq-slice_cmp x y) ∙ tied)
@@ -73,19 +75,29 @@ same_bytes x y tied = (bytes_eq-Decides x y).0 (sym (is_eq-slice_cmp x y) ∙ ti
 spot_with : List ℕ → ℕ → ℕ → ℕ → ℕ → Spot
 spot_with path line from to number = record { path = path; line = line; from = from; to = to; number = number }
 
+-- the parts of the order from one part on
+abbrev from_to : Spot → Spot → Ordering
+from_to x y = ordering_then (nat_cmp x.to y.to) (nat_cmp x.number y.number)
+
+abbrev from_from : Spot → Spot → Ordering
+from_from x y = ordering_then (nat_cmp x.from y.from) (from_to x y)
+
+abbrev from_line : Spot → Spot → Ordering
+from_line x y = ordering_then (nat_cmp x.line y.line) (from_from x y)
+
 -- two spots that tie are one
 same_spot : (x y : Spot) → is_eq (spot_order x y) ≡ true → x ≡ y
 unfolding spot_with
 same_spot x y tied =
-    let by_line = then_tied (slice_cmp nat_cmp x.path y.path) _ tied in
-    let by_from = then_tied (nat_cmp x.line y.line) _ by_line in
-    let by_to = then_tied (nat_cmp x.from y.from) _ by_from in
-    let by_number = then_tied (nat_cmp x.to y.to) _ by_to in
-    ap (λ p. spot_with p x.line x.from x.to x.number) (same_bytes x.path y.path (first_tied _ _ tied))
-    ∙ ap (λ l. spot_with y.path l x.from x.to x.number) (same_number x.line y.line (first_tied _ _ by_line))
-    ∙ ap (λ f. spot_with y.path y.line f x.to x.number) (same_number x.from y.from (first_tied _ _ by_from))
-    ∙ ap (λ t. spot_with y.path y.line y.from t x.number) (same_number x.to y.to (first_tied _ _ by_to))
-    ∙ ap (λ n. spot_with y.path y.line y.from y.to n) (same_number x.number y.number by_number)
+    let at_line = then_tied (slice_cmp nat_cmp x.path y.path) (from_line x y) tied in
+    let at_from = then_tied (nat_cmp x.line y.line) (from_from x y) at_line in
+    let at_to = then_tied (nat_cmp x.from y.from) (from_to x y) at_from in
+    let at_number = then_tied (nat_cmp x.to y.to) (nat_cmp x.number y.number) at_to in
+    ap (λ p. spot_with p x.line x.from x.to x.number) (same_bytes x.path y.path (first_tied (slice_cmp nat_cmp x.path y.path) (from_line x y) tied))
+    ∙ ap (λ l. spot_with y.path l x.from x.to x.number) (same_number x.line y.line (first_tied (nat_cmp x.line y.line) (from_from x y) at_line))
+    ∙ ap (λ f. spot_with y.path y.line f x.to x.number) (same_number x.from y.from (first_tied (nat_cmp x.from y.from) (from_to x y) at_from))
+    ∙ ap (λ t. spot_with y.path y.line y.from t x.number) (same_number x.to y.to (first_tied (nat_cmp x.to y.to) (nat_cmp x.number y.number) at_to))
+    ∙ ap (λ n. spot_with y.path y.line y.from y.to n) (same_number x.number y.number at_number)
 
 abbrev is_spot : Spot → Spot → Bool
 is_spot x y = is_eq (spot_order x y)

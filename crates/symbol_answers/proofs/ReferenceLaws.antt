@@ -1,6 +1,5 @@
 -- What references are.
-use Rattle.std.proofs.Common.{◌≡◌, ◌↔◌, ℕ, suc, zero, ◌<◌, Bool, true, false, cond, ◌&&◌, ◌||◌, not, List, [], ◌∷◌, length, filter, find, Contains, All, Option, Some, None, refl, ap, sym, ◌∙◌, arith}
-use Rattle.std.specs.Prelude.{slice_index_or}
+use Rattle.std.proofs.Common.{◌≡◌, ◌↔◌, ℕ, suc, zero, ◌<◌, Bool, true, false, cond, ◌&&◌, ◌||◌, not, List, [], ◌∷◌, length, get_or, filter, find, Contains, All, Option, Some, None, refl, ap, sym, ◌∙◌, arith}
 use Rattle.std.proofs.lemmas.List.Elements.{filter_passes}
 use Rattle.hl_base.specs.declared.edit.Position.{Position}
 use Rattle.document_store.specs.Store.{Store}
@@ -21,7 +20,7 @@ first_half true b e = refl
 first_half false b e = e
 
 All-weaker : {X : Type 0} (p q : X → Bool) → ((x : X) → p x ≡ true → q x ≡ true) → (xs : List X) → All (λ x. p x ≡ true) xs → All (λ x. q x ≡ true) xs
-All-weaker p q weaker xs all = λ k d within. weaker _ (all k d within)
+All-weaker p q weaker xs all = λ k d within. weaker (get_or xs k d) (all k d within)
 
 -- each reference names what is asked
 pub references_named : (occurrences : List Occurrence) (entity : Entity) (declarations : Bool) → All (λ one. is_same_entity one.entity entity ≡ true) (references_of occurrences entity declarations)
@@ -34,17 +33,15 @@ references_named occurrences entity declarations =
 behind_first : {X : Type 0} (x y : X) (ys : List X) → Contains ys x → Contains (y ∷ ys) x
 behind_first x y ys at = (suc at.0, (let within : at.0 < length ys = at.1 in let h : suc at.0 < suc (length ys) = omega arith in h), at.2)
 
-at_front : {X : Type 0} (x : X) (xs : List X) → Contains (x ∷ xs) x
-at_front x xs = (zero, (let h : 0 < suc (length xs) = omega arith in h), refl)
-
 found_passes : {X : Type 0} (p q : X → Bool) → ((x : X) → p x ≡ true → q x ≡ true) → (xs : List X) (found : X) → find p xs ≡ Some found → Contains (filter q xs) found
 found_passes p q wider [] found is = cc
-found_passes {X} p q wider (x ∷ xs) found is = by (p x) (q x) refl refl is where
-  by : (b c : Bool) → p x ≡ b → q x ≡ c → cond b (Some x) (find p xs) ≡ Some found → Contains (cond c (x ∷ filter q xs) (filter q xs)) found
-  by true true e f at = let same : x ≡ found = cc in (zero, (let h : 0 < suc (length (filter q xs)) = omega arith in h), same)
-  by true false e f at = let never : true ≡ false = sym (wider x e) ∙ f in cc
-  by false true e f at = behind_first found x (filter q xs) (found_passes p q wider xs found at)
-  by false false e f at = found_passes p q wider xs found at
+found_passes {X} p q wider (x ∷ xs) found is = by (p x) (q x) refl refl (found_passes p q wider xs found) is where
+  by : (b c : Bool) → p x ≡ b → q x ≡ c → (find p xs ≡ Some found → Contains (filter q xs) found)
+      → cond b (Some x) (find p xs) ≡ Some found → Contains (cond c (x ∷ filter q xs) (filter q xs)) found
+  by true true e f rest at = let same : x ≡ found = cc in (zero, (let h : 0 < suc (length (filter q xs)) = omega arith in h), same)
+  by true false e f rest at = let never : true ≡ false = sym (wider x e) ∙ f in cc
+  by false true e f rest at = behind_first found x (filter q xs) (rest at)
+  by false false e f rest at = rest at
 
 definition_refers : (entity : Entity) (one : Occurrence) → is_definition entity one ≡ true → is_reference entity true one ≡ true
 definition_refers entity one is = by one.defines (is_same_entity one.entity entity) is where

@@ -1,5 +1,5 @@
 //! Which occurrence a question means, and what belongs to it.
-ghost use Rattle.std.specs.Prelude.{◌≡◌, ℕ, find};
+ghost use Rattle.std.specs.Prelude.{◌≡◌};
 ghost use Rattle.std.specs.Option.{option_copied};
 ghost use Rattle.symbol_answers.specs.Questions as questions;
 
@@ -29,6 +29,7 @@ fn at_place(occurrences: &[Occurrence], path: PathId, place: (u32, u32)) -> Opti
 }
 
 /// The line and the column that a position means in the text that is present at a path.
+#[tactic(auto, using(crate::proofs::PresentLaws::text_is_present, crate::proofs::PresentLaws::column_told, crate::proofs::PresentLaws::unreadable_told, crate::proofs::PresentLaws::nothing_told))]
 fn place_asked(store: &DocumentStore, path: PathId, at: Position) -> Option<(u32, u32)>
     ensures { result ≡ questions.place_asked store.now.store path.0 at }
 {

@@ -1,25 +1,9 @@
 -- Lines by their numbers.
-use Rattle.std.proofs.Common.{◌≡◌, ℕ, zero, suc, List, [], ◌∷◌, ◌++◌, map, get_or, Option, Some, None, refl, ap, sym, ◌∙◌}
-use Rattle.std.specs.Prelude.{slice_get}
-use Rattle.std.proofs.lemmas.List.{map-append, append_assoc}
+use Rattle.std.proofs.Common.{◌≡◌, ◌≤◌, ℕ, List, length, map, get_or, sym, arith}
+use Rattle.std.proofs.lemmas.List.{get_or_past, length-map}
 
--- what is made of the element of a number is the element of that number of what is made of all
-pub made_at : {A B : Type 0} (f : A → B) (xs : List A) (i : ℕ) (x : A) (d : B) → slice_get xs i ≡ Some x → f x ≡ get_or (map f xs) i d
-made_at f [] i x d is = cc
-made_at f (y ∷ ys) zero x d is = let same : x ≡ y = cc in ap f same
-made_at f (y ∷ ys) (suc i) x d is = made_at f ys i x d is
-
--- where there is none, there is none of these either
-pub none_made : {A B : Type 0} (f : A → B) (xs : List A) (i : ℕ) (d : B) → slice_get xs i ≡ None → d ≡ get_or (map f xs) i d
-none_made f [] i d is = refl
-none_made f (y ∷ ys) zero d is = cc
-none_made f (y ∷ ys) (suc i) d is = none_made f ys i d is
-
--- one more is found, and one fewer is left
-pub one_more : {A B : Type 0} (f : A → B) (xs more : List A) (x : A) (left rest all : List B) → map f xs ++ left ≡ all → left ≡ f x ∷ rest → more ≡ xs ++ x ∷ [] → map f more ++ rest ≡ all
-one_more f xs more x left rest all is next grown =
-    ap (λ t. map f t ++ rest) grown
-    ∙ ap (λ t. t ++ rest) (map-append f xs (x ∷ []))
-    ∙ append_assoc (map f xs) (f x ∷ []) rest
-    ∙ ap (λ t. map f xs ++ t) (sym next)
-    ∙ is
+-- past the last element there is none of what is made of them
+pub none_past : {A B : Type 0} (f : A → B) (xs : List A) (i : ℕ) (d : B) → length xs ≤ i → d ≡ get_or (map f xs) i d
+none_past f xs i d past =
+    let few : length (map f xs) ≤ i = omega (arith, length-map xs f) in
+    sym (get_or_past (map f xs) i d few)
