@@ -66,11 +66,7 @@ impl Standing {
         }
     }
 
-    pub(crate) fn unknown_request(
-        &mut self,
-        alloc: Global,
-        id: Id,
-    ) -> Result<Bodies, OutOfMemory>
+    pub(crate) fn unknown_request(&mut self, alloc: Global, id: Id) -> Result<Bodies, OutOfMemory>
         ensures { IfOk result (λ bodies. (method : List ℕ) → Acts (unknown_asked self.old (Some id) method) self.new bodies) }
     {
         match self.stage {
@@ -101,12 +97,7 @@ impl Standing {
     }
 
     /// A request or a notification with a parameter that is missing or of a wrong kind.
-    fn bad_params(
-        &mut self,
-        alloc: Global,
-        head: Head,
-        name: Text,
-    ) -> Result<Bodies, OutOfMemory>
+    fn bad_params(&mut self, alloc: Global, head: Head, name: Text) -> Result<Bodies, OutOfMemory>
         ensures { IfOk result (λ bodies. Acts (wrong_asked self.old head.id head.method name) self.new bodies) }
     {
         let Head { id, method } = head;
