@@ -74,8 +74,8 @@ impl Standing {
     pub(crate) fn unserved(&mut self, alloc: Global, method: &str) -> Result<Bodies, OutOfMemory>
         ensures { IfOk result (λ bodies. Acts (unknown_asked self.old None (chars method.now)) self.new bodies) }
     {
-        let method = Text::of(alloc, method)?;
-        self.unknown_notification(alloc, &method)
+        let words = Text::of(alloc, method)?;
+        self.unknown_notification(alloc, &words)
     }
 
     pub(crate) fn unknown_notification(

@@ -109,10 +109,23 @@ impl Standing {
         match message {
             LspIn::Initialize { id, root } => self.initialize(alloc, id, root),
             LspIn::Shutdown { id } => self.shutdown(alloc, id, steps),
-            LspIn::Definition { id, .. } => self.unknown_request(alloc, id),
-            LspIn::References { id, .. } => self.unknown_request(alloc, id),
-            LspIn::Hover { id, .. } => self.unknown_request(alloc, id),
-            LspIn::DocumentSymbol { id, .. } => self.unknown_request(alloc, id),
+            LspIn::Definition {
+                id,
+                uri: _uri,
+                at: _at,
+            } => self.unknown_request(alloc, id),
+            LspIn::References {
+                id,
+                uri: _uri,
+                at: _at,
+                declarations: _declarations,
+            } => self.unknown_request(alloc, id),
+            LspIn::Hover {
+                id,
+                uri: _uri,
+                at: _at,
+            } => self.unknown_request(alloc, id),
+            LspIn::DocumentSymbol { id, uri: _uri } => self.unknown_request(alloc, id),
             LspIn::Exit => Ok(self.exit(alloc)),
             LspIn::Initialized => self.initialized(alloc, library),
             LspIn::DidOpen {
@@ -132,8 +145,11 @@ impl Standing {
             LspIn::DidChangeWatchedFiles { changes } => {
                 self.watched(alloc, changes.as_slice(), library)
             }
-            LspIn::Cancel { .. } => self.unserved(alloc, "$/cancelRequest"),
-            LspIn::Dap { .. } => self.unserved(alloc, "hlasm/dap"),
+            LspIn::Cancel { id: _id } => self.unserved(alloc, "$/cancelRequest"),
+            LspIn::Dap {
+                session: _session,
+                message: _message,
+            } => self.unserved(alloc, "hlasm/dap"),
         }
     }
 
