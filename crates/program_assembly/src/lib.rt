@@ -10,7 +10,6 @@
 
 mod assembler;
 mod assembly;
-mod checked_layout;
 mod column_notes;
 mod end_notes;
 mod notes;
