@@ -54,7 +54,7 @@ fn meaning(op: &str) -> OpMeaning
 
 /// The check of the statement of a line.
 #[tactic(auto, unfolding(crate::specs::Checks::check))]
-pub(crate) fn check(line: &Line) -> Check
+pub(crate) fn check_of_line(line: &Line) -> Check
     ensures { result ≡ spec.check line.now }
 {
     let op = meaning(line.op.as_str());

@@ -16,7 +16,7 @@ ghost use Rattle.using_statements.specs.Said.{said_of_drop, said_of_using};
 ghost use Rattle.statement_checks.specs.Places.{places_in};
 ghost use Rattle.statement_checks.specs.Statements as spec;
 
-use crate::checks::{Check, check};
+use crate::checks::{Check, check_of_line};
 use crate::places::places_in;
 use constant_operands::ConstantOperand;
 use hl_base::{Line, OutOfMemory};
@@ -194,7 +194,7 @@ pub(crate) fn check_statement(
         ≡ spec.behind (known (table_of symbols.now)) ranges.old line.now (statement_of statement.old)) }
 {
     let field = line.operands.as_str();
-    match check(line) {
+    match check_of_line(line) {
         Check::Machine(format) => {
             check_machine(alloc, symbols, literals, ranges, format, field, statement)
         }
