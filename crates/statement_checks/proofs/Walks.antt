@@ -1,12 +1,14 @@
 -- Statements that are checked one after the other.
-use Rattle.std.proofs.Common.{◌≡◌, ◌∙◌, ℕ, zero, suc, ◌+◌, ◌<◌, ◌≤◌, List, [], ◌∷◌, ◌++◌, length, take, drop, set, get_or, refl, sym, ap, append_assoc, append-nil, arith}
+use Rattle.std.proofs.Common.{◌≡◌, ◌∙◌, ℕ, zero, suc, ◌+◌, ◌<◌, ◌≤◌, List, [], ◌∷◌, ◌++◌, map, Bor, length, take, drop, set, get_or, refl, sym, ap, append_assoc, append-nil, arith}
 use Rattle.std.specs.Prelude.{Option, Some, None, slice_get}
-use Rattle.std.proofs.lemmas.List.{take_more_set, drop-set-lt, drop_more, take_all, drop_all, take-append-drop}
+use Rattle.std.proofs.lemmas.List.{take_more_set, drop-set-lt, drop_more, take_all, drop_all, take-append-drop, get_or-map, length-map, map-set}
 use Rattle.hl_base.specs.declared.set.Line.{Line}
 use Rattle.literal_places.specs.Places.{Literals}
 use Rattle.ordinary_symbols.specs.Known.{Knowledge}
 use Rattle.ordinary_symbols.specs.Table.{known}
+use Rattle.section_layout.specs.declared.layout.StatementLayout.{StatementLayout}
 use Rattle.section_layout.specs.Layout.{Layout, Statement}
+use Rattle.section_layout.specs.Views.{lines_of, statement_of}
 use Rattle.using_ranges.specs.Ranges.{Held}
 use Rattle.using_statements.specs.Held.{no_ranges}
 use Rattle.statement_checks.specs.Programs.{all_checked, checked, checked_at, ranges_behind}
@@ -44,6 +46,24 @@ checked_more k literals held after lines old new number line first then inside h
     (drop_more lines number line has ∙ ap (λ l. l ∷ behind) (sym line_is)))
     ∙ sym (ap (all_checked k literals held (drop number lines))
     (drop_more old number first inside ∙ ap (λ s. s ∷ others) (sym first_is))))
+
+-- the same of statements and lines as they are kept
+pub step : (k : Knowledge) (literals : Literals) (held after : Held) (lines : List (Bor Line)) (old : List StatementLayout) (number : ℕ)
+    (line : Bor Line) (first then : StatementLayout) →
+    number < length old → number < length lines → line ≡ get_or lines number line → first ≡ get_or old number first →
+    statement_of then ≡ one.checked k literals held line.now (statement_of first) → after ≡ one.behind k held line.now (statement_of first) →
+    so_far k literals after (lines_of lines) (map statement_of (set old number then)) (number + 1)
+    ≡ so_far k literals held (lines_of lines) (map statement_of old) number
+step k literals held after lines old number line first then inside has line_is first_is then_is after_is =
+    let count = length-map old statement_of in
+    let counted = length-map lines (λ (l : Bor Line). l.now) in
+    let inside_shown : number < length (map statement_of old) = omega arith in
+    let has_shown : number < length (lines_of lines) = omega arith in
+    checked_more k literals held after (lines_of lines) (map statement_of old) (map statement_of (set old number then)) number
+    line.now (statement_of first) (statement_of then) inside_shown has_shown
+    (ap (λ (l : Bor Line). l.now) line_is ∙ sym (get_or-map (λ (l : Bor Line). l.now) lines number line line.now has))
+    (ap statement_of first_is ∙ sym (get_or-map statement_of old number first (statement_of first) inside))
+    then_is after_is (map-set statement_of old number then)
 
 -- there is no further statement
 pub checked_end : (k : Knowledge) (literals : Literals) (held : Held) (lines : List Line) (statements : List Statement) (number : ℕ) →

@@ -60,15 +60,14 @@ fn push_machine(
 /// Says what there is to say of the addresses in some constants, in order.
 fn push_constants(
     setting: &Setting<'_>,
-    mut operands: &[ConstantOperand],
+    operands: &[ConstantOperand],
     rows: &mut Vec<Row>,
 ) -> Result<(), OutOfMemory>
     ensures { OnOk result (rows.new.items ≡ rows.old.items ++ once_behind rows.old.items
-        (spec.said_of_constants (setting_of setting.now) (map operand_of operands.entry.now))) }
+        (spec.said_of_constants (setting_of setting.now) (map operand_of operands.now))) }
 {
-    while let [operand, rest @ ..] = operands {
+    for operand in operands {
         address_notes(setting, operand, rows)?;
-        operands = rest;
     }
     Ok(())
 }
