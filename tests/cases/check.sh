@@ -23,6 +23,8 @@ program_of() {
         expression_notes | symbol_definitions | constant_expressions) echo layout_cases ;;
         statement_names) echo name_cases ;;
         using_statements | statement_checks) echo layout_cases ;;
+        statement_checks) echo layout_cases ;;
+        using_statements) echo using_cases ;;
         machine_operands | operand_checks) echo operand_cases ;;
         declarations | branches | templates | field_ends | operations | effects | calls) echo statement_cases ;;
         expansions) echo expansion_cases ;;

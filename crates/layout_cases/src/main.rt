@@ -15,7 +15,6 @@ mod rows;
 mod statements;
 mod symbols;
 mod tables;
-mod usings;
 
 use case_lines::compare_tables;
 use std::process::ExitCode;

@@ -1,5 +1,5 @@
 //! The tables by their words.
-use crate::{constants, definitions, expressions, layouts, literals, numbers, statements, usings};
+use crate::{constants, definitions, expressions, layouts, literals, numbers, statements};
 use case_lines::CaseTable;
 use hl_base::OutOfMemory;
 use std::alloc::Global;
@@ -21,8 +21,6 @@ pub enum Table {
     LayoutStatements,
     /// The layout of generated statements.
     Layout,
-    /// What is said of USING and DROP, and what is covered behind them.
-    UsingStatements,
     /// What is said of generated statements that are laid out and checked.
     StatementChecks,
 }
@@ -37,7 +35,6 @@ impl CaseTable for Table {
             "literals" => Some(Table::Literals),
             "layout_statements" => Some(Table::LayoutStatements),
             "layout" => Some(Table::Layout),
-            "using_statements" => Some(Table::UsingStatements),
             "statement_checks" => Some(Table::StatementChecks),
             _ => None,
         }
@@ -74,12 +71,6 @@ impl CaseTable for Table {
             (Table::Layout, [shown, statements]) => {
                 layouts::laid_out(alloc, shown.as_str(), statements.as_str())
             }
-            (Table::UsingStatements, [symbols, statements, addresses]) => usings::covered(
-                alloc,
-                symbols.as_str(),
-                statements.as_str(),
-                addresses.as_str(),
-            ),
             (Table::StatementChecks, [statements]) => layouts::checked(alloc, statements.as_str()),
             _ => Ok(String::from_str(alloc, "of other fields than the table's")?),
         }
