@@ -132,6 +132,6 @@ entered content told binding =
     in_macro (systems_of (known_systems content) (operation_in content) told) binding (shown_at_entry content told binding)
 
 -- what a macro knows before its first statement, by what its name entry and its operands come to, and by the answers of its entry
-abbrev pub bound_at_entry : Content → (name_entry : List ℕ) (operands : List (List ℕ)) → List Pair → Knowledge
+unfoldable pub bound_at_entry : Content → (name_entry : List ℕ) (operands : List (List ℕ)) → List Pair → Knowledge
 bound_at_entry content name_entry operands pairs =
     entered content (answers_in (look_up pairs)) (binding_of (parameters_in content) name_entry operands)

@@ -70,6 +70,7 @@ fn shown_at_entry(
 
 /// What a macro knows before its first statement, by the answers to the keys of its entry. `OutOfMemory` also where it has more
 /// operands than a `u32` counts.
+#[tactic(auto, unfolding(crate::specs::Entries::bound_at_entry))]
 pub fn bound_at_entry(
     alloc: Global,
     call: &MacroCall,
