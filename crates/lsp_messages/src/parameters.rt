@@ -152,7 +152,10 @@ pub fn request_id(alloc: Global, value: &Value, parameter: Parameter) -> Result<
     match need_text(value, parameter.name()) {
         Ok(words) => Ok(Id::Words(Text::of(alloc, words)?)),
         Err(MemberFault::Missing) => Err(ParameterFault::Bad(parameter)),
-        Err(MemberFault::WrongKind) => Ok(Id::Number(whole(value, parameter)?)),
+        Err(MemberFault::WrongKind) => match need_int(value, parameter.name()) {
+            Ok(number) => Ok(Id::Number(number)),
+            Err(_) => Err(ParameterFault::Bad(parameter)),
+        },
     }
 }
 
