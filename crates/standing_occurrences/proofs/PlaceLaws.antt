@@ -134,16 +134,9 @@ standing-again (x ∷ xs) =
 
 -- ---- places as they are kept
 
-left_grouped : (a b c d : Bool) → (((a && b) && c) && d) ≡ (a && (b && (c && d)))
-left_grouped true b c d = left_rest b where
-  left_rest : (e : Bool) → ((e && c) && d) ≡ (e && (c && d))
-  left_rest true = refl
-  left_rest false = refl
-left_grouped false b c d = refl
-
 -- two places as they are kept are the same in all their parts
 same_kept : (x y : Place) → (place_eq.ghosts).eq x y ≡ (x.path == y.path && (x.line == y.line && (x.from == y.from && x.to == y.to)))
-same_kept x y = search (rules, left_grouped)
+same_kept x y = search rules
 
 -- a test of places answers as the test of their occurrences
 pub any_kept : {P : Type 0} (of : Occurrence → P) (test : P → Bool) (xs : List Occurrence) → list_any test (map of xs) ≡ list_any (λ x. test (of x)) xs

@@ -1,9 +1,8 @@
 -- What references are.
-use Rattle.std.proofs.Common.{◌≡◌, ◌↔◌, ℕ, suc, zero, ◌<◌, Bool, true, false, cond, ◌&&◌, ◌||◌, not, List, [], ◌∷◌, length, get_or, filter, find, Contains, All, Option, Some, None, refl, ap, sym, ◌∙◌, arith}
+use Rattle.std.proofs.Common.{◌≡◌, ◌↔◌, ℕ, suc, zero, ◌<◌, Bool, true, false, cond, ◌&&◌, ◌||◌, not, List, [], ◌∷◌, length, get_or, filter, find, Contains, All, Option, Some, None, refl, sym, ◌∙◌, arith}
 use Rattle.std.proofs.lemmas.List.Elements.{filter_passes}
 use Rattle.hl_base.specs.declared.edit.Position.{Position}
 use Rattle.document_store.specs.Store.{Store}
-use Rattle.lsp_messages.specs.declared.outgoing.SymbolAnswer.{SymbolAnswer}
 use Rattle.lsp_messages.specs.declared.outgoing.SymbolAnswer.TheVariants.{Nothing}
 use Rattle.trace_values.specs.declared.occurrence.Entity.{Entity}
 use Rattle.trace_values.specs.declared.occurrence.Occurrence.{Occurrence}

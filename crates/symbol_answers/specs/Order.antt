@@ -1,5 +1,5 @@
 -- The order in which references are shown: by the bytes of their paths' texts, then by line, then by column (this project).
-use Rattle.std.specs.Prelude.{ℕ, Bool, List, [], ◌∷◌, encode_utf8_all, min, slice_index_or, if◌then◌else◌}
+use Rattle.std.specs.Prelude.{ℕ, Bool, List, [], ◌∷◌, encode_utf8_all, slice_index_or, if◌then◌else◌}
 use Rattle.std.specs.Ordering.{nat_cmp, ordering_then, is_lt}
 use Rattle.std.specs.Cmp.Lexicographic.{slice_cmp}
 use Rattle.std.specs.declared.cmp.Ordering.{Ordering}

@@ -1,5 +1,5 @@
 //! The text in which places stand.
-ghost use Rattle.std.specs.Prelude.{◌≡◌, IfOk, OnOk, OnErr};
+ghost use Rattle.std.specs.Prelude.{◌≡◌, IfOk, OnOk};
 ghost use Rattle.text_sites.specs.Sites.{site_at};
 ghost use Rattle.symbol_answers.specs.Seen.{seen};
 ghost use Rattle.symbol_answers.specs.Answers.{location_in};

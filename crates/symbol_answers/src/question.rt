@@ -29,7 +29,6 @@ fn at_place(occurrences: &[Occurrence], path: PathId, place: (u32, u32)) -> Opti
 }
 
 /// The line and the column that a position means in the text that is present at a path.
-#[tactic(auto, using(crate::proofs::PresentLaws::text_is_present, crate::proofs::PresentLaws::column_told, crate::proofs::PresentLaws::unreadable_told, crate::proofs::PresentLaws::nothing_told))]
 fn place_asked(store: &DocumentStore, path: PathId, at: Position) -> Option<(u32, u32)>
     ensures { result ≡ questions.place_asked store.now.store path.0 at }
 {

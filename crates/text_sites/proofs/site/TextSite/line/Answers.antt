@@ -1,4 +1,4 @@
-use Rattle.std.proofs.Common.{◌≡◌, ◌≤◌, ◌∙◌, ℕ, List, [], Bor, length, get_or, ap, subst}
+use Rattle.std.proofs.Common.{◌≤◌, ◌∙◌, ℕ, List, [], Bor, length, get_or, ap, subst}
 use Rattle.std.specs.Str.{chars}
 use Rattle.document_store.specs.Positions.{line_of}
 use Rattle.text_sites.specs.Lines.{characters_of}
