@@ -102,6 +102,31 @@ fn push_member(field: &str, found: &mut WrittenNames) -> Result<(), OutOfMemory>
     )
 }
 
+/// Adds the names in a field whose operands are read where it has no ampersand.
+fn push_read(
+    alloc: Global,
+    used: OperandUse,
+    field: &str,
+    found: &mut WrittenNames,
+) -> Result<(), OutOfMemory>
+    ensures { OnOk result (found.new ≡ found.old ++ operands.read_names used (chars field.now)) }
+{
+    if has_ampersand(field) {
+        return push_variables(Field::Operands, field, found);
+    }
+    push_operands(alloc, used, field, found)
+}
+
+/// Adds the names in the field of a COPY.
+fn push_copied(field: &str, found: &mut WrittenNames) -> Result<(), OutOfMemory>
+    ensures { OnOk result (found.new ≡ found.old ++ operands.copied_name (chars field.now)) }
+{
+    if has_ampersand(field) {
+        return push_variables(Field::Operands, field, found);
+    }
+    push_member(field, found)
+}
+
 /// Adds the names in an operand field.
 pub(crate) fn push_field(
     alloc: Global,
@@ -114,11 +139,10 @@ pub(crate) fn push_field(
     match used {
         OperandUse::Remarks => Ok(()),
         OperandUse::Unread => push_variables(Field::Operands, field, found),
+        OperandUse::Expressions => push_read(alloc, used, field, found),
+        OperandUse::Constants => push_read(alloc, used, field, found),
+        OperandUse::Instruction => push_read(alloc, used, field, found),
         OperandUse::Branches => push_operands(alloc, used, field, found),
-        _ if has_ampersand(field) => push_variables(Field::Operands, field, found),
-        OperandUse::Member => push_member(field, found),
-        OperandUse::Expressions | OperandUse::Constants | OperandUse::Instruction => {
-            push_operands(alloc, used, field, found)
-        }
+        OperandUse::Member => push_copied(field, found),
     }
 }
