@@ -78,6 +78,7 @@ fn push_each(used: OperandUse, texts: &[Text], found: &mut WrittenNames) -> Resu
 }
 
 /// Adds the names that an operation reads in the operands of a field.
+#[tactic(auto, unfolding(crate::specs::Operands::operands_names))]
 fn push_operands(
     alloc: Global,
     used: OperandUse,
@@ -103,6 +104,7 @@ fn push_member(field: &str, found: &mut WrittenNames) -> Result<(), OutOfMemory>
 }
 
 /// Adds the names in a field whose operands are read where it has no ampersand.
+#[tactic(auto, unfolding(crate::specs::Operands::read_names))]
 fn push_read(
     alloc: Global,
     used: OperandUse,
@@ -118,6 +120,7 @@ fn push_read(
 }
 
 /// Adds the names in the field of a COPY.
+#[tactic(auto, unfolding(crate::specs::Operands::copied_name))]
 fn push_copied(field: &str, found: &mut WrittenNames) -> Result<(), OutOfMemory>
     ensures { OnOk result (found.new ≡ found.old ++ operands.copied_name (chars field.now)) }
 {
