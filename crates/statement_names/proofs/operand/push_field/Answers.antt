@@ -17,11 +17,11 @@ returns-in-Expressions c =
 
 pub returns-in-Constants : goal.returns-in-Constants
 returns-in-Constants c =
-    pushed-same c.push_read-2.result c.args.found.now c.push_read-2.new.found _ _ (field-constants c.args.used (chars c.args.field.now) c.in-Constants.is) c.push_read-2.ensures
+    pushed-same c.push_read-in-Constants.result c.args.found.now c.push_read-in-Constants.new.found _ _ (field-constants c.args.used (chars c.args.field.now) c.in-Constants.is) c.push_read-in-Constants.ensures
 
 pub returns-in-Instruction : goal.returns-in-Instruction
 returns-in-Instruction c =
-    pushed-same c.push_read-3.result c.args.found.now c.push_read-3.new.found _ _ (field-instruction c.args.used (chars c.args.field.now) c.in-Instruction.is) c.push_read-3.ensures
+    pushed-same c.push_read-in-Instruction.result c.args.found.now c.push_read-in-Instruction.new.found _ _ (field-instruction c.args.used (chars c.args.field.now) c.in-Instruction.is) c.push_read-in-Instruction.ensures
 
 pub returns-in-Branches : goal.returns-in-Branches
 returns-in-Branches c =
