@@ -70,8 +70,9 @@ fn push_each(used: OperandUse, texts: &[Text], found: &mut WrittenNames) -> Resu
 {
     let mut at: u32 = 0;
     for text in texts {
-        let next = next_place(at, text.as_str())?;
-        push_operand(used, at, text.as_str(), found)?;
+        let operand = text.as_str();
+        let next = next_place(at, operand)?;
+        push_operand(used, at, operand, found)?;
         at = next;
     }
     Ok(())

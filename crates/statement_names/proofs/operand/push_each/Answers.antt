@@ -8,8 +8,8 @@ pub loop-text-preserved : goal.loop-text-preserved
 loop-text-preserved c =
     operands-more c.args.used c.loop-text.at c.in_ok-next.next c.loop-text.found c.push_operand.new.found c.args.texts.now c.loop-text.text-index c.text-item.result _
     c.loop-text.invariant c.loop-text-test.true c.text-item.is
-    (c.in_ok-push_operand.ensures ∙ ap (λ t. c.loop-text.found ++ operand_names c.args.used c.loop-text.at t) c.as_str-2.ensures.characters)
-    (c.in_ok-next.ensures ∙ ap (λ t. c.loop-text.at + length t + 1) c.as_str.ensures.characters)
+    (c.in_ok-push_operand.ensures ∙ ap (λ t. c.loop-text.found ++ operand_names c.args.used c.loop-text.at t) c.as_str-operand.ensures.characters)
+    (c.in_ok-next.ensures ∙ ap (λ t. c.loop-text.at + length t + 1) c.as_str-operand.ensures.characters)
 
 pub returns : goal.returns
 returns c =
