@@ -4,3 +4,4 @@ pub mod ScanLaws
 pub mod GroupLaws
 pub mod ConstantLaws
 pub mod OperandLaws
+pub mod FieldLaws

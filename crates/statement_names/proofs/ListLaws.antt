@@ -15,3 +15,9 @@ pushed-same r old new one other same pushed = on_ok_weaker r (λ grows. grows �
 -- nothing was added
 pub pushed-none : {X : Type 0} (old new one : List X) → new ≡ old → one ≡ [] → new ≡ old ++ one
 pushed-none old new one same none = same ∙ sym (append-nil old) ∙ ap (λ l. old ++ l) (sym none)
+
+-- three lists were added to none
+pub pushed-three : {X : Type 0} (none first second third one two three : List X) → none ≡ [] → first ≡ none ++ one → second ≡ first ++ two → third ≡ second ++ three →
+    third ≡ one ++ two ++ three
+pushed-three none first second third one two three is_none is_first is_second is_third =
+    is_third ∙ ap (λ l. l ++ three) (is_second ∙ ap (λ l. l ++ two) (is_first ∙ ap (λ l. l ++ one) is_none))

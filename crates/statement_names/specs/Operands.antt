@@ -42,23 +42,27 @@ each_operand used at [] = []
 each_operand used at (text ∷ texts) = operand_names used at text ++ each_operand used (at + length text + 1) texts
 
 -- those in the operands of a field
-abbrev pub operands_names : OperandUse → List ℕ → List WrittenName
+unfoldable pub operands_names : OperandUse → List ℕ → List WrittenName
 operands_names used field = each_operand used 0 (operands_of field)
 
 -- a member: all of a field
 abbrev pub member_name : List ℕ → List WrittenName
 member_name field = stands Operands 0 (named kind.Member (length field) (name_of field))
 
--- the names in a field by whether it has an ampersand: with one it has neither symbols nor a member
-abbrev pub names_by : (varying : Bool) → OperandUse → List ℕ → List WrittenName
-names_by varying Remarks field = []
-names_by varying Unread field = variables Operands field
-names_by varying Expressions field = if varying then variables Operands field else operands_names Expressions field
-names_by varying Constants field = if varying then variables Operands field else operands_names Constants field
-names_by varying Instruction field = if varying then variables Operands field else operands_names Instruction field
-names_by varying Branches field = operands_names Branches field
-names_by varying Member field = if varying then variables Operands field else member_name field
+-- a field whose operands are read has none of the names that are read where it has an ampersand, and its variable symbols
+unfoldable pub read_names : OperandUse → List ℕ → List WrittenName
+read_names used field = if has_ampersand field then variables Operands field else operands_names used field
+
+-- the field of a COPY
+unfoldable pub copied_name : List ℕ → List WrittenName
+copied_name field = if has_ampersand field then variables Operands field else member_name field
 
 -- the names in an operand field
 unfoldable pub field_names : OperandUse → List ℕ → List WrittenName
-field_names used field = names_by (has_ampersand field) used field
+field_names Remarks field = []
+field_names Unread field = variables Operands field
+field_names Expressions field = read_names Expressions field
+field_names Constants field = read_names Constants field
+field_names Instruction field = read_names Instruction field
+field_names Branches field = operands_names Branches field
+field_names Member field = copied_name field

@@ -70,14 +70,16 @@ fn push_each(used: OperandUse, texts: &[Text], found: &mut WrittenNames) -> Resu
 {
     let mut at: u32 = 0;
     for text in texts {
-        let next = next_place(at, text.as_str())?;
-        push_operand(used, at, text.as_str(), found)?;
+        let operand = text.as_str();
+        let next = next_place(at, operand)?;
+        push_operand(used, at, operand, found)?;
         at = next;
     }
     Ok(())
 }
 
 /// Adds the names that an operation reads in the operands of a field.
+#[tactic(auto, unfolding(crate::specs::Operands::operands_names))]
 fn push_operands(
     alloc: Global,
     used: OperandUse,
@@ -102,6 +104,33 @@ fn push_member(field: &str, found: &mut WrittenNames) -> Result<(), OutOfMemory>
     )
 }
 
+/// Adds the names in a field whose operands are read where it has no ampersand.
+#[tactic(auto, unfolding(crate::specs::Operands::read_names))]
+fn push_read(
+    alloc: Global,
+    used: OperandUse,
+    field: &str,
+    found: &mut WrittenNames,
+) -> Result<(), OutOfMemory>
+    ensures { OnOk result (found.new ≡ found.old ++ operands.read_names used (chars field.now)) }
+{
+    if has_ampersand(field) {
+        return push_variables(Field::Operands, field, found);
+    }
+    push_operands(alloc, used, field, found)
+}
+
+/// Adds the names in the field of a COPY.
+#[tactic(auto, unfolding(crate::specs::Operands::copied_name))]
+fn push_copied(field: &str, found: &mut WrittenNames) -> Result<(), OutOfMemory>
+    ensures { OnOk result (found.new ≡ found.old ++ operands.copied_name (chars field.now)) }
+{
+    if has_ampersand(field) {
+        return push_variables(Field::Operands, field, found);
+    }
+    push_member(field, found)
+}
+
 /// Adds the names in an operand field.
 pub(crate) fn push_field(
     alloc: Global,
@@ -114,11 +143,10 @@ pub(crate) fn push_field(
     match used {
         OperandUse::Remarks => Ok(()),
         OperandUse::Unread => push_variables(Field::Operands, field, found),
+        OperandUse::Expressions => push_read(alloc, used, field, found),
+        OperandUse::Constants => push_read(alloc, used, field, found),
+        OperandUse::Instruction => push_read(alloc, used, field, found),
         OperandUse::Branches => push_operands(alloc, used, field, found),
-        _ if has_ampersand(field) => push_variables(Field::Operands, field, found),
-        OperandUse::Member => push_member(field, found),
-        OperandUse::Expressions | OperandUse::Constants | OperandUse::Instruction => {
-            push_operands(alloc, used, field, found)
-        }
+        OperandUse::Member => push_copied(field, found),
     }
 }

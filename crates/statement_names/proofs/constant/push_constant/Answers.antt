@@ -12,4 +12,4 @@ returns c =
     pushed-same c.push_behind_factor.result c.args.found.now c.push_behind_factor.new.found (behind_amount c.in_ok-count.count c.args.at all) _
     (ap (λ n. behind_amount n c.args.at all) c.in_ok-count.ensures)
     (push-then behind_factor c.push_behind_factor.result c.args.found.now c.push_symbols.new.found c.push_behind_factor.new.found c.in_ok-count.count c.args.at c.in_ok-next.next
-    all _ _ c.in_ok-next.ensures c.before.ensures c.behind.ensures c.in_ok-push_symbols.ensures c.push_behind_factor.ensures)
+    all _ _ c.in_ok-next.ensures c.before-2.ensures c.behind.ensures c.in_ok-push_symbols.ensures c.push_behind_factor.ensures)
