@@ -9,7 +9,7 @@ use trace_values::{Reloc, SectionId};
 /// How many registers there are.
 pub const REGISTERS: usize = 16;
 
-/// The ranges in force: at most one for each register. Contracts see the list of the registers' ranges.
+/// The ranges in force: at most one for each of the registers. Contracts see the list of the registers' ranges.
 #[derive(Drop)]
 pub struct Ranges {
     held: [Option<Range>; REGISTERS],
@@ -30,7 +30,8 @@ impl Model for Ranges {
 impl Ranges {
     /// No register has a range.
     pub fn new() -> Ranges
-        ensures { (register : ℕ) → range_at result register ≡ None }
+        ensures none { (register : ℕ) → range_at result register ≡ None }
+        ensures all { length result ≡ REGISTERS }
     {
         Ranges {
             held: [None; REGISTERS],
@@ -41,7 +42,8 @@ impl Ranges {
     /// at the base. They cover nothing at the end or behind it, if there is one.
     pub fn using(&mut self, base: Reloc, end: Option<i32>, registers: &[u8])
         requires { All (λ r. r < REGISTERS) registers.now }
-        ensures { IsUsing self.old self.new base.section base.value end registers.now }
+        ensures ranges { IsUsing self.old self.new base.section base.value end registers.now }
+        ensures all { length self.new ≡ REGISTERS }
     {
         for (pages, register) in registers.iter().enumerate() {
             self.held[*register as usize] = Some(Range {
@@ -58,6 +60,7 @@ impl Ranges {
     pub fn drop_regs(&mut self, registers: &[u8]) -> u16
         requires { All (λ r. r < REGISTERS) registers.now }
         ensures ranges { IsDropped self.old self.new registers.now }
+        ensures all { length self.new ≡ REGISTERS }
         ensures unused { result ≡ mask_of (λ r. is_among r registers.now && is_unused self.old r) REGISTERS }
     {
         let unused = self.unused(registers);
