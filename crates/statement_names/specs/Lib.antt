@@ -1,0 +1,7 @@
+pub mod Names
+pub mod Uses
+pub mod Constants
+pub mod Operands
+pub mod Statements
+pub mod Spans
+pub mod Scans
