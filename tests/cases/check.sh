@@ -21,6 +21,7 @@ program_of() {
         attributes | defining_operations) echo attribute_cases ;;
         constants | literals | layout_statements | layout) echo layout_cases ;;
         expression_notes | symbol_definitions | constant_expressions) echo layout_cases ;;
+        machine_operands | operand_checks) echo operand_cases ;;
         declarations | branches | templates | field_ends | operations | effects | calls) echo statement_cases ;;
         expansions) echo expansion_cases ;;
         prototypes | bindings | parameter_values) echo definition_cases ;;
