@@ -23,6 +23,7 @@ program_of() {
         expression_notes | symbol_definitions | constant_expressions) echo layout_cases ;;
         using_statements) echo using_cases ;;
         statement_names) echo name_cases ;;
+        machine_operands | operand_checks) echo operand_cases ;;
         declarations | branches | templates | field_ends | operations | effects | calls) echo statement_cases ;;
         expansions) echo expansion_cases ;;
         prototypes | bindings | parameter_values) echo definition_cases ;;
