@@ -22,7 +22,6 @@ program_of() {
         constants | literals | layout_statements | layout) echo layout_cases ;;
         expression_notes | symbol_definitions | constant_expressions) echo layout_cases ;;
         statement_names) echo name_cases ;;
-        using_statements | statement_checks) echo layout_cases ;;
         statement_checks) echo layout_cases ;;
         using_statements) echo using_cases ;;
         machine_operands | operand_checks) echo operand_cases ;;
