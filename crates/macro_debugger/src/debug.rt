@@ -1,5 +1,5 @@
 //! A walk and its steps.
-ghost use Rattle.std.specs.Prelude.{◌≡◌, ◌<◌, Some, drop, slice_get, IfOk, IfSome, IsSome, OnOk, OnErr};
+ghost use Rattle.std.specs.Prelude.{◌≡◌, ◌<◌, [], Some, drop, slice_get, IfOk, IfSome, IsSome, OnOk, OnErr};
 ghost use Rattle.std.specs.Option.{ForSome};
 ghost use Rattle.trace_arena.specs.Points.{points};
 ghost use Rattle.trace_cursor.specs.Places.{StandsAt};
@@ -77,6 +77,13 @@ impl Debug {
         ensures refused { OnErr result (self.new ≡ self.old) }
     {
         self.breakpoints.set(alloc, path, lines)
+    }
+
+    /// No breakpoint is set any more. It takes no memory.
+    pub fn clear_breakpoints(&mut self)
+        ensures { self.new ≡ record self.old { breakpoints = [] } }
+    {
+        self.breakpoints = Breakpoints::none();
     }
 
     /// How deep the place is.

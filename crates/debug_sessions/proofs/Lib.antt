@@ -1,0 +1,10 @@
+pub mod PlaceLemmas
+pub mod StopLemmas
+pub mod WalkLemmas
+pub mod NumberLemmas
+pub mod LawLemmas
+pub mod TraceLemmas
+pub mod OtherLemmas
+pub mod FrameLemmas
+pub mod DoneLemmas
+pub mod SessionLemmas

@@ -1,0 +1,11 @@
+pub mod Places
+pub mod Launches
+pub mod State
+pub mod Stops
+pub mod Shown
+pub mod Refusals
+pub mod Answers
+pub mod Inside
+pub mod Written
+pub mod Done
+pub mod Laws
