@@ -16,7 +16,7 @@ import time
 HERE = os.path.dirname(os.path.realpath(__file__))
 PAGE = os.path.join(HERE, "README.md")
 BEGIN, END = "<!-- figures, written by make bench -->\n", "<!-- end of the figures -->\n"
-SCRIPTS = ["statements.sh", "expressions.sh", "edits.sh", "session.sh", "definitions.sh", "open_code.sh", "macros.sh", "library.sh", "lookahead.sh", "layout.sh", "memo.sh"]
+SCRIPTS = ["statements.sh", "expressions.sh", "edits.sh", "session.sh", "definitions.sh", "open_code.sh", "macros.sh", "library.sh", "lookahead.sh", "layout.sh", "checks.sh", "memo.sh"]
 # More than so much of the processors' time in use: the figures would be those of a busy machine.
 MOST_BUSY = 0.05
 
@@ -93,6 +93,7 @@ ROWS = [
         r"ms, without ([\d.]+):", most=1.3),
     Row("layout.sh", "50,000 statements with 5,000 literals laid out", r"literals: laid out in ([\d.]+) ms", "ms", most=40),
     Row("layout.sh", "10,000 EQUs, each of the next one", r"of the next one: laid out in ([\d.]+) ms", "ms", most=50),
+    Row("checks.sh", "50,000 statements over four ranges checked", r"ranges: checked in ([\d.]+) ms", "ms", most=25),
     Row("macros.sh", "10,000 calls of a macro with a counter and a constant", r"(?m)^10000 calls: (\d+) ms", "ms", "GNU as: 70 ms",
         most=70),
     Row("macros.sh", "100,000 such calls", r"(?m)^100000 calls: (\d+) ms", "ms", "GNU as: 980 ms", most=980),

@@ -21,6 +21,7 @@ program_of() {
         attributes | defining_operations) echo attribute_cases ;;
         constants | literals | layout_statements | layout) echo layout_cases ;;
         expression_notes | symbol_definitions | constant_expressions) echo layout_cases ;;
+        statement_checks) echo layout_cases ;;
         using_statements) echo using_cases ;;
         statement_names) echo name_cases ;;
         machine_operands | operand_checks) echo operand_cases ;;

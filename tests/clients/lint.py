@@ -137,6 +137,14 @@ class Lint(unittest.TestCase):
                 self.assertIn(f"```json\n{file.read()}```\n", page)
         self.assertEqual((1, wanted, ""), lint(*words, folder=TOP))
 
+    def test_the_example_with_an_address_that_is_not_covered(self):
+        """What is listed of it stands in the page for users."""
+        with open(os.path.join(TOP, "tests/clients/bases.txt"), encoding="utf-8") as file:
+            wanted = file.read().splitlines()
+        with open(os.path.join(TOP, "docs/USER.md"), encoding="utf-8") as file:
+            self.assertIn("".join(f"    {line}\n" for line in wanted), file.read())
+        self.assertEqual((1, wanted, ""), lint("examples/bases.hlasm", folder=TOP))
+
     def test_where_a_report_arose(self):
         """In the forms for programs, as in lines: the file from the current folder, the line, and what stands there."""
         words = ["--root", "examples/library", "examples/library/totals.hlasm"]

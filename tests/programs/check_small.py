@@ -23,7 +23,7 @@ import urllib.parse
 HERE = os.path.dirname(os.path.realpath(__file__))
 LINT = os.path.normpath(os.path.join(HERE, "../../clients/hlasm-lint"))
 BUILT = os.path.normpath(os.path.join(HERE, "../../crates/hlasm_ls/out/hlasm_ls"))
-TABLES = ["open_code", "macros", "members", "attributes", "layout"]
+TABLES = ["open_code", "macros", "members", "attributes", "layout", "operands"]
 
 
 SETTINGS = {

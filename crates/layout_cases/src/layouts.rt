@@ -1,9 +1,11 @@
 //! Layouts of statements.
+use crate::rows::push_row;
 use hl_base::{Frames, Line, OutOfMemory, Text};
 use note_rows::{Row, note};
 use ordinary_symbols::Symbols;
 use section_layout::{Layout, StatementLayout, lay_out};
 use section_table::Place;
+use statement_checks::check_statements;
 use std::alloc::{AllocError, Global};
 use trace_values::{Reloc, Section};
 
@@ -57,12 +59,18 @@ fn lines(alloc: Global, text: &str) -> Result<Vec<Line>, OutOfMemory> {
     Ok(lines)
 }
 
-/// Their layout.
-fn layout(alloc: Global, lines: &[Line]) -> Result<Layout, OutOfMemory> {
+/// The same lines, lent.
+fn lent(alloc: Global, lines: &[Line]) -> Result<Vec<&Line>, OutOfMemory> {
     let mut lent = Vec::new(alloc);
     for line in lines {
         lent.push(line)?;
     }
+    Ok(lent)
+}
+
+/// Their layout.
+fn layout(alloc: Global, lines: &[Line]) -> Result<Layout, OutOfMemory> {
+    let lent = lent(alloc, lines)?;
     lay_out(alloc, lent.as_slice())
 }
 
@@ -227,4 +235,23 @@ pub fn laid_out(alloc: Global, word: &str, text: &str) -> Result<String, OutOfMe
         Shown::Sections => sections(alloc, layout.sections.as_slice()),
         Shown::Literals => literals(alloc, &layout),
     }
+}
+
+/// What is said of each statement of which something is said, once it is laid out and checked: its number from 0, and the rows.
+pub fn checked(alloc: Global, text: &str) -> Result<String, OutOfMemory> {
+    let lines = lines(alloc, text)?;
+    let lent = lent(alloc, lines.as_slice())?;
+    let mut layout = lay_out(alloc, lent.as_slice())?;
+    check_statements(alloc, lent.as_slice(), &mut layout)?;
+    let mut words = String::new(alloc);
+    for (at, statement) in layout.statements.iter().enumerate() {
+        if !statement.rows.is_empty() {
+            let number = format!(in alloc; "{at}:")?;
+            push(&mut words, number.as_str())?;
+            for row in &statement.rows {
+                push_row(alloc, row, &mut words)?;
+            }
+        }
+    }
+    Ok(words)
 }

@@ -1,4 +1,4 @@
-//! Compares tables of cases with what the crates answer that lay out statements: `layout_cases TABLE` reads the cases of one
+//! Compares tables of cases with what the crates answer that lay out statements and check them: `layout_cases TABLE` reads the cases of one
 //! table from standard input, prints each whose answer differs, and at the end `N passed, M failed`.
 //!
 //! tests/cases/README.md says what each table reads. What the crates promise stands on their own functions; here is only

@@ -21,6 +21,8 @@ pub enum Table {
     LayoutStatements,
     /// The layout of generated statements.
     Layout,
+    /// What is said of generated statements that are laid out and checked.
+    StatementChecks,
 }
 
 impl CaseTable for Table {
@@ -33,6 +35,7 @@ impl CaseTable for Table {
             "literals" => Some(Table::Literals),
             "layout_statements" => Some(Table::LayoutStatements),
             "layout" => Some(Table::Layout),
+            "statement_checks" => Some(Table::StatementChecks),
             _ => None,
         }
     }
@@ -68,6 +71,7 @@ impl CaseTable for Table {
             (Table::Layout, [shown, statements]) => {
                 layouts::laid_out(alloc, shown.as_str(), statements.as_str())
             }
+            (Table::StatementChecks, [statements]) => layouts::checked(alloc, statements.as_str()),
             _ => Ok(String::from_str(alloc, "of other fields than the table's")?),
         }
     }

@@ -1,4 +1,5 @@
--- The statements that a run generated, and what is noted of its points with what layout says of these statements (this project).
+-- The statements that a run generated, and what is noted of its points with what layout and the operand checks say of these
+-- statements (this project).
 use Rattle.std.specs.Prelude.{ℕ, ◌+◌, List, [], ◌∷◌, ◌++◌, map, length, Option, Some, None}
 use Rattle.std.specs.List.{flat_map}
 use Rattle.hl_base.specs.declared.note.Note.{Note}
@@ -9,7 +10,8 @@ use Rattle.note_rows.specs.declared.row.Row.{Row}
 use Rattle.trace_values.specs.declared.item.TraceItem.{TraceItem}
 use Rattle.trace_arena.specs.Points.{Point}
 use Rattle.trace_cursor.specs.Stacks.{stack_of}
-use Rattle.section_layout.specs.Layout.{layout_of, rows_of}
+use Rattle.section_layout.specs.Layout.{Layout, layout_of, rows_of}
+use Rattle.statement_checks.specs.Programs.{checked}
 use Rattle.program_assembly.specs.PointNotes.{point_notes}
 
 -- the statement that an item has, if it generated one
@@ -44,6 +46,10 @@ noted_points path said before [] = []
 noted_points path said before (point ∷ points) =
     noted_point path said before point ++ noted_points path said (before + length (own_line point)) points
 
--- the notes of the points of a run, with what layout says of the statements that it generated
+-- the layout of some statements, with what the operand checks say of each behind what layout says of it
+abbrev pub checked_layout : List Line → Layout
+checked_layout lines = checked lines (layout_of lines)
+
+-- the notes of the points of a run, with what layout and the operand checks say of the statements that it generated
 abbrev pub all_noted : (path : ℕ) → List (Point TraceItem) → List Note
-all_noted path points = noted_points path (rows_of (layout_of (generated points))) 0 points
+all_noted path points = noted_points path (rows_of (checked_layout (generated points))) 0 points

@@ -10,6 +10,7 @@
 
 mod assembler;
 mod assembly;
+mod checked_layout;
 mod column_notes;
 mod end_notes;
 mod notes;

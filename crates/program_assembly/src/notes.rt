@@ -5,6 +5,7 @@ ghost use Rattle.trace_arena.specs.Nodes.{IsLive};
 ghost use Rattle.program_assembly.specs.Notes.{notes_of};
 ghost use Rattle.program_assembly.specs.Runs.{ran_of};
 
+use crate::checked_layout::lay_out_and_check;
 use crate::column_notes::{add_column_notes, last_line};
 use crate::end_notes::add_end_notes;
 use crate::point_notes::add_point_notes;
@@ -12,7 +13,6 @@ use crate::statements::generated;
 use expansion_memo::Outcome;
 use hl_base::{Frames, Notes, OutOfMemory, PathId};
 use hlasm_statements::read_statements;
-use section_layout::lay_out;
 use std::alloc::Global;
 use trace_arena::TraceArena;
 use trace_values::TraceItem;
@@ -34,7 +34,7 @@ pub(crate) fn notes_of(
     add_column_notes(alloc, path, statements, &mut notes)?;
     let lines = generated(alloc, arena, outcome.node)?;
     let lines = lines.as_slice();
-    let layout = lay_out(alloc, lines)?;
+    let layout = lay_out_and_check(alloc, lines)?;
     add_point_notes(alloc, path, arena, outcome.node, &layout, &mut notes)?;
     add_end_notes(
         alloc,

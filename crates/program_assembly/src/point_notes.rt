@@ -160,7 +160,7 @@ fn add_rows(
     Ok(())
 }
 
-/// What layout says of the statement of an item, by the number of the statement, if the item generated one.
+/// What the layout says of the statement of an item, by the number of the statement, if the item generated one.
 fn said_of<'a>(layout: &'a Layout, statement: u32, item: &TraceItem) -> &'a [Row]
     ensures { result.now ≡ said_of (rows_of (layout_view layout.now)) statement item.now.line }
 {

@@ -9,20 +9,24 @@ use Rattle.note_rows.specs.declared.row.Row.{Row}
 use Rattle.ordinary_symbols.specs.Rounds.{resolved}
 use Rattle.ordinary_symbols.specs.Table as symbols
 use Rattle.section_table.specs.declared.table.Place.{Place}
+use Rattle.trace_values.specs.declared.section.Reloc.{Reloc}
 use Rattle.trace_values.specs.declared.section.Section.{Section}
 use Rattle.section_steps.specs.Pools.{last_behind, said_of_last}
-use Rattle.section_steps.specs.States.{State, nothing_yet}
+use Rattle.section_steps.specs.States.{State, Left, nothing_yet}
 use Rattle.section_layout.specs.Rows as notes
 use Rattle.section_layout.specs.SectionLists.{sections_of}
 use Rattle.section_layout.specs.Walks.{Met, all_met, all_behind, also_said_of_last}
 
--- a statement: where it stands and how many bytes it takes, its literals, how many symbols there are behind it, and what is said
+-- a statement: where it stands and how many bytes it takes, the value of `*`, its literals, how many symbols there are behind it,
+-- what is said, and of which expressions it was said
 pub record Statement : Type 0 where
   pub place : Option Place
   pub bytes : ℕ
+  pub here : Option Reloc
   pub uses : List (Option LiteralUse)
   pub symbols : ℕ
   pub rows : List Row
+  pub left : Left
 
 pub record Layout : Type 0 where
   pub statements : List Statement
@@ -35,9 +39,11 @@ unfoldable pub judged : symbols.Table → Met → Statement
 judged table one = record {
   place = one.laid.place;
   bytes = one.laid.bytes;
+  here = one.laid.here;
   uses = one.laid.uses;
   symbols = one.symbols;
   rows = notes.rows table one.laid;
+  left = one.laid.left;
 }
 
 -- the layout of statements that were met, with what there is behind them

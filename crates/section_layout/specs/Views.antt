@@ -4,7 +4,7 @@ use Rattle.std.specs.Borrow.{Bor}
 use Rattle.hl_base.specs.declared.set.Line.{Line}
 use Rattle.literal_places.specs.Shown.{literals_of}
 use Rattle.ordinary_symbols.specs.Shown.{table_of}
-use Rattle.section_steps.specs.Views.{laid_of}
+use Rattle.section_steps.specs.Views.{laid_of, left_of}
 use Rattle.section_layout.specs.declared.walk.Met as met
 use Rattle.section_layout.specs.declared.layout.Layout as layout
 use Rattle.section_layout.specs.declared.layout.StatementLayout as statement
@@ -22,9 +22,11 @@ abbrev pub statement_of : statement.StatementLayout → spec.Statement
 statement_of one = record {
   place = one.place;
   bytes = one.bytes;
+  here = one.here;
   uses = one.uses.items;
   symbols = one.symbols;
   rows = one.rows.items;
+  left = left_of one.left;
 }
 
 abbrev pub layout_view : layout.Layout → spec.Layout

@@ -58,9 +58,11 @@ fn judge(symbols: &Symbols, one: Met) -> Result<StatementLayout, OutOfMemory>
     Ok(StatementLayout {
         place,
         bytes,
+        here,
         uses,
         symbols: behind,
         rows,
+        left,
     })
 }
 

@@ -11,16 +11,14 @@ use hl_base::{Line, OutOfMemory};
 use literal_places::{LiteralUse, Literals};
 use note_rows::Row;
 use ordinary_symbols::Symbols;
-use section_steps::State;
+use section_steps::{Left, State};
 use section_table::Place;
 use std::alloc::Global;
 use std::collections::VecDeque;
-use trace_values::Sections;
+use trace_values::{Reloc, Sections};
 
-/// A statement that is laid out.
-///
-/// Operand checks need the value of `*` in machine instructions and in USING, which is `place`, and the symbols of the layout.
-/// Which of these are defined before the statement is told by the number behind the statement before it.
+/// A statement that is laid out. Which of the layout's symbols are defined before it is told by the number behind the statement
+/// before it.
 #[derive(Drop)]
 pub struct StatementLayout {
     /// Where it stands, if there is a section by then: ORG and the statements of sections where they lead, all others where they are
@@ -28,12 +26,16 @@ pub struct StatementLayout {
     pub place: Option<Place>,
     /// How many bytes it takes from there on.
     pub bytes: u32,
+    /// The value of `*` in its operands, if there is a section by then.
+    pub here: Option<Reloc>,
     /// Of each literal of its operands, in order, which one of the layout's literals it is; none for one that was refused.
     pub uses: Vec<Option<LiteralUse>>,
     /// How many symbols there are behind it: it defines those from the number of the statement before it on.
     pub symbols: usize,
     /// What is said of it: of its place, and then of symbols.
     pub rows: Vec<Row>,
+    /// What was judged when all symbols were known: of DC and DS the operands that could be read.
+    pub left: Left,
 }
 
 /// The layout of generated lines, with a statement for each.

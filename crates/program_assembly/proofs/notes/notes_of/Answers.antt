@@ -4,10 +4,10 @@ use Rattle.std.specs.Str.{chars}
 use Rattle.hl_base.specs.Texts.{lines}
 use Rattle.note_rows.specs.declared.row.Row.TheVariants.{MissingEnd}
 use Rattle.hl_base.specs.declared.set.Line.{Line}
-use Rattle.section_layout.specs.Layout.{Layout, layout_of, rows_of}
+use Rattle.section_layout.specs.Layout.{Layout, rows_of}
 use Rattle.section_layout.specs.Views.{layout_view, lines_of}
 use Rattle.program_assembly.specs.ColumnNotes.{note_at, fault_notes, column_notes}
-use Rattle.program_assembly.specs.Statements.{generated, noted_points, all_noted}
+use Rattle.program_assembly.specs.Statements.{checked_layout, generated, noted_points, all_noted}
 use Rattle.program_assembly.specs.Notes.{end_notes_by}
 use Rattle.program_assembly.specs.Runs.{ran_of}
 use Rattle.program_assembly.proofs.LineLaws.{last_of_text}
@@ -23,10 +23,10 @@ returns c =
     let last : c.last_line.result ≡ length (lines text) - 1 = last_of_text text statements c.last_line.result here c.last_line.ensures in
     let columns : c.add_column_notes.new.notes ≡ column_notes path text =
     c.in_ok-add_column_notes.ensures ∙ ap (λ ns. ns ++ flat_map (fault_notes path) statements) c.new-notes.ensures ∙ ap (flat_map (fault_notes path)) here in
-    let layout : layout_view c.in_ok-layout.layout ≡ layout_of (generated ran.points) =
+    let layout : layout_view c.in_ok-layout.layout ≡ checked_layout (generated ran.points) =
     c.in_ok-layout.ensures
-    ∙ ap (λ (ls : List (Bor Line)). layout_of (lines_of ls)) c.as_slice-lines.ensures.value
-    ∙ ap layout_of c.in_ok-lines.ensures in
+    ∙ ap (λ (ls : List (Bor Line)). checked_layout (lines_of ls)) c.as_slice-lines.ensures.value
+    ∙ ap checked_layout c.in_ok-lines.ensures in
     let behind : c.add_point_notes.new.notes ≡ column_notes path text ++ all_noted path ran.points =
     c.in_ok-add_point_notes.ensures
     ∙ ap (λ ns. ns ++ noted_points path (rows_of (layout_view c.in_ok-layout.layout)) 0 ran.points) columns

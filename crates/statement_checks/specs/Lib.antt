@@ -1,0 +1,4 @@
+pub mod Checks
+pub mod Places
+pub mod Statements
+pub mod Programs
