@@ -77,6 +77,7 @@ impl KnownVariables {
     }
 
     /// Passes the values that a call has at its entry.
+    #[tactic(auto, unfolding(crate::specs::Meanings::with_entries))]
     pub(crate) fn enter(
         &mut self,
         alloc: Global,
@@ -92,6 +93,7 @@ impl KnownVariables {
     }
 
     /// Passes declarations.
+    #[tactic(auto, unfolding(crate::specs::Meanings::with_declarations))]
     fn declare(
         &mut self,
         alloc: Global,
@@ -107,6 +109,7 @@ impl KnownVariables {
     }
 
     /// Passes settings of local symbols.
+    #[tactic(auto, unfolding(crate::specs::Meanings::with_settings))]
     fn set(&mut self, alloc: Global, own: Scope, settings: &[Setting]) -> Result<(), OutOfMemory>
         ensures { OnOk result (self.new ≡ meanings.with_settings own self.old settings.now) }
     {

@@ -1,5 +1,6 @@
 //! Meanings that a statement gives at its own places.
 ghost use Rattle.std.specs.Prelude.{◌≡◌, find, option_map};
+ghost use Rattle.std.specs.Str.{bytes_eq};
 ghost use Rattle.variable_meanings.specs.Meanings as meanings;
 
 use crate::meaning::{Meaning, declared_meaning, set_meaning};
@@ -7,12 +8,19 @@ use hl_base::{Declaration, Name};
 use hlasm_statements::Field;
 use trace_values::{Scope, Setting, TraceItem};
 
+/// Whether two names are the same.
+fn is_same(name: &Name, other: &Name) -> bool
+    ensures { result ≡ bytes_eq name.now other.now }
+{
+    name.text() == other.text()
+}
+
 /// What the first of some settings of this name gives it.
 fn by_setting(own: Scope, settings: &[Setting], name: &Name) -> Option<Meaning>
     ensures { result ≡ option_map (meanings.set_meaning own) (find (meanings.sets name.now) settings.now) }
 {
     for setting in settings {
-        if setting.name.text() == name.text() {
+        if is_same(name, &setting.name) {
             return Some(set_meaning(own, setting));
         }
     }
@@ -24,7 +32,7 @@ fn by_declaration(own: Scope, declared: &[Declaration], name: &Name) -> Option<M
     ensures { result ≡ option_map (meanings.declared_meaning own) (find (meanings.declares name.now) declared.now) }
 {
     for declaration in declared {
-        if declaration.name.text() == name.text() {
+        if is_same(name, &declaration.name) {
             return Some(declared_meaning(own, declaration));
         }
     }
