@@ -3,3 +3,4 @@ pub mod CopyingLaws
 pub mod ExtentLaws
 pub mod VariableLaws
 pub mod ContentLaws
+pub mod SurveyLaws

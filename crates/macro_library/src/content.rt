@@ -1,5 +1,5 @@
 //! What definitions say, and the numbers by which they are told apart.
-ghost use Rattle.std.specs.Prelude.{◌≡◌, ◌↔◌, IsTrue, fold, map};
+ghost use Rattle.std.specs.Prelude.{◌≡◌, ◌↔◌, IsTrue, map};
 ghost use Rattle.std.specs.Str.{chars};
 ghost use Rattle.macro_library.specs.Contents as contents;
 
@@ -41,19 +41,6 @@ pub(crate) fn line_number(start: u64, line: &Line) -> u64
     let label = text_number(start, statement.label.as_str());
     let op = text_number(label, statement.op.as_str());
     text_number(op, statement.operands.as_str())
-}
-
-/// The same for lines.
-pub(crate) fn lines_number(start: u64, lines: &[Line]) -> u64
-    ensures { result ≡ fold contents.written_number start (map contents.written lines.now) }
-{
-    let mut number = start;
-    let mut left = lines;
-    while let [line, rest @ ..] = left {
-        number = line_number(number, line);
-        left = rest;
-    }
-    number
 }
 
 /// Whether two texts have the same characters.

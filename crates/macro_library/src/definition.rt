@@ -6,11 +6,10 @@ ghost use Rattle.macro_library.specs.Definitions as definitions;
 ghost use Rattle.macro_library.specs.Later as later;
 ghost use Rattle.macro_library.specs.Variables as variables;
 
-use crate::content::{line_number, lines_number, same_line, same_lines};
+use crate::content::{line_number, same_line, same_lines};
 use crate::copying::read_body;
 use crate::extent::{behind_macro, counted, first_plain, line_count};
-use crate::later::copies_later;
-use crate::variables::variables_of;
+use crate::survey::{Survey, survey_of};
 use crate::{DefFault, Members, SystemVariables};
 use hl_base::{Origin, OutOfMemory};
 use hlasm_statements::Statement;
@@ -55,9 +54,11 @@ impl Def {
         requires { definitions.prototype_at line.now ≡ Some prototype }
         ensures { IfOk result (λ d. d ≡ definitions.defined line.now prototype lines.items) }
     {
-        let variables = variables_of(lines.as_slice())?;
-        let copies_later = copies_later(lines.as_slice())?;
-        let number = lines_number(line_number(0, line), lines.as_slice());
+        let Survey {
+            variables,
+            copies_later,
+            number,
+        } = survey_of(line_number(0, line), lines.as_slice())?;
         Ok(Def {
             line: line.share()?,
             prototype: Rc::new(alloc, prototype)?,

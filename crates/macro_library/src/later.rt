@@ -1,9 +1,7 @@
 //! Whether statements of a definition may copy members when its macro is called.
-ghost use Rattle.std.specs.Prelude.{◌≡◌, IfOk};
+ghost use Rattle.std.specs.Prelude.{◌≡◌, ◌==◌, ◌&&◌, ◌||◌};
 ghost use Rattle.macro_library.specs.Later as later;
 
-use crate::line::behind;
-use hl_base::OutOfMemory;
 use statement_listing::Line;
 use statement_reading::Instruction;
 
@@ -21,18 +19,9 @@ fn may_copy(line: &Line) -> bool
     }
 }
 
-/// Whether one of these lines may that stands in no inner definition.
-pub(crate) fn copies_later(lines: &[Line]) -> Result<bool, OutOfMemory>
-    ensures { IfOk result (λ copies. copies ≡ later.copies_later lines.now) }
+/// Whether a line before it may, or a line may that stands in no inner definition, where so many are begun before it.
+pub(crate) fn may_copy_by(before: bool, begun: usize, line: &Line) -> bool
+    ensures { result ≡ (before || ((begun == 0) && later.may_copy line.now)) }
 {
-    let mut begun = 0;
-    let mut left = lines;
-    while let [line, rest @ ..] = left {
-        if begun == 0 && may_copy(line) {
-            return Ok(true);
-        }
-        begun = behind(begun, line)?;
-        left = rest;
-    }
-    Ok(false)
+    before || (begun == 0 && may_copy(line))
 }

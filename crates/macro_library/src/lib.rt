@@ -19,6 +19,7 @@ mod fault;
 mod later;
 mod line;
 mod member;
+mod survey;
 mod variables;
 
 pub use definition::{Def, read_definition};

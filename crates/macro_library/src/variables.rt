@@ -1,12 +1,12 @@
 //! Which system variables statements name.
-ghost use Rattle.std.specs.Prelude.{◌≡◌, ◌&&◌, not, IfOk, length, take_while, if◌then◌else◌, ◌==◌};
+ghost use Rattle.std.specs.Prelude.{◌≡◌, ◌&&◌, not, length, take_while, if◌then◌else◌, ◌==◌};
 ghost use Rattle.std.specs.Str.{chars};
 ghost use Rattle.hl_base.specs.Symbols.{is_symbol_character};
 ghost use Rattle.macro_library.specs.Variables as variables;
 
-use crate::line::{behind, name_of};
+use crate::line::name_of;
 use conditional_fields::character::head;
-use hl_base::{OutOfMemory, is_symbol_character};
+use hl_base::is_symbol_character;
 use hlasm_statements::split_columns;
 use statement_listing::Line;
 
@@ -22,7 +22,7 @@ pub struct SystemVariables {
 }
 
 /// None of them.
-const NONE_NAMED: SystemVariables = SystemVariables {
+pub(crate) const NONE_NAMED: SystemVariables = SystemVariables {
     sysndx: false,
     sysect: false,
     syslist: false,
@@ -32,7 +32,7 @@ const NONE_NAMED: SystemVariables = SystemVariables {
 };
 
 /// Those of two.
-fn joined(a: SystemVariables, b: SystemVariables) -> SystemVariables
+pub(crate) fn joined(a: SystemVariables, b: SystemVariables) -> SystemVariables
     ensures { result ≡ variables.joined a b }
 {
     SystemVariables {
@@ -125,26 +125,11 @@ fn named_by(line: &Line) -> SystemVariables
 }
 
 /// Those that a line names, where so many definitions are begun before it.
-fn named_within(begun: usize, line: &Line) -> SystemVariables
+pub(crate) fn named_within(begun: usize, line: &Line) -> SystemVariables
     ensures { result ≡ (if begun == 0 then variables.named_by line.now.statement else variables.none_named) }
 {
     if begun == 0 {
         return named_by(line);
     }
     NONE_NAMED
-}
-
-/// Those that lines name which stand in no inner definition.
-pub(crate) fn variables_of(lines: &[Line]) -> Result<SystemVariables, OutOfMemory>
-    ensures { IfOk result (λ named. named ≡ variables.variables_of lines.now) }
-{
-    let mut named = NONE_NAMED;
-    let mut begun = 0;
-    let mut left = lines;
-    while let [line, rest @ ..] = left {
-        named = joined(named, named_within(begun, line));
-        begun = behind(begun, line)?;
-        left = rest;
-    }
-    Ok(named)
 }
