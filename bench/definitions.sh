@@ -37,7 +37,7 @@ fn tell(alloc: Global, members: &mut Members, number: u32, text: &str) -> Result
     let path = PathId(number.saturating_add(1));
     let name = format!(in alloc; "M{number}")?;
     if let Some(name) = Name::read(name.as_str()) {
-        members.add(alloc, &name, Member::File(MemberFile::of(path, RcStr::from_str(alloc, text)?)))?;
+        members.add(alloc, &name, Member::File(MemberFile::of(alloc, path, RcStr::from_str(alloc, text)?)?))?;
     }
     Ok(())
 }
