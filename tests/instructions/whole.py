@@ -53,7 +53,7 @@ def difference(server, rows, folder):
     with open(os.path.join(folder, "program.hlasm"), "w", encoding="utf-8") as file:
         file.write("\n".join(lines))
     words = [sys.executable, LINT, "--server", server, "program.hlasm"]
-    ran = subprocess.run(words, cwd=folder, capture_output=True, timeout=120, encoding="utf-8")
+    ran = subprocess.run(words, cwd=folder, capture_output=True, timeout=300, encoding="utf-8")
     wrong = [number for number, (_, is_right) in enumerate(rows, 2) if not is_right]
     wanted = {f"program.hlasm:{number}:1: error: wrong number of operands [H080]" for number in wrong}
     found = {*ran.stdout.splitlines(), *ran.stderr.splitlines()}
