@@ -159,6 +159,117 @@ const DEEP: &str = "         MACRO
          END
 ";
 
+/// A macro that declares a global symbol and reads nothing of it, called where it has one value and another.
+const SHOWN: &str = "         MACRO
+         SHOW
+         GBLA  &G
+         ANOP
+         MEND
+         MACRO
+         ROUND
+         SHOW
+         SHOW
+         MEND
+         GBLA  &G
+&G       SETA  1
+         ROUND
+&G       SETA  2
+         ROUND
+         SHOW
+         END
+";
+
+/// Statements of more than one line, comments between them, and an empty line.
+const CONTINUED: &str = "* A comment
+         MACRO
+         LONG  &A,                                                     X
+               &B=2
+.* A comment of the macro
+         ANOP
+         MEND
+         LONG  1,                                                      X
+               B=3
+
+         END
+";
+
+/// Parameters that are filled and empty, and symbols that nobody declares.
+const FILLED: &str = "         MACRO
+&LAB     FILLED &P,&q,&KEY=def,&EMPTY=
+         LCLC  &S
+&S       SETC  'a\"b\\c'
+&T(2)    SETC  'é€'
+         AIF   (N'&SYSLIST EQ 4).ALL
+&r       SETA  -1
+.ALL     ANOP
+         MEND
+HERE     FILLED A,,(X,(Y,Z)),'it''s',KEY=other
+         FILLED
+         FILLED ,,,
+         END
+";
+
+/// A macro that defines another one, which is called in it and behind it.
+const MAKING: &str = "         MACRO
+         MAKER
+         MACRO
+         MADE  &X
+&Y       SETA  &X+1
+         MEND
+         MADE  3
+         MEND
+         MAKER
+         MADE  4
+         END
+";
+
+/// A program that copies a member, which copies another one, which calls a macro of a third.
+const CHAIN: &str = "         COPY  ONE
+         END
+";
+
+/// The first member of CHAIN.
+const ONE: &str = "         ANOP
+         COPY  TWO
+         ANOP
+";
+
+/// The second one.
+const TWO: &str = "&N       SETA  5
+         SHARE &N
+";
+
+/// Another member that defines the macro SHARE.
+const SHARE_OTHER: &str = "         MACRO
+         SHARE &P
+&L       SETA  &P
+         ANOP
+         MEND
+";
+
+/// Macros that end early, and statements that are wrong.
+const LEAVING: &str = "         MACRO
+         LEAVE &N
+         AIF   (&N EQ 1).ON
+         MEXIT
+.ON      LEAVE 0
+         NOSUCH
+         AGO   .NONE
+         MNOTE 4,'not reached'
+         MEND
+         LEAVE 1
+&A       SETA  Q
+         LEAVE 0
+         END
+";
+
+/// A loop without an end.
+const SPINNING: &str = ".MORE    AGO   .MORE
+";
+
+/// Lines that end with both characters.
+const BOTH_ENDS: &str = "         LCLA  &N\r\n&N       SETA  1\r\n\r\n         END\r\n";
+
 /// The text of a name; an empty one where there is none of that name.
 pub fn named(name: &str) -> &'static str {
     match name {
@@ -174,6 +285,17 @@ pub fn named(name: &str) -> &'static str {
         "share" => SHARE,
         "loop" => LOOP,
         "deep" => DEEP,
+        "shown" => SHOWN,
+        "continued" => CONTINUED,
+        "filled" => FILLED,
+        "making" => MAKING,
+        "chain" => CHAIN,
+        "one" => ONE,
+        "two" => TWO,
+        "share_other" => SHARE_OTHER,
+        "leaving" => LEAVING,
+        "spinning" => SPINNING,
+        "both_ends" => BOTH_ENDS,
         _ => "",
     }
 }
