@@ -1,5 +1,5 @@
 -- Words of the laws of a session (this project).
-use Rattle.std.specs.Prelude.{◌≡◌, ℕ, ◌≤◌, ◌⊎◌, Bool, true, false, not, List, length, Option, Some, None, Result, Ok, Err, is_err}
+use Rattle.std.specs.Prelude.{◌≡◌, ◌==◌, ℕ, ◌≤◌, ◌⊎◌, Bool, true, false, not, List, length, Option, Some, None, Result, Ok, Err, is_err}
 use Rattle.serde_json.specs.Data.{Data}
 use Rattle.json_view.specs.Texts.{reading}
 use Rattle.io_edge.specs.LibraryCall.{LibraryCall}
@@ -10,6 +10,7 @@ use Rattle.lsp_messages.specs.Messages.{message_of}
 use Rattle.hl_base.specs.declared.place.PathId.{PathId}
 use Rattle.document_store.specs.Store.{OpenDocument}
 use Rattle.document_store.specs.Changes.{opened, changed, closed}
+use Rattle.debug_sessions.specs.State.{session_of}
 use Rattle.session_core.specs.Refusals.{is_fresh, is_active, is_ended}
 use Rattle.session_core.specs.Served.{as_served}
 use Rattle.session_core.specs.Diagnostics.{list_of}
@@ -84,6 +85,44 @@ abbrev pub Keeps : Step → State → List LibraryCall → Type 0
 Keeps (Goes t bodies rest) s calls = (t ≡ s) × (length bodies ≤ 1) × (rest ≡ calls)
 Keeps Stopped s calls = ⊥
 Keeps Other s calls = ⊥
+
+-- ---- debug sessions
+
+-- a message is one to the debug session of a number
+abbrev pub is_debugging : (number : ℕ) → Result LspIn Refusal → Bool
+is_debugging number (Err refusal) = false
+is_debugging number (Ok (Initialize id root)) = false
+is_debugging number (Ok (Shutdown id)) = false
+is_debugging number (Ok (Definition id uri at)) = false
+is_debugging number (Ok (References id uri at declarations)) = false
+is_debugging number (Ok (Hover id uri at)) = false
+is_debugging number (Ok (DocumentSymbol id uri)) = false
+is_debugging number (Ok Initialized) = false
+is_debugging number (Ok Exit) = false
+is_debugging number (Ok (DidOpen uri language version text)) = false
+is_debugging number (Ok (DidChange uri version edits)) = false
+is_debugging number (Ok (DidClose uri)) = false
+is_debugging number (Ok DidSave) = false
+is_debugging number (Ok DidChangeConfiguration) = false
+is_debugging number (Ok (DidChangeWatchedFiles changes)) = false
+is_debugging number (Ok (Cancel id)) = false
+is_debugging number (Ok (Dap session message)) = session == number
+
+abbrev pub is_value_debugging : (number : ℕ) → Option Data → Bool
+is_value_debugging number None = false
+is_value_debugging number (Some value) = is_debugging number (as_served (message_of value))
+
+abbrev pub is_body_debugging : (number : ℕ) → List ℕ → Bool
+is_body_debugging number body = is_value_debugging number (reading body)
+
+-- the debug session of a number is as it was: its launch, its place, its breakpoints and how many messages it has sent
+abbrev pub HasDebugger : (number : ℕ) → (before now : State) → Type 0
+HasDebugger number s t = session_of number t.debuggers ≡ session_of number s.debuggers
+
+abbrev pub KeepsDebugger : (number : ℕ) → State → Step → Type 0
+KeepsDebugger number s (Goes t bodies rest) = HasDebugger number s t
+KeepsDebugger number s Stopped = Unit {0}
+KeepsDebugger number s Other = Unit {0}
 
 -- ---- lists
 

@@ -3,7 +3,7 @@ ghost use Rattle.std.specs.Prelude.{◌≡◌, ℕ, List, [], Bool, true, false}
 ghost use Rattle.io_edge.specs.LibraryCall.{LibraryCall};
 ghost use Rattle.session_core.specs.declared.phase.Phase.TheVariants.{Exit};
 ghost use Rattle.session_core.specs.Held.{phase_of};
-ghost use Rattle.session_core.specs.Laws.{is_refused_body, is_body_on_files, Keeps, LeavesCalls, AreFresh, LeavesFresh, KeepsOrQueues};
+ghost use Rattle.session_core.specs.Laws.{is_refused_body, is_body_on_files, is_body_debugging, Keeps, LeavesCalls, AreFresh, LeavesFresh, KeepsOrQueues, HasDebugger, KeepsDebugger};
 ghost use Rattle.session_core.specs.Message.{message};
 ghost use Rattle.session_core.specs.State.{State, start};
 ghost use Rattle.session_core.specs.Step.{Goes, MakesAll};
@@ -43,4 +43,11 @@ pub fn changes_queue_every_program()
 /// Only `initialized` and a change of watched files ask the library: any other message makes no call of it, as a keystroke.
 pub fn only_messages_on_files_ask()
     ensures { (s : State) (body : List ℕ) (calls : List LibraryCall) → is_body_on_files body ≡ false → LeavesCalls (message s body calls) calls }
+{}
+
+/// A debugger keeps its launch's trace: no event but a message to a debug session changes it, its launch, its place and its
+/// breakpoints. So nothing that is typed, and no Turn, changes what its program is stopped at.
+pub fn debuggers_change_by_their_messages()
+    ensures message { (s : State) (number : ℕ) (body : List ℕ) (calls : List LibraryCall) → is_body_debugging number body ≡ false → KeepsDebugger number s (message s body calls) }
+    ensures turn { (s : State) (number : ℕ) → HasDebugger number s (turn s).state }
 {}
