@@ -39,8 +39,8 @@ pub struct Assembly {
     pub touched: PathIds,
 }
 
-/// Assembles the program of a path and a text that is shared, as `assemble` does.
-pub fn assemble_text<
+/// Assembles the program of a path and a text, as `assemble` does.
+fn assemble_text<
     M: AskMachine<Key = Key, Value = Known, Call = CallSite, Item = TraceItem, Frames = Frames>,
     P: Present,
     L: Ledger,

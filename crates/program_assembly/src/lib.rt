@@ -21,5 +21,5 @@ mod report;
 mod statements;
 
 pub use assembler::Assembler;
-pub use assembly::{Assembly, assemble, assemble_text};
+pub use assembly::{Assembly, assemble};
 pub use plain::{assemblies_are_plain, assembly_notes};

@@ -8,17 +8,16 @@
 #![tactic(auto)]
 
 ghost use Rattle.std.specs.Prelude.{◌≡◌, IfOk};
-ghost use Rattle.std.specs.Rc.{rc_str_bytes};
 ghost use Rattle.std.specs.Str.{chars};
+ghost use Rattle.text_pool.specs.Pool.{IsLive, text_of};
 ghost use Rattle.program_launch.specs.Traces.{trace_of};
 
 use debug_sessions::Launched;
 use expansion_memo::Memo;
-use hl_base::{Ledger, OutOfMemory, PathId, Steps};
+use hl_base::{Ledger, OutOfMemory, PathId, Steps, TextId};
 use macro_expand::{Expander, HlasmLanguage};
-use program_assembly::{assemble_text, assemblies_are_plain};
+use program_assembly::{assemble, assemblies_are_plain};
 use std::alloc::Global;
-use std::rc::RcStr;
 use text_pool::Present;
 use trace_arena::TraceArena;
 
@@ -26,20 +25,21 @@ use trace_arena::TraceArena;
 pub fn launch<P: Present, L: Ledger>(
     alloc: Global,
     path: PathId,
-    text: &RcStr,
+    text: TextId,
     parm: &str,
     present: &P,
     budget: u32,
     steps: &mut Steps<L>,
 ) -> Result<Launched, OutOfMemory>
+    requires live { IsLive (P.texts present.now) text.0 }
     ensures { IfOk result (λ launched. launched
-        ≡ trace_of path.0 (chars (rc_str_bytes text.now)) (chars parm.now) (P.members present.now) budget) }
+        ≡ trace_of path.0 (text_of (P.texts present.now) text.0) (chars parm.now) (P.members present.now) budget) }
 {
     assemblies_are_plain::<P>();
     let machine = Expander::new(HlasmLanguage);
     let mut memo: Memo<Expander> = Memo::new(alloc);
     let mut arena = TraceArena::new(alloc);
-    let made = assemble_text(
+    let made = assemble(
         &machine, alloc, path, text, parm, present, &mut memo, &mut arena, budget, steps,
     )?;
     Ok(Launched::of(arena, made.root))

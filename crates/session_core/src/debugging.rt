@@ -1,7 +1,8 @@
 //! Debug messages: `hlasm/dap` (Debug Adapter Protocol). While the session is not active they are passed over. After an `Err` the
 //! state is not to be used.
-ghost use Rattle.std.specs.Prelude.{◌≡◌, ◌<◌, false, length, map, Ok, IfOk};
+ghost use Rattle.std.specs.Prelude.{◌≡◌, ◌<◌, false, length, map, Some, Ok, IfOk};
 ghost use Rattle.std.specs.Str.{chars};
+ghost use Rattle.document_store.specs.Shown.{IsShown};
 ghost use Rattle.group_members.specs.Members.{Indexes};
 ghost use Rattle.lsp_messages.specs.declared.incoming.LspIn.TheVariants as said;
 ghost use Rattle.dap_messages.specs.Requests.{request_of};
@@ -10,6 +11,7 @@ ghost use Rattle.debug_sessions.specs.Written.{AreWhole, IsWholeAnswer, messages
 ghost use Rattle.session_core.specs.Debugging.{launched_at, program_trace, launched_by, debug_body, debug_bodies, debugged};
 ghost use Rattle.session_core.specs.Message as messages;
 ghost use Rattle.session_core.specs.Inside.{TellsTrace};
+ghost use Rattle.session_core.specs.State.{document_at};
 ghost use Rattle.session_core.specs.Step.{Acts, IsEffect};
 
 use crate::bodies::Bodies;
@@ -71,6 +73,7 @@ impl Standing {
         steps: &mut Steps<L>,
     ) -> Result<Launched, OutOfMemory>
         requires given { path.0 < length self.now.store.paths }
+        requires shown { IsShown self.now.store.paths (document_at self.now.store path) (Some document.now) }
         requires index { Indexes self.now.store index.now }
         ensures { IfOk result (λ trace. TellsTrace self.now path document.now trace) }
     {
@@ -94,6 +97,7 @@ impl Standing {
         steps: &mut Steps<L>,
     ) -> Result<Launched, OutOfMemory>
         requires given { path.0 < length self.now.store.paths }
+        requires shown { IsShown self.now.store.paths (document_at self.now.store path) (Some document.now) }
         ensures { IfOk result (λ trace. TellsTrace self.now path document.now trace) }
     {
         match &self.index {

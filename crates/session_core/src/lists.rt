@@ -4,11 +4,12 @@ ghost use Rattle.std.specs.Option.{option_copied};
 ghost use Rattle.std.specs.Rc.{rc_str_bytes};
 ghost use Rattle.std.specs.Str.{chars};
 ghost use Rattle.document_store.specs.Store.{OpenDocument};
-ghost use Rattle.document_store.specs.Shown.{Shows};
+ghost use Rattle.document_store.specs.Shown.{IsShown, Shows};
 ghost use Rattle.group_members.specs.Members.{Indexes};
 ghost use Rattle.library_folders.specs.Folders.{parm_for};
 ghost use Rattle.program_assembly.specs.Assembly.{assembly_notes};
 ghost use Rattle.program_launch.specs.Traces as launches;
+ghost use Rattle.text_pool.specs.Pool.{IsLive, text_of};
 ghost use Rattle.session_core.specs.Debugging.{trace_in};
 ghost use Rattle.session_core.specs.Diagnostics.{diagnostics_of, members_of};
 ghost use Rattle.session_core.specs.State.{document_at, libraries_of};
@@ -16,9 +17,9 @@ ghost use Rattle.session_core.specs.State.{document_at, libraries_of};
 use crate::programs::text_at;
 use answers_feed::published;
 use debug_sessions::Launched;
-use document_store::{Document, DocumentStore};
+use document_store::{Document, DocumentStore, MemberText};
 use group_members::{GroupMembers, MemberIndex};
-use hl_base::{Ledger, Notes, OutOfMemory, PathId, Steps, Text};
+use hl_base::{Ledger, Notes, OutOfMemory, PathId, Steps, Text, TextId};
 use library_folders::{Configuration, Folder, folders_for, parm_for};
 use lsp_messages::Diagnostics;
 use program_assembly::assembly_notes;
@@ -103,13 +104,14 @@ impl Surroundings<'_> {
         &self,
         alloc: Global,
         path: PathId,
-        text: &RcStr,
+        text: TextId,
         steps: &mut Steps<L>,
     ) -> Result<Launched, OutOfMemory>
         requires given { path.0 < length self.now.store.now.store.paths }
         requires index { Indexes self.now.store.now.store self.now.index.now }
+        requires live { IsLive self.now.store.now.pool text.0 }
         ensures { IfOk result (λ trace. (document : OpenDocument) → slice_get self.now.store.now.store.paths path.0 ≡ Some document.path
-            → chars (rc_str_bytes text.now) ≡ document.text
+            → text_of self.now.store.now.pool text.0 ≡ document.text
             → trace ≡ launches.trace_of path.0 document.text (parm_for (option_copied self.now.root) self.now.configuration.now document.path)
             (members_of (option_copied self.now.root) self.now.configuration.now self.now.store.now.store document) self.now.budget) }
     {
@@ -131,12 +133,15 @@ impl Surroundings<'_> {
     ) -> Result<Launched, OutOfMemory>
         requires given { path.0 < length self.now.store.now.store.paths }
         requires index { Indexes self.now.store.now.store self.now.index.now }
+        requires shown { IsShown self.now.store.now.store.paths (document_at self.now.store.now.store path) (Some document.now) }
         ensures { IfOk result (λ trace. (shown : OpenDocument) → document_at self.now.store.now.store path ≡ Some shown
             → Shows self.now.store.now.store.paths shown document.now
             → trace ≡ trace_in (option_copied self.now.root) self.now.configuration.now self.now.store.now.store self.now.budget path shown) }
     {
-        let _document = document;
-        let shared = text_at(alloc, self.store, path)?;
-        self.trace(alloc, path, &shared, steps)
+        match self.store.present(path) {
+            Some(MemberText::File(text)) => self.trace(alloc, path, text, steps),
+            Some(MemberText::Unreadable) => unreachable!(),
+            None => unreachable!(),
+        }
     }
 }
