@@ -1,5 +1,6 @@
 -- Which events change the debug session of a number.
-use Rattle.std.proofs.Common.{◌≡◌, ℕ, ◌==◌, zero, suc, Bool, true, false, cond, List, [], ◌∷◌, length, Option, Some, None, Result, Ok, Err, refl, sym, ap, ◌∙◌, slice_get}
+use Rattle.std.proofs.Common.{◌≡◌, ℕ, ◌==◌, ◌||◌, zero, suc, Bool, true, false, cond, List, [], ◌∷◌, length, Option, Some, None, Result, Ok, Err, refl, sym, ap, ◌∙◌, slice_get}
+use Rattle.std.specs.Option.{option_map_or}
 use Rattle.std.proofs.lemmas.Bool.{eq-eqb}
 use Rattle.serde_json.specs.Data.{Data}
 use Rattle.json_view.specs.Texts.{reading}
@@ -17,16 +18,18 @@ use Rattle.lsp_messages.specs.declared.incoming.FileChange.{FileChange}
 use Rattle.lsp_messages.specs.declared.incoming.Refusal.{Refusal}
 use Rattle.lsp_messages.specs.Messages.{is_response, message_of}
 use Rattle.dap_messages.specs.Requests.{request_of}
-use Rattle.dap_messages.specs.declared.requests.DapIn.{DapIn}
-use Rattle.dap_messages.specs.declared.requests.DapRefusal.{DapRefusal}
 use Rattle.document_store.specs.Store.{Store, OpenDocument}
 use Rattle.document_store.specs.Changes.{opened, changed, closed}
 use Rattle.document_store.specs.declared.fault.StoreFault.{StoreFault}
+use Rattle.trace_values.specs.declared.item.TraceItem.{TraceItem}
+use Rattle.trace_arena.specs.Points.{Point}
 use Rattle.debug_sessions.specs.State.{session_of}
+use Rattle.debug_sessions.specs.Laws.{trace_in}
 use Rattle.debug_sessions.proofs.OtherLemmas.{answer-others}
+use Rattle.debug_sessions.proofs.TraceLemmas.{launches_keep_their_traces}
 use Rattle.session_core.specs.Debugging.{launched_by, debugged}
 use Rattle.session_core.specs.Diagnostics.{list_of}
-use Rattle.session_core.specs.Laws.{is_debugging, is_value_debugging, is_body_debugging, HasDebugger, KeepsDebugger}
+use Rattle.session_core.specs.Laws.{DebugSaid, debug_said, value_debug_said, body_debug_said, is_to, is_end_of, is_body_debugging, is_body_disconnecting, HasDebugger, KeepsDebugger, HasTrace, KeepsTrace}
 use Rattle.session_core.specs.Message.{message, event, received, asked, effect, effect_of, is_passed_over, unless_refused, Watching, taking_of, after_reading, after_member, configured, member_changed, is_configuration, is_member_file, change_told, changes_told, queue_all, after_watching, begun, unconcerned, after_change, after_closing}
 use Rattle.session_core.specs.Refusals.{Refused, refusal, is_ended}
 use Rattle.session_core.specs.Served.{as_served}
@@ -124,69 +127,108 @@ kept_watched s changes calls =
 
 -- ---- one of them
 
+-- this stands where no debug session has changed
+abbrev StandsWhereKept : State → (Effect → Type 0) → Type 0
+StandsWhereKept s Stands = (effect : Effect) → AreKept s effect → Stands effect
+
+-- and where one is told what does not change it
+abbrev StandsWhereTold : State → (DebugSaid → Bool) → (Effect → Type 0) → Type 0
+StandsWhereTold s changes Stands = (said : DebugSaid) → changes said ≡ false → Stands (debugged s said.number said.read)
+
+-- so it stands behind each message that does not change it
+module _ (s : State) (Stands : Effect → Type 0) (changes : DebugSaid → Bool) (kept : StandsWhereKept s Stands) (told : StandsWhereTold s changes Stands) where
+  stands_asked : (asked : Asked Effect) → Whenever (AreKept s) asked → Whenever Stands asked
+  stands_asked (Came effect rest) same = kept effect same
+  stands_asked Lacks same = tt
+  stands_asked Differs same = tt
+
+  stands_effect : (message : LspIn) (calls : List LibraryCall) → option_map_or changes (debug_said (Ok message)) false ≡ false → Whenever Stands (effect s message calls)
+  stands_effect (Initialize id root) calls other = kept _ refl
+  stands_effect (Shutdown id) calls other = kept _ (kept_many (length s.queue) s)
+  stands_effect (Definition id uri at) calls other = kept _ refl
+  stands_effect (References id uri at declarations) calls other = kept _ refl
+  stands_effect (Hover id uri at) calls other = kept _ refl
+  stands_effect (DocumentSymbol id uri) calls other = kept _ refl
+  stands_effect Initialized calls other = stands_asked (effect s Initialized calls) (kept_begun s s.root calls)
+  stands_effect Exit calls other = kept _ refl
+  stands_effect (DidOpen uri language version text) calls other = kept _ (kept_change s (opened s.store uri language version text))
+  stands_effect (DidChange uri version edits) calls other = kept _ (kept_change s (changed s.store uri version edits))
+  stands_effect (DidClose uri) calls other = kept _ (kept_closing s (number_named s.store uri) (closed s.store uri))
+  stands_effect DidSave calls other = kept _ refl
+  stands_effect DidChangeConfiguration calls other = kept _ refl
+  stands_effect (DidChangeWatchedFiles changes) calls other = stands_asked (effect s (DidChangeWatchedFiles changes) calls) (kept_watched s changes calls)
+  stands_effect (Cancel id) calls other = kept _ refl
+  stands_effect (Dap session message) calls other = told (record { number = session; read = request_of message }) other
+
+  stands_told : (heard : Result LspIn Refusal) (calls : List LibraryCall) → option_map_or changes (debug_said heard) false ≡ false → Whenever Stands (effect_of s heard calls)
+  stands_told (Ok message) calls other = stands_effect message calls other
+  stands_told (Err refusal) calls other = kept _ refl
+
+  stands_heard : (heard : Result LspIn Refusal) (calls : List LibraryCall) → option_map_or changes (debug_said heard) false ≡ false → Whenever Stands (asked s heard calls)
+  stands_heard heard calls other =
+      whenever_cond Stands (is_passed_over s.stage heard) (answered (quiet s)) _ calls (kept _ refl)
+      (whenever_unless Stands s (refusal s.stage s.store (Some heard)) (effect_of s heard) calls (λ body. kept _ refl) (stands_told heard calls other))
+
+  stands_received : (value : Option Data) (calls : List LibraryCall) → option_map_or changes (value_debug_said value) false ≡ false → Whenever Stands (received s value calls)
+  stands_received None calls other = kept _ refl
+  stands_received (Some value) calls other =
+      whenever_cond Stands (is_response value) (answered (quiet s)) (asked s (as_served (message_of value))) calls (kept _ refl)
+      (stands_heard (as_served (message_of value)) calls other)
+
+  stands_event : (body : List ℕ) (calls : List LibraryCall) → option_map_or changes (body_debug_said body) false ≡ false → Whenever Stands (event s body calls)
+  unfolding event
+  stands_event body calls other =
+      whenever_cond Stands (is_ended s.stage) (answered (quiet s)) (received s (reading body)) calls (kept _ refl) (stands_received (reading body) calls other)
+
+-- ---- it changes by its messages alone
+
 true_or_false : true ≡ false → ⊥
 true_or_false same = cc
 
-module _ (s : State) (number : ℕ) where
-  -- it is as it was
-  abbrev IsKept : Effect → Type 0
-  IsKept effect = HasDebugger number s effect.state
+other_told : (s : State) (number : ℕ) → StandsWhereTold s (is_to number) (λ effect. HasDebugger number s effect.state)
+unfolding debugged
+other_told s number said other =
+    answer-others s.store.paths s.debuggers said.number number said.read (launched_by s said.number said.read)
+    (λ same. true_or_false (sym (eq-eqb said.number number (sym same)) ∙ other))
 
-  one_of : (asked : Asked Effect) → Whenever (AreKept s) asked → Whenever IsKept asked
-  one_of (Came effect rest) same = ap (session_of number) same
-  one_of Lacks same = tt
-  one_of Differs same = tt
-
-  kept_debugged : (session : ℕ) (read : Result DapIn DapRefusal) → (session == number) ≡ false → IsKept (debugged s session read)
-  unfolding debugged
-  kept_debugged session read other =
-      answer-others s.store.paths s.debuggers session number read (launched_by s session read)
-      (λ same. true_or_false (sym (eq-eqb session number (sym same)) ∙ other))
-
-  kept_effect : (message : LspIn) (calls : List LibraryCall) → is_debugging number (Ok message) ≡ false → Whenever IsKept (effect s message calls)
-  kept_effect (Initialize id root) calls other = refl
-  kept_effect (Shutdown id) calls other = ap (session_of number) (kept_many (length s.queue) s)
-  kept_effect (Definition id uri at) calls other = refl
-  kept_effect (References id uri at declarations) calls other = refl
-  kept_effect (Hover id uri at) calls other = refl
-  kept_effect (DocumentSymbol id uri) calls other = refl
-  kept_effect Initialized calls other = one_of (effect s Initialized calls) (kept_begun s s.root calls)
-  kept_effect Exit calls other = refl
-  kept_effect (DidOpen uri language version text) calls other = ap (session_of number) (kept_change s (opened s.store uri language version text))
-  kept_effect (DidChange uri version edits) calls other = ap (session_of number) (kept_change s (changed s.store uri version edits))
-  kept_effect (DidClose uri) calls other = ap (session_of number) (kept_closing s (number_named s.store uri) (closed s.store uri))
-  kept_effect DidSave calls other = refl
-  kept_effect DidChangeConfiguration calls other = refl
-  kept_effect (DidChangeWatchedFiles changes) calls other = one_of (effect s (DidChangeWatchedFiles changes) calls) (kept_watched s changes calls)
-  kept_effect (Cancel id) calls other = refl
-  kept_effect (Dap session message) calls other = kept_debugged session (request_of message) other
-
-  kept_told : (told : Result LspIn Refusal) (calls : List LibraryCall) → is_debugging number told ≡ false → Whenever IsKept (effect_of s told calls)
-  kept_told (Ok message) calls other = kept_effect message calls other
-  kept_told (Err refusal) calls other = refl
-
-  kept_asked : (told : Result LspIn Refusal) (calls : List LibraryCall) → is_debugging number told ≡ false → Whenever IsKept (asked s told calls)
-  kept_asked told calls other =
-      whenever_cond IsKept (is_passed_over s.stage told) (answered (quiet s)) _ calls refl
-      (whenever_unless IsKept s (refusal s.stage s.store (Some told)) (effect_of s told) calls (λ body. refl) (kept_told told calls other))
-
-  kept_received : (value : Option Data) (calls : List LibraryCall) → is_value_debugging number value ≡ false → Whenever IsKept (received s value calls)
-  kept_received None calls other = refl
-  kept_received (Some value) calls other =
-      whenever_cond IsKept (is_response value) (answered (quiet s)) (asked s (as_served (message_of value))) calls refl (kept_asked (as_served (message_of value)) calls other)
-
-  kept_event : (body : List ℕ) (calls : List LibraryCall) → is_body_debugging number body ≡ false → Whenever IsKept (event s body calls)
-  unfolding event
-  kept_event body calls other =
-      whenever_cond IsKept (is_ended s.stage) (answered (quiet s)) (received s (reading body)) calls refl (kept_received (reading body) calls other)
-
-  kept_step : (asked : Asked Effect) → Whenever IsKept asked → KeepsDebugger number s (step_of asked)
-  kept_step (Came effect rest) kept = kept
-  kept_step Lacks kept = tt
-  kept_step Differs kept = tt
+kept_step : (s : State) (number : ℕ) (asked : Asked Effect) → Whenever (λ effect. HasDebugger number s effect.state) asked → KeepsDebugger number s (step_of asked)
+kept_step s number (Came effect rest) kept = kept
+kept_step s number Lacks kept = tt
+kept_step s number Differs kept = tt
 
 pub message_keeps : (s : State) (number : ℕ) (body : List ℕ) (calls : List LibraryCall) → is_body_debugging number body ≡ false → KeepsDebugger number s (message s body calls)
-message_keeps s number body calls other = kept_step s number (event s body calls) (kept_event s number body calls other)
+message_keeps s number body calls other =
+    kept_step s number (event s body calls)
+    (stands_event s (λ effect. HasDebugger number s effect.state) (is_to number) (λ effect same. ap (session_of number) same) (other_told s number) body calls other)
 
 pub turn_keeps : (s : State) (number : ℕ) → HasDebugger number s (turn s).state
 turn_keeps s number = ap (session_of number) (kept_first s)
+
+-- ---- it keeps its trace until it is disconnected
+
+trace_same : (s t : State) (number : ℕ) (trace : List (Point TraceItem)) → HasTrace number trace s → t.debuggers ≡ s.debuggers → HasTrace number trace t
+trace_same s t number trace has same = ap (trace_in number) same ∙ has
+
+trace_told : (s : State) (number : ℕ) (trace : List (Point TraceItem)) → HasTrace number trace s
+    → StandsWhereTold s (is_end_of number) (λ effect. HasTrace number trace effect.state)
+unfolding debugged
+trace_told s number trace has said other =
+    launches_keep_their_traces s.debuggers number trace
+    (record { number = said.number; read = said.read; paths = s.store.paths; program = launched_by s said.number said.read } ∷ [])
+    has (ap (λ b. b || false) other)
+
+traced_step : (number : ℕ) (trace : List (Point TraceItem)) (asked : Asked Effect) → Whenever (λ effect. HasTrace number trace effect.state) asked
+    → KeepsTrace number trace (step_of asked)
+traced_step number trace (Came effect rest) kept = kept
+traced_step number trace Lacks kept = tt
+traced_step number trace Differs kept = tt
+
+pub message_keeps_trace : (s : State) (number : ℕ) (trace : List (Point TraceItem)) (body : List ℕ) (calls : List LibraryCall) → HasTrace number trace s
+    → is_body_disconnecting number body ≡ false → KeepsTrace number trace (message s body calls)
+message_keeps_trace s number trace body calls has other =
+    traced_step number trace (event s body calls)
+    (stands_event s (λ effect. HasTrace number trace effect.state) (is_end_of number) (λ effect same. trace_same s effect.state number trace has same)
+    (trace_told s number trace has) body calls other)
+
+pub turn_keeps_trace : (s : State) (number : ℕ) (trace : List (Point TraceItem)) → HasTrace number trace s → HasTrace number trace (turn s).state
+turn_keeps_trace s number trace has = trace_same s (turn s).state number trace has (kept_first s)

@@ -12,9 +12,11 @@ use Rattle.dap_messages.specs.declared.outgoing.DapOut.{DapOut}
 use Rattle.serde_json.specs.Data.{Data}
 use Rattle.library_reading.specs.Asked.{answered}
 use Rattle.lsp_messages.specs.declared.incoming.LspIn.TheVariants.{Dap}
-use Rattle.document_store.specs.Store.{OpenDocument, number_of}
-use Rattle.document_store.specs.Shown.{IsShown, Shows}
+use Rattle.text_pool.specs.Pool.{Pool}
+use Rattle.document_store.specs.Store.{Store, OpenDocument, Readable, number_of, present_at}
+use Rattle.document_store.specs.Shown.{IsShown, IsPresent, Shows}
 use Rattle.document_store.specs.declared.document.Document.{Document}
+use Rattle.document_store.specs.declared.document.MemberText.{MemberText}
 use Rattle.library_folders.specs.declared.folders.Folder.{Folder}
 use Rattle.std.specs.Prelude.{Result, Ok, Err}
 use Rattle.debug_sessions.specs.State.{Debuggers}
@@ -31,6 +33,7 @@ use Rattle.session_core.specs.Refusals.{is_active}
 use Rattle.session_core.specs.State.{State, libraries, is_program, document_at}
 use Rattle.session_core.specs.Step.{Effect, IsEffect, Acts}
 use Rattle.session_core.specs.Inside.{TellsTrace}
+use Rattle.session_core.proofs.TextLaws.{numbered, present_is}
 
 -- what was read is what was wanted, but for want of memory
 pub reads_itself : (read : Result DapIn DapRefusal) → IsReading read read
@@ -88,6 +91,17 @@ pub shown_of : (paths : List (List ℕ)) (found : Option OpenDocument) (shown : 
     → (document : OpenDocument) × Shows paths document shown
 shown_of paths None shown is = absurd is
 shown_of paths (Some document) shown is = (document, is)
+
+-- what is present at the number of a document that is shown is its text
+pub shown_text : (s : Store) (pool : Pool) (n : PathId) (shown : Document) (present : Option MemberText) → IsShown s.paths (document_at s n) (Some shown)
+    → IsPresent pool (present_at s n.0) present → (document : OpenDocument) × IsPresent pool (Some (Readable document.text)) present
+shown_text s pool n shown present is told = by_document (document_at s n) refl is where
+  by_document : (found : Option OpenDocument) → document_at s n ≡ found → IsShown s.paths found (Some shown)
+      → (document : OpenDocument) × IsPresent pool (Some (Readable document.text)) present
+  by_document None e is = absurd is
+  by_document (Some document) e shows =
+      let numbers = numbered s n document shown e shows in
+      (document, present_is s pool n document present told e numbers.path numbers.number)
 
 -- ---- paths
 

@@ -1,7 +1,8 @@
 use Rattle.std.proofs.Common.{◌≡◌, ◌<◌, length, Some, None, sym, ◌∙◌, subst}
+use Rattle.document_store.specs.Shown.{IsShown}
 use Rattle.session_core.specs.Debugging.{launched_at}
 use Rattle.session_core.specs.Inside.{TellsTrace}
-use Rattle.session_core.specs.State.{State}
+use Rattle.session_core.specs.State.{State, document_at}
 use Rattle.session_core.proofs.LaunchLaws.{shown_of, launched_none, launched_other, launched_made}
 use Rattle.session_core.proofs.TextLaws.{number_within}
 use Rattle.session_core.proofs.standing.Standing.launched_at.Goals as goal
@@ -27,6 +28,7 @@ pub trace_at-requires : goal.trace_at-requires
 trace_at-requires g c = record {
   given = subst (λ (z : State). c.args.path.0 < length z.store.paths) c.self.view_is
       (number_within c.self.inside.store.store c.args.path c.in-Some.document c.in-Some.ensures);
+  shown = subst (λ (z : State). IsShown z.store.paths (document_at z.store c.args.path) (Some c.in-Some.document)) c.self.view_is c.in-Some.ensures;
 }
 
 pub returns : goal.returns
