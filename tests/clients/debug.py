@@ -139,6 +139,28 @@ class Debugging(unittest.TestCase):
         self.assertTrue(editor.ask("disconnect")["success"])
         self.assertEqual(0, editor.end())
 
+    def test_the_session_of_the_manual(self):
+        """docs/USER.md, "Stepping through macros"."""
+        editor = self.launched(stopOnEntry=True)
+        member = os.path.join(self.folder, "macros/ADD.mac")
+        steps = (
+            ("configurationDone", "entry", ("OPEN CODE", "sum.hlasm", 1, 1), {}, {}),
+            ("next", "step", ("OPEN CODE", "sum.hlasm", 2, 1), {}, {"&SUM": "0"}),
+            ("stepIn", "step", ("ADD", "macros/ADD.mac", 3, 2), {"&N": "3"}, {}),
+            ("stepOut", "step", ("OPEN CODE", "sum.hlasm", 3, 1), {}, {"&SUM": "3"}),
+            ("continue", "breakpoint", ("ADD", "macros/ADD.mac", 4, 2), {"&N": "4"}, {"&SUM": "3"}),
+            ("stepOut", "step", ("OPEN CODE", "sum.hlasm", 4, 1), {}, {"&SUM": "7"}),
+        )
+        for command, reason, stop, local, shared in steps:
+            if command == "continue":
+                editor.ask("setBreakpoints", source={"path": member}, breakpoints=[{"line": 4}])
+            self.assertTrue(editor.ask(command)["success"])
+            self.assertEqual(("stopped", reason), editor.event())
+            self.assertEqual(stop, self.stop(editor))
+            self.assertEqual((local, shared), (self.variables(editor, 1, "Locals"), self.variables(editor, 1, "Globals")))
+        editor.ask("continue", threadId=1)
+        self.assertEqual(("terminated", None), editor.event())
+
     def test_a_breakpoint_in_a_macro(self):
         editor = self.launched()
         member = os.path.join(self.folder, "macros/ADD.mac")
