@@ -16,7 +16,7 @@ import time
 HERE = os.path.dirname(os.path.realpath(__file__))
 PAGE = os.path.join(HERE, "README.md")
 BEGIN, END = "<!-- figures, written by make bench -->\n", "<!-- end of the figures -->\n"
-SCRIPTS = ["statements.sh", "expressions.sh", "edits.sh", "session.sh", "definitions.sh", "open_code.sh", "macros.sh", "library.sh", "lookahead.sh", "layout.sh", "checks.sh", "memo.sh"]
+SCRIPTS = ["statements.sh", "expressions.sh", "edits.sh", "session.sh", "definitions.sh", "open_code.sh", "macros.sh", "library.sh", "lookahead.sh", "layout.sh", "checks.sh", "memo.sh", "launch.sh"]
 # More than so much of the processors' time in use: the figures would be those of a busy machine.
 MOST_BUSY = 0.05
 
@@ -103,6 +103,10 @@ ROWS = [
     Row("memo.sh", "100,000 different calls in one state, run and kept", r"(?m)^different calls in one state: 100,000 in ([\d.]+) s", "s", most=0.15),
     Row("memo.sh", "100,000 equal calls, reused", r"(?m)^equal calls, reused: 100,000 in ([\d.]+) s", "s", most=0.05),
     Row("memo.sh", "four times as many equal calls with different outcomes", r"four times as many ([\d.]+) times", "times", most=5),
+    Row("launch.sh", "a program with 100,000 points launched, up to the first stop", r"(?m)^launch: ([\d.]+) ms", "ms", "its list",
+        r"(?m)^list: ([\d.]+) ms", most=1.2),
+    Row("launch.sh", "a stop behind nearly all of its points", r"(?m)^stop: ([\d.]+) ms", "ms", most=5),
+    Row("launch.sh", "500 variables there", r"(?m)^variables: ([\d.]+) ms", "ms", most=20),
 ]
 
 

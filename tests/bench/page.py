@@ -54,7 +54,7 @@ class Page(unittest.TestCase):
             found, unmet = bench.figures(busy=False)
             for row in WANTED:
                 self.assertIn(row + "\n", found)
-            self.assertEqual(33, unmet)
+            self.assertEqual(37, unmet)
             for text in ("first\n", found):
                 bench.write_page(text)
             with open(bench.PAGE, encoding="utf-8") as file:
