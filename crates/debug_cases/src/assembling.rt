@@ -4,15 +4,12 @@ ghost use Rattle.text_pool.specs.Pool.{IsLive};
 
 use debug_sessions::Launched;
 use document_store::{DocumentStore, MemberText};
-use expansion_memo::Memo;
 use group_members::{GroupMembers, MemberIndex};
 use hl_base::{Ledger, OutOfMemory, PathId, Steps, Text, TextId};
-use macro_expand::{Expander, HlasmLanguage};
-use program_assembly::assemble;
+use program_launch::launch;
 use std::alloc::Global;
 use std::marker::Brand;
 use std::sync::ledger::Blank;
-use trace_arena::TraceArena;
 
 /// How many statements a program may be given.
 const BUDGET: u32 = 100_000;
@@ -37,14 +34,8 @@ fn trace<L: Ledger>(
     folders.push(Text::of(alloc, LIBRARY)?)?;
     let index = MemberIndex::of(alloc, store)?;
     let members = GroupMembers::new(store, &index, folders.as_slice());
-    let machine = Expander::new(HlasmLanguage);
-    let mut memo: Memo<Expander> = Memo::new(alloc);
-    let mut arena = TraceArena::new(alloc);
     let mut steps = Steps::<L>::open(blank);
-    let made = assemble(
-        &machine, alloc, path, text, "", &members, &mut memo, &mut arena, BUDGET, &mut steps,
-    )?;
-    Ok(Launched::of(arena, made.root))
+    launch(alloc, path, text, "", &members, BUDGET, &mut steps)
 }
 
 /// The trace of the program that is open at a path, if there is one.
