@@ -178,16 +178,16 @@ class Lint(unittest.TestCase):
                 self.assertEqual((2 if logs else 0, [], said), lint(name, folder=self.folder))
 
     def test_the_examples_of_the_user_page(self):
-        """Each code has examples, but those of which the page says why they have none: a ruler above, no line end behind, and below
-        it what is listed, which the code is in."""
+        """Each code has examples: a ruler above, no line end behind, and below it what is listed, which the code is in; and before it
+        the members of a library that it needs."""
         with open(os.path.join(TOP, "docs/USER.md"), encoding="utf-8") as file:
             sections = re.split(r"\n(?=##)", file.read())
         heads = [re.match(r"### (\w+) \(([\w ]+)\): (.*)\n", section) for section in sections]
         for head, section in [it for it in zip(heads, sections) if it[0]]:
             code, severity, says = head.groups()
             examples = re.findall(r"```hlasm\n.*\n([^`]*)\n```\n```text\n([^`]*)\n```\n", section)
-            if not examples:
-                self.assertRegex(section, r"so it does not come\.|There is no example", code)
+            self.assertTrue(examples, code)
+            self.members_of(section)
             for text, listed in examples:
                 with self.subTest(listed):
                     self.assertRegex(listed, rf"(?m)^example.hlasm:\d+:\d+: {self.any_of(severity)}: {self.any_of(says)} \[{code}\]$")
@@ -196,6 +196,17 @@ class Lint(unittest.TestCase):
         with open(os.path.join(TOP, "README.md"), encoding="utf-8") as file:
             table = re.findall(r"^\| `(H\d+|MNOTE)` \| ([\w ]+) \| ", file.read(), re.MULTILINE)
         self.assertEqual(table, [head.groups()[:2] for head in heads if head])
+
+    def members_of(self, section):
+        """The members that a section shows or describes, in the library of all programs."""
+        os.makedirs(os.path.join(self.folder, "lib"), exist_ok=True)
+        self.settings({"pgroups": [{"name": "G", "libs": ["lib"]}]}, {"pgms": [{"program": "*", "pgroup": "G"}]})
+        for name, text in re.findall(r"he member `(\w+)` of \w+ library:\n\n```hlasm\n.*\n([^`]*)\n```\n", section):
+            self.file(f"lib/{name}", text)
+        for name, byte in re.findall(r"he member `(\w+)` of a library is the one byte X'(\w\w)'", section):
+            self.file(f"lib/{name}", bytes.fromhex(byte))
+        for name, count, operation in re.findall(r"he member `(\w+)` of a library is ([\d,]+) lines `(\w+)`", section):
+            self.file(f"lib/{name}", "\n".join([f"         {operation}"] * int(count.replace(",", ""))))
 
     @staticmethod
     def any_of(says):
