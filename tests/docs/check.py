@@ -156,6 +156,16 @@ def definitions(faults):
     faults += [f"DEFINITIONS: nothing of {name}" for name in defining if name not in sections]
 
 
+def laws(faults):
+    """Each public law is named on one of the two pages on what is proved."""
+    pages = words_of(read("docs/PROOFS.md") + read("docs/DEFINITIONS.md"))
+    for name in CRATES:
+        for path in glob.glob(f"{TOP}/crates/{name}/src/**/laws*", recursive=True):
+            if os.path.isfile(path):
+                found = re.findall(r"(?m)^pub fn (\w+)", read(path))
+                faults += [f"no page names the law {law} of {name}" for law in found if law not in pages]
+
+
 def decisions(faults):
     """No decision stands twice, and no heading has nothing below it."""
     for page in ("docs/DECISIONS.md", "docs/ARCHITECTURE.md", "docs/PROOFS.md", "docs/DEFINITIONS.md", "bench/README.md"):
@@ -182,7 +192,7 @@ def counts(faults):
 
 def main():
     faults = []
-    for check in (layers, proved, first_page, definitions, decisions, counts):
+    for check in (layers, proved, first_page, definitions, laws, decisions, counts):
         check(faults)
     for fault in faults:
         print(f"FAIL {fault}")
