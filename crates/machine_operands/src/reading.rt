@@ -7,6 +7,7 @@ ghost use Rattle.expression_grammar.specs.declared.character.Grammar.TheVariants
 ghost use Rattle.expression_grammar.specs.Readings.{read, read_front};
 ghost use Rattle.machine_operands.specs.Views.{front_reading_of, reading_of};
 
+use crate::short::short;
 use crate::text::before;
 use constant_grammar::{Formula, read_formula};
 use expression_grammar::{Grammar, SyntaxFault, parse_front};
@@ -27,14 +28,25 @@ pub(crate) enum FrontReading {
     At(u32),
 }
 
-/// Reads an expression.
-pub(crate) fn read_whole(alloc: Global, text: &str) -> Result<Reading, OutOfMemory>
+/// Reads an expression of any length.
+#[inline(never)]
+fn read_long(alloc: Global, text: &str) -> Result<Reading, OutOfMemory>
     ensures { IfOk result (λ reading. reading_of reading ≡ read Ordinary (chars text.now)) }
 {
     match read_formula(alloc, text) {
         Ok(formula) => Ok(Reading::Tree(formula)),
         Err(SyntaxFault::At(at)) => Ok(Reading::At(at)),
         Err(SyntaxFault::OutOfMemory) => Err(OutOfMemory),
+    }
+}
+
+/// Reads an expression.
+pub(crate) fn read_whole(alloc: Global, text: &str) -> Result<Reading, OutOfMemory>
+    ensures { IfOk result (λ reading. reading_of reading ≡ read Ordinary (chars text.now)) }
+{
+    match short(text) {
+        Some(formula) => Ok(Reading::Tree(formula)),
+        None => read_long(alloc, text),
     }
 }
 
