@@ -16,7 +16,10 @@ import time
 HERE = os.path.dirname(os.path.realpath(__file__))
 PAGE = os.path.join(HERE, "README.md")
 BEGIN, END = "<!-- figures, written by make bench -->\n", "<!-- end of the figures -->\n"
-SCRIPTS = ["statements.sh", "expressions.sh", "edits.sh", "session.sh", "definitions.sh", "open_code.sh", "macros.sh", "library.sh", "lookahead.sh", "layout.sh", "checks.sh", "memo.sh"]
+SCRIPTS = [
+    "statements.sh", "expressions.sh", "effect.sh", "instructions.sh", "edits.sh", "session.sh", "definitions.sh", "open_code.sh",
+    "macros.sh", "library.sh", "lookahead.sh", "layout.sh", "checks.sh", "memo.sh", "traces.sh",
+]
 # More than so much of the processors' time in use: the figures would be those of a busy machine.
 MOST_BUSY = 0.05
 
@@ -49,9 +52,23 @@ class Row:
 def expressions(what, kind, nth):
     """The rows of one sort of expressions."""
     return [
-        Row("expressions.sh", f"a million characters of {what}", rf"(?m)^{kind}: \d+ bytes in ([\d.]+) ms", "ms", "a pass over the characters",
-            rf"the characters of these {kind}: \d+ bytes in ([\d.]+) ms"),
+        Row("expressions.sh", f"a million characters of {what}", rf"(?m)^{kind}: \d+ bytes in ([\d.]+) ms", "ms",
+            "a pass over the characters", rf"the characters of these {kind}: \d+ bytes in ([\d.]+) ms"),
         Row("expressions.sh", f"the time of twice the text of {what}", r"twice the text: ([\d.]+)", "times", most=2.2, nth=nth),
+    ]
+
+
+def effect(statement, most):
+    """The row of what a statement of conditional assembly does."""
+    return Row("effect.sh", f"`{statement}` performed", rf"(?m)^{re.escape(statement)}: (\d+) ns performed", "ns", most=most)
+
+
+def nested(items, nth):
+    """The rows of a million points in nodes of so many items."""
+    return [
+        Row("traces.sh", f"a point in nodes of {items}, beyond what a list takes", rf"nodes of {items}: .* ns, (-?\d+) more", "ns",
+            most=100),
+        Row("traces.sh", f"a step of a walk in nodes of {items}", r"a step of a walk through them ([\d.]+) ns", "ns", most=50, nth=nth),
     ]
 
 
@@ -62,6 +79,11 @@ ROWS = [
     *expressions("arithmetic expressions", "expressions", 0),
     *expressions("character expressions", "texts", 1),
     *expressions("logical expressions", "truths", 2),
+    effect("&I SETA &I+1", 150),
+    effect("AIF (&I LE 100).L", 200),
+    effect("LR 1,2", 50),
+    effect("&L DC F'&N'", 300),
+    Row("instructions.sh", "a machine instruction found by its mnemonic", r"found in ([\d.]+) ns", "ns", most=40),
     Row("edits.sh", "an edit of one character in 4 MiB", r"(?m)^edits: .* ([\d.]+) ms each", "ms", "a copy of the text",
         r"(?m)^copies: .* ([\d.]+) ms each", most=6),
     Row("session.sh", "500 keystrokes in 10,000 lines", r"served in (\d+) ms", "ms", "Python, which only reads their JSON",
@@ -80,12 +102,12 @@ ROWS = [
         r"32 times as many as \d+ take ([\d.]+) times", "times", most=48),
     Row("definitions.sh", "the time of a statement where such a definition is stopped, beside one that is read",
         r"a statement, ([\d.]+) times what one costs", "times", most=1.5),
-    Row("open_code.sh", "50,000 statements assembled, without conditional assembly", r"assembled in ([\d.]+) ms", "ms", "reading them alone",
-        r"read alone in ([\d.]+) ms", most=4),
+    Row("open_code.sh", "50,000 statements assembled, without conditional assembly", r"assembled in ([\d.]+) ms", "ms",
+        "reading them alone", r"read alone in ([\d.]+) ms", most=4),
     Row("open_code.sh", "a loop of 90,000 points", r"points: ([\d.]+) ms", "ms", most=150),
     Row("open_code.sh", "memory of a point", r"(?m)^memory: (\d+) bytes", "bytes", most=300),
-    Row("library.sh", "5,000 members read at `initialized`", r"members read at initialized in ([\d.]+) ms", "ms", "listing and reading them",
-        r"listed and read by a plain program, its start included, in ([\d.]+) ms", most=1.5),
+    Row("library.sh", "5,000 members read at `initialized`", r"members read at initialized in ([\d.]+) ms", "ms",
+        "listing and reading them", r"listed and read by a plain program, its start included, in ([\d.]+) ms", most=1.5),
     Row("library.sh", "a keystroke in a program that calls one of 5,000 members", r"calls one of \d+ members: ([\d.]+) ms", "ms"),
     Row("lookahead.sh", "the index of 50,000 statements", r"(?m)^the index of 50000 statements: made in ([\d.]+) ms", "ms"),
     Row("lookahead.sh", "a question, of ten thousand", r"(?m)^ten thousand questions: (\d+) ns", "ns", most=1000),
@@ -100,9 +122,14 @@ ROWS = [
     Row("macros.sh", "memory of a point of such calls", r"(?m)^memory: (\d+) bytes", "bytes", most=300),
     Row("macros.sh", "20,000 calls at depth 100", r"depth 100: (\d+) ms", "ms"),
     Row("macros.sh", "the same, beside depth 1", r"depth 100: .* ([\d.]+) times", "times", most=1.1),
-    Row("memo.sh", "100,000 different calls in one state, run and kept", r"(?m)^different calls in one state: 100,000 in ([\d.]+) s", "s", most=0.15),
+    Row("memo.sh", "100,000 different calls in one state, run and kept",
+        r"(?m)^different calls in one state: 100,000 in ([\d.]+) s", "s", most=0.15),
     Row("memo.sh", "100,000 equal calls, reused", r"(?m)^equal calls, reused: 100,000 in ([\d.]+) s", "s", most=0.05),
     Row("memo.sh", "four times as many equal calls with different outcomes", r"four times as many ([\d.]+) times", "times", most=5),
+    Row("traces.sh", "memory of an item of a trace", r"(?m)^an item takes (\d+) bytes", "bytes", most=300),
+    *nested(100, 0),
+    *nested(10, 1),
+    Row("traces.sh", "a point found in a node of 10,000 links", r"10,000 links: ([\d.]+) us", "µs", most=5),
 ]
 
 

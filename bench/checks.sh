@@ -81,13 +81,15 @@ fn main(rt: HostRuntime) -> io::Result<()> {
 PROGRAM
 python3 - "$work" <<'TEXTS'
 import sys
-shapes = ["LOAD{n:03} L     1,FIELD{where}", "SAVE{n:03} ST    1,FIELD{where}+4", "MOVE{n:03} MVC   AREA{where}(8),FIELD{where}", "STEP{n:03} LR    1,2",
+shapes = ["LOAD{n:03} L     1,FIELD{where}", "SAVE{n:03} ST    1,FIELD{where}+4", "MOVE{n:03} MVC   AREA{where}(8),FIELD{where}",
+          "STEP{n:03} LR    1,2",
           "MASK{n:03} TM    FLAG{where},X'80'", "BACK{n:03} LA    3,8(,4)", "NEXT{n:03} BC    8,*+8", "LITS{n:03} A     1,=F'{few}'",
           "MANY{n:03} STM   14,12,12(13)", "TEST{n:03} CLI   FLAG{where},C'A'"]
 COUNT = 50_000
 BLOCK = 400
 lines = ["BENCH    CSECT"] + [f"         USING MAP{k},{10 + k}" for k in range(3)] + ["         USING *,9"]
-last = ["         LTORG"] + [f"MAP{k}     DSECT\nFIELD{k}   DS    2F\nAREA{k}    DS    CL16\nFLAG{k}    DS    X" for k in range(3)] + ["         END"]
+maps = [f"MAP{k}     DSECT\nFIELD{k}   DS    2F\nAREA{k}    DS    CL16\nFLAG{k}    DS    X" for k in range(3)]
+last = ["         LTORG"] + maps + ["         END"]
 for n in range(COUNT - len(lines) - 14):
     if n % BLOCK == BLOCK - 2:
         lines.append("         LTORG")

@@ -153,7 +153,8 @@ fn main(rt: HostRuntime) -> io::Result<()> {
 PROGRAM
 python3 - "$work" <<'TEXTS'
 import sys
-shapes = ["&I       SETA  &I+1                      count", "         AIF   (&I LT 100).L{n:03}", ".L{n:03}    ANOP", "*        a comment on what follows",
+shapes = ["&I       SETA  &I+1                      count", "         AIF   (&I LT 100).L{n:03}", ".L{n:03}    ANOP",
+          "*        a comment on what follows",
           "LAB&SYSNDX MVC   TARGET,&FIELD           remarks on the move", "         LR    R1,R2"]
 def line(n):
     return shapes[n % 6].format(n=n % 1000).ljust(72) + "%08d\n" % n

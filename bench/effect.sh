@@ -69,7 +69,10 @@ fn main(rt: HostRuntime) -> io::Result<()> {
 }
 PROGRAM
 cd "$work/crates/effects_bench"
-rt run -- '&I SETA &I+1' ' AIF (&I LE 100).L' ' LR 1,2' "&L DC F'&N'" > "$work/times" 2> "$work/log" || { tail -n 20 "$work/times" "$work/log" >&2; exit 1; }
+rt run -- '&I SETA &I+1' ' AIF (&I LE 100).L' ' LR 1,2' "&L DC F'&N'" > "$work/times" 2> "$work/log" || {
+    tail -n 20 "$work/times" "$work/log" >&2
+    exit 1
+}
 python3 - "$work/times" <<'RESULT'
 import sys
 best = {}

@@ -87,15 +87,19 @@ PROGRAM
 python3 - "$work" <<'TEXTS'
 import sys
 arithmetic = ["&COUNT+1", "(&A(1)-K'&NAME)*2", "X'1F'/3 + &LONGER_NAME(&I,2)", " 4 * ( N'&SYSLIST - 1 ) ", "+".join(["(&V*12)"] * 120)]
-texts = ["'&NAME'.'_1'", "(&N+1)'AB'.T'&X", "'ABC&X..(''&Y(1,&I)'')'(2,*)", "T'&SYSLIST(&I)", ".".join(["'some text &V. and more of it'"] * 30)]
-truths = ["NOT &COUNT+1 EQ 3 AND (&A(1) GT 2)", "(&N EQ 1) OR ('&TYPE' NE 'X' AND T'&X EQ 'F')", "((1)) XOR (&A LT K'&NAME)", "(2)'AB' EQ '&V.&W'(1,4)", " OR ".join(["(&V EQ 12)"] * 80)]
+texts = ["'&NAME'.'_1'", "(&N+1)'AB'.T'&X", "'ABC&X..(''&Y(1,&I)'')'(2,*)", "T'&SYSLIST(&I)",
+         ".".join(["'some text &V. and more of it'"] * 30)]
+truths = ["NOT &COUNT+1 EQ 3 AND (&A(1) GT 2)", "(&N EQ 1) OR ('&TYPE' NE 'X' AND T'&X EQ 'F')", "((1)) XOR (&A LT K'&NAME)",
+          "(2)'AB' EQ '&V.&W'(1,4)", " OR ".join(["(&V EQ 12)"] * 80)]
 for name, lines, count in (("arithmetic", arithmetic, 5500), ("texts", texts, 5500), ("truths", truths, 5500)):
     for times in (1, 2):
         with open(f"{sys.argv[1]}/{name}{times}.txt", "w") as out:
             out.write("".join(lines[n % 5] + "\n" for n in range(count * times)))
 TEXTS
 cd "$work/crates/expressions_bench"
-rt run -- "$work/arithmetic1.txt" "$work/arithmetic2.txt" "$work/texts1.txt" "$work/texts2.txt" "$work/truths1.txt" "$work/truths2.txt" > "$work/times" 2> "$work/log" || { tail -n 20 "$work/times" "$work/log" >&2; exit 1; }
+files="$work/arithmetic1.txt $work/arithmetic2.txt $work/texts1.txt $work/texts2.txt $work/truths1.txt $work/truths2.txt"
+# shellcheck disable=SC2086
+rt run -- $files > "$work/times" 2> "$work/log" || { tail -n 20 "$work/times" "$work/log" >&2; exit 1; }
 python3 - "$work/times" <<'RESULT'
 import sys
 best = {}

@@ -55,8 +55,9 @@ def session(name, reads, keystrokes):
     messages.append(opened(f"file://{program}", text))
     for number in range(keystrokes):
         at = {"line": 0, "character": 11}
-        messages.append(frame({"method": "textDocument/didChange", "params": {"textDocument": {"uri": f"file://{program}", "version": number + 2},
-            "contentChanges": [{"range": {"start": at, "end": {"line": 0, "character": 11 + number % 2}}, "text": "" if number % 2 else "x"}]}}))
+        change = {"range": {"start": at, "end": {"line": 0, "character": 11 + number % 2}}, "text": "" if number % 2 else "x"}
+        document = {"uri": f"file://{program}", "version": number + 2}
+        messages.append(frame({"method": "textDocument/didChange", "params": {"textDocument": document, "contentChanges": [change]}}))
     messages += [frame({"id": 2, "method": "shutdown"}), frame({"method": "exit"})]
     path = f"{work}/{name}"
     with open(path, "wb") as out:

@@ -587,8 +587,11 @@ for (name, count), records in made.items():
     wanted = 2 if name == "equal" else 2 * count
     if records != wanted:
         sys.exit(f"{name}: {records} records of {count} calls, not {wanted}")
-for name, what, goal in (("different", "different calls in one state", 0.15), ("moved", "different calls in as many states", 0.15), ("equal", "equal calls, reused", 0.05)):
+goals = (("different", "different calls in one state", 0.15), ("moved", "different calls in as many states", 0.15),
+         ("equal", "equal calls, reused", 0.05))
+for name, what, goal in goals:
     print(f"{what}: 100,000 in {best[name, 100000] / 1e9:.3f} s (at most {goal})")
 few, twice, more = (best["outcomes", count] for count in (10000, 20000, 40000))
-print(f"equal calls with different outcomes: 10,000 in {few / 1e6:.1f} ms, twice as many {twice / few:.2f} times as long, four times as many {more / few:.2f} times (less than 2.4 and 5)")
+print(f"equal calls with different outcomes: 10,000 in {few / 1e6:.1f} ms, twice as many {twice / few:.2f} times as long, "
+      f"four times as many {more / few:.2f} times (less than 2.4 and 5)")
 RESULT

@@ -154,7 +154,8 @@ def main(program):
             if file.read() == now:
                 print(f"{program} is proved and built: nothing that it stands on has changed")
                 return 0
-    print(f"{program} stands on {len(names) - 1} crates. From nothing they take about 12 minutes on four processors; what is proved is kept.", flush=True)
+    print(f"{program} stands on {len(names) - 1} crates. From nothing they take more than half an hour on four processors; "
+          "what is proved is kept.", flush=True)
     began = time.time()
     status = build(program)
     if not status:

@@ -11,12 +11,11 @@ trap 'rm -rf "$work"' EXIT
 root=$work/$name
 mkdir -p "$root/docs" "$root/examples" "$target"
 "$top/tools/install.sh" "$root/bin" > "$work/said"
-parts='clients examples/library'
+parts='clients examples'
 for file in $(cd "$top" && git ls-files $parts 2> "$work/said" || (cd "$top" && find $parts -type f)); do
     if [ "$file" != clients/hlasm-lint ]; then install -D -m 644 "$top/$file" "$root/$file"; fi
 done
-for page in USER EDITORS PIPELINE; do install -m 644 "$top/docs/$page.md" "$root/docs/"; done
-install -m 644 "$top/examples/first.hlasm" "$root/examples/"
+for page in USER EDITORS PIPELINE INSTRUCTIONS; do install -m 644 "$top/docs/$page.md" "$root/docs/"; done
 install -m 644 "$top/VERSION" "$root/"
 sed "s/VERSION/$version/" "$top/tools/dist-readme.txt" > "$root/README"
 tar -C "$work" --sort=name --owner=0 --group=0 --numeric-owner --mtime=@0 -cf - "$name" | gzip -n > "$target/$name.tar.gz"

@@ -1,5 +1,6 @@
 #!/usr/bin/env bash
-# Tries every edit that must fail of the crates that are named, or of all crates: those of more-edits/ beside those of must-fail/, which the gate tries too.
+# Tries every edit that must fail of the crates that are named, or of all crates: those of more-edits/ beside those of must-fail/,
+# which the gate tries too.
 # The prover must refuse each: the verdict is that of rt must-fail, in a copy of the checkout where they all stand in must-fail/.
 set -euo pipefail
 top=$(cd "$(dirname "$0")/.." && pwd)

@@ -37,7 +37,8 @@ function libraryFolders(root) {
   } catch {
     return [];
   }
-  const paths = listIn(settings, 'pgroups').flatMap((group) => listIn(group, 'libs')).map((it) => (it && it.path !== undefined ? it.path : it));
+  const libraries = listIn(settings, 'pgroups').flatMap((group) => listIn(group, 'libs'));
+  const paths = libraries.map((it) => (it && it.path !== undefined ? it.path : it));
   return [...new Set(paths.filter((it) => typeof it === 'string').map((it) => path.resolve(root, it)))];
 }
 
@@ -45,7 +46,8 @@ function libraryFolders(root) {
 // are is read again when the settings change.
 class LibraryWatcher {
   constructor(root) {
-    Object.assign(this, { root, folders: [], created: new vscode.EventEmitter(), changed: new vscode.EventEmitter(), deleted: new vscode.EventEmitter() });
+    const emitters = { created: new vscode.EventEmitter(), changed: new vscode.EventEmitter(), deleted: new vscode.EventEmitter() };
+    Object.assign(this, { root, folders: [], ...emitters });
     this.onDidCreate = this.created.event;
     this.onDidChange = this.changed.event;
     this.onDidDelete = this.deleted.event;

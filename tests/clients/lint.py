@@ -46,8 +46,10 @@ LISTED = [
     ("at_column_16.hlasm", marked("A        LR    1,2") + " " * 15 + "B\n" + END, []),
     ("nine.hlasm", marked("*") + marked("") * 8 + "\n" + END, []),
     ("ten.hlasm", marked("*") + marked("") * 9 + "\n" + END, [f"1:1: {SURPLUS}"]),
-    ("ten_of_a_constant.hlasm", marked("A        DC    X'") + marked("") * 9 + " " * 15 + "00'\n" + END, [f"1:1: {SURPLUS}", f"1:1: {OPEN}", f"1:1: {BAD_CONSTANT}"]),
-    ("ten_of_a_condition.hlasm", marked("         AIF   (0).A,") + marked(" " * 15 + "(0).A,") * 9 + " " * 15 + "(1).B\n.A       LR    1\n.B" + END[2:], []),
+    ("ten_of_a_constant.hlasm", marked("A        DC    X'") + marked("") * 9 + " " * 15 + "00'\n" + END,
+     [f"1:1: {SURPLUS}", f"1:1: {OPEN}", f"1:1: {BAD_CONSTANT}"]),
+    ("ten_of_a_condition.hlasm",
+     marked("         AIF   (0).A,") + marked(" " * 15 + "(0).A,") * 9 + " " * 15 + "(1).B\n.A       LR    1\n.B" + END[2:], []),
     ("cut.hlasm", END + marked("*")[:-1], [f"2:1: {CUT}"]),
     ("order.hlasm", "\n" + marked("*") + "*\n" + BAD_MARGIN, [f"2:1: {MARGIN}", f"4:1: {MARGIN}", f"6:1: {NO_END}"]),
     ("crlf.hlasm", ("\n" + BAD_MARGIN + END).replace("\n", "\r\n"), [f"2:1: {MARGIN}"]),
@@ -167,7 +169,8 @@ class Lint(unittest.TestCase):
             ({"pgroups": [{"name": "G", "libs": [{"path": "none", "optional": True}]}]}, none, []),
             ({"pgroups": [{"name": "G", "libs": ["a.hlasm/"]}]}, none, [f"{top}/a.hlasm: Unlisted"]),
             ({"pgroups": [{"name": "G"}]}, none, [f"{top}/.hlasmplugin/proc_grps.json: BadConfig(libs)"]),
-            ("{", {"pgms": 1}, [f"{top}/.hlasmplugin/proc_grps.json: BadConfig(json)", f"{top}/.hlasmplugin/pgm_conf.json: BadConfig(pgms)"]),
+            ("{", {"pgms": 1},
+             [f"{top}/.hlasmplugin/proc_grps.json: BadConfig(json)", f"{top}/.hlasmplugin/pgm_conf.json: BadConfig(pgms)"]),
         ):
             with self.subTest(logs):
                 self.settings(groups, programs)
@@ -175,16 +178,16 @@ class Lint(unittest.TestCase):
                 self.assertEqual((2 if logs else 0, [], said), lint(name, folder=self.folder))
 
     def test_the_examples_of_the_user_page(self):
-        """Each code has examples, but those of which the page says why they have none: a ruler above, no line end behind, and below
-        it what is listed, which the code is in."""
+        """Each code has examples: a ruler above, no line end behind, and below it what is listed, which the code is in; and before it
+        the members of a library that it needs."""
         with open(os.path.join(TOP, "docs/USER.md"), encoding="utf-8") as file:
             sections = re.split(r"\n(?=##)", file.read())
         heads = [re.match(r"### (\w+) \(([\w ]+)\): (.*)\n", section) for section in sections]
         for head, section in [it for it in zip(heads, sections) if it[0]]:
             code, severity, says = head.groups()
             examples = re.findall(r"```hlasm\n.*\n([^`]*)\n```\n```text\n([^`]*)\n```\n", section)
-            if not examples:
-                self.assertRegex(section, r"so it does not come\.|There is no example", code)
+            self.assertTrue(examples, code)
+            self.members_of(section)
             for text, listed in examples:
                 with self.subTest(listed):
                     self.assertRegex(listed, rf"(?m)^example.hlasm:\d+:\d+: {self.any_of(severity)}: {self.any_of(says)} \[{code}\]$")
@@ -193,6 +196,17 @@ class Lint(unittest.TestCase):
         with open(os.path.join(TOP, "README.md"), encoding="utf-8") as file:
             table = re.findall(r"^\| `(H\d+|MNOTE)` \| ([\w ]+) \| ", file.read(), re.MULTILINE)
         self.assertEqual(table, [head.groups()[:2] for head in heads if head])
+
+    def members_of(self, section):
+        """The members that a section shows or describes, in the library of all programs."""
+        os.makedirs(os.path.join(self.folder, "lib"), exist_ok=True)
+        self.settings({"pgroups": [{"name": "G", "libs": ["lib"]}]}, {"pgms": [{"program": "*", "pgroup": "G"}]})
+        for name, text in re.findall(r"he member `(\w+)` of \w+ library:\n\n```hlasm\n.*\n([^`]*)\n```\n", section):
+            self.file(f"lib/{name}", text)
+        for name, byte in re.findall(r"he member `(\w+)` of a library is the one byte X'(\w\w)'", section):
+            self.file(f"lib/{name}", bytes.fromhex(byte))
+        for name, count, operation in re.findall(r"he member `(\w+)` of a library is ([\d,]+) lines `(\w+)`", section):
+            self.file(f"lib/{name}", "\n".join([f"         {operation}"] * int(count.replace(",", ""))))
 
     @staticmethod
     def any_of(says):
@@ -210,7 +224,8 @@ class Lint(unittest.TestCase):
                 status, lines, said = lint(self.file(name, text), folder=self.folder)
                 self.assertEqual([f"{name}:{report}" for report in reports], lines)
                 self.assertEqual(1 if any(": error: " in line for line in lines) else 0, status)
-                self.assertEqual(f"hlasm-lint: {name}: no more than 1000 reports of a file are listed\n" if len(lines) == 1000 else "", said)
+                most = f"hlasm-lint: {name}: no more than 1000 reports of a file are listed\n"
+                self.assertEqual(most if len(lines) == 1000 else "", said)
 
     def test_columns_are_characters(self):
         name = self.file("wide.hlasm", "*" + "\U0001d538" * 70 + "X\n  B\n" + END)
@@ -233,9 +248,11 @@ class Lint(unittest.TestCase):
         cases = [
             ("absent.hlasm", "absent.hlasm: cannot be read: No such file or directory"),
             (self.folder_of("nothing", ".hidden/a.hlasm", "notes.txt"), "nothing: has no file .hlasm, .asm, .mac, .cpy"),
-            (self.file("ebcdic.hlasm", "* AÜ".encode("cp500")), "ebcdic.hlasm: is not UTF-8 (byte 3); if it is EBCDIC, name its code page, as in --encoding IBM-1047"),
+            (self.file("ebcdic.hlasm", "* AÜ".encode("cp500")),
+             "ebcdic.hlasm: is not UTF-8 (byte 3); if it is EBCDIC, name its code page, as in --encoding IBM-1047"),
             (self.file("large.hlasm", " " * (4 * 1024 * 1024 + 1)), "large.hlasm: is above 4 MiB"),
-            (self.file("escapes.hlasm", "\x01" * 3_000_000), "escapes.hlasm: too many characters that JSON escapes: the message would be above 16 MiB"),
+            (self.file("escapes.hlasm", "\x01" * 3_000_000),
+             "escapes.hlasm: too many characters that JSON escapes: the message would be above 16 MiB"),
         ]
         for name, why in cases:
             with self.subTest(name):
@@ -300,7 +317,8 @@ class Lint(unittest.TestCase):
         groups = {"pgroups": [{"name": "G", "libs": ["lib/", {"path": "./copy", "optional": True}]}]}
         for settings, has_members in (groups, True), ("{", False), ("[]", False), ({"pgroups": 1}, False):
             self.settings(settings)
-            for name, is_member in ("a.hlasm", False), ("lib/b.hlasm", has_members), ("lib/below/c.hlasm", False), ("copy/d.hlasm", has_members):
+            files = ("a.hlasm", False), ("lib/b.hlasm", has_members), ("lib/below/c.hlasm", False), ("copy/d.hlasm", has_members)
+            for name, is_member in files:
                 with self.subTest((settings, name)):
                     self.assertEqual([] if is_member else ["H001", "H002", "H003"], self.codes_listed(name))
                     said = f"hlasm-lint: {name}: is a member of a library, so it is not checked as a program\n"
@@ -361,7 +379,8 @@ class Lint(unittest.TestCase):
             ("latin", "latin-1", "".join(line + "\n" for line in lines).encode("latin-1") + b"* \xe4 \x85\n"),
         ):
             with self.subTest(name):
-                self.assertEqual((1, [f"{name}:1:1: {MARGIN}"], ""), lint("--encoding", encoding, self.file(name, data), folder=self.folder))
+                found = lint("--encoding", encoding, self.file(name, data), folder=self.folder)
+                self.assertEqual((1, [f"{name}:1:1: {MARGIN}"], ""), found)
         bad = self.file("bad", b"\xe4\n")
         self.assertEqual((2, [], "hlasm-lint: bad: is not ascii (byte 1)\n"), lint("--encoding", "ascii", bad, folder=self.folder))
         large = self.file("large", b"\x51" * 3_000_000)

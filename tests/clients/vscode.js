@@ -32,7 +32,8 @@ class LanguageClient {
     this.process = spawn(this.command, this.args);
     this.ended = new Promise((done) => this.process.on('exit', done));
     this.process.stdout.on('data', (piece) => this.read(piece));
-    const { capabilities } = await this.ask('initialize', { processId: process.pid, rootUri: workspace ? pathToFileURL(workspace).href : null, capabilities: {} });
+    const rootUri = workspace ? pathToFileURL(workspace).href : null;
+    const { capabilities } = await this.ask('initialize', { processId: process.pid, rootUri, capabilities: {} });
     // The generic client puts each of these before the user unless the middleware answers in its place.
     for (const [offer, hook] of [['hoverProvider', 'provideHover'], ['definitionProvider', 'provideDefinition'],
       ['referencesProvider', 'provideReferences'], ['documentSymbolProvider', 'provideDocumentSymbols']]) {
@@ -171,7 +172,13 @@ const vscode = {
   commands: { registerCommand: (name, run) => { commands[name] = run; return { dispose() {} }; } },
   window: { get activeTextEditor() { return editor; } },
 };
-const modules = { vscode, 'vscode-languageclient/node': { LanguageClient: class extends LanguageClient { constructor(...words) { super(...words); client = this; } } } };
+class Started extends LanguageClient {
+  constructor(...words) {
+    super(...words);
+    client = this;
+  }
+}
+const modules = { vscode, 'vscode-languageclient/node': { LanguageClient: Started } };
 const load = Module._load;
 Module._load = (name, ...rest) => modules[name] || load(name, ...rest);
 

@@ -1,7 +1,8 @@
 #!/usr/bin/env python3
 """The extension for VS Code, started by node with a stand-in for the calls of VS Code and of its generic client: it starts the
 program, an opened file gets the list that hlasm-lint prints, what changes in a library shows in the list of the program that calls
-it, nothing is asked that is not answered, and it ends in good order; the tab key goes to the columns where fields begin; and what the manifest names is there. If there is no node it says so and
+it, nothing is asked that is not answered, and it ends in good order; the tab key goes to the columns where fields begin; and what
+the manifest names is there. If there is no node it says so and
 ends with 77: skipped.
 
 Usage: vscode.py [--server PATH]

@@ -2,7 +2,8 @@
 """Whole conversations with the built program: what a client sends, the exact bytes that are written, and how it ends.
 
 conversations.json has a list; each element says what it shows, the words after the program's name (`words`; `serve` where
-it has none), the bodies that are sent (`says`), the bodies that are written (`hears`) and the name of the status (`ends`). The body `initialize` stands for a whole such request, and `offer`
+it has none), the bodies that are sent (`says`), the bodies that are written (`hears`) and the name of the status (`ends`). The body
+`initialize` stands for a whole such request, and `offer`
 for its answer. Each was worked out by hand from LSP 3.17 and JSON-RPC 2.0.
 
 Usage: check.py [--server PATH]

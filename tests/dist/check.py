@@ -6,6 +6,7 @@ this runs as root) it answers the stored session byte for byte; and what make in
 Usage: check.py, once the program is built.
 """
 import os
+import re
 import subprocess
 import sys
 import tempfile
@@ -59,6 +60,13 @@ class Tarball(unittest.TestCase):
         for page in ("USER", "EDITORS", "PIPELINE"):
             self.assertIn(f"docs/{page}.md", " ".join(about))
             self.assertTrue(os.path.isfile(f"{self.folder}/docs/{page}.md"))
+
+    def test_what_its_pages_name_is_in_it(self):
+        for page in sorted(os.listdir(f"{self.folder}/docs")):
+            text = read(f"{self.folder}/docs/{page}")
+            pages = [f"docs/{name}" for name in re.findall(r"(?<![\w/])(?:docs/)?([A-Z]+\.md)\b", text)]
+            for name in pages + re.findall(r"(?<![\w/])(?:clients|examples)/[\w./-]*\w", text):
+                self.assertTrue(os.path.exists(f"{self.folder}/{name}"), f"{page} names {name}")
 
     def libraries(self):
         """The libraries that the program needs: their names, and where they are here."""

@@ -178,7 +178,8 @@ def with_texts_alone(g):
     while grew:
         more = {name for name, bodies in g.rules.items() if any(all(not isinstance(s, str) or s in live for s in body) for body in bodies)}
         grew, live = more != live, more
-    g.rules = {name: [body for body in bodies if all(not isinstance(s, str) or s in live for s in body)] for name, bodies in g.rules.items() if name in live}
+    is_live = lambda body: all(not isinstance(s, str) or s in live for s in body)
+    g.rules = {name: [body for body in bodies if is_live(body)] for name, bodies in g.rules.items() if name in live}
     return g
 
 
@@ -267,4 +268,7 @@ class Recognizer:
         return None if whole else len(text)
 
 
-GRAMMARS = {"arith": Recognizer(arithmetic()), "ordinary": Recognizer(ordinary()), "char": Recognizer(character()), "logic": Recognizer(logical())}
+GRAMMARS = {
+    "arith": Recognizer(arithmetic()), "ordinary": Recognizer(ordinary()), "char": Recognizer(character()),
+    "logic": Recognizer(logical()),
+}

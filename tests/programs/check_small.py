@@ -104,7 +104,8 @@ def list_of(case, server, room):
     path = os.path.join(room, "program.hlasm")
     with open(path, "w", encoding="utf-8", newline="") as file:
         file.write("".join(case.lines))
-    ran = subprocess.run([sys.executable, LINT, "--server", server_of(case, server, room), path], capture_output=True, timeout=120, encoding="utf-8")
+    words = [sys.executable, LINT, "--server", server_of(case, server, room), path]
+    ran = subprocess.run(words, capture_output=True, timeout=120, encoding="utf-8")
     listed = [line.removeprefix(f"{path}:") for line in ran.stdout.splitlines()]
     return listed + [f"standard error: {ran.stderr}"] * bool(ran.stderr)
 
