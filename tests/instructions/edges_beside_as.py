@@ -46,7 +46,7 @@ class Edge:
         texts = [*row.operands[:place], text, *row.operands[place + 1:]]
         self.names = (kind, text), (row.mnemonic, text)
         self.line = f"         {row.mnemonic:<8} {','.join(texts)}"
-        self.for_as = re.sub("X'([0-9A-F]+)'", r"0x\1", f" {row.name} {','.join(texts + row.fixed)}")
+        self.for_as = re.sub("X'([0-9A-F]+)'", r"0x\1", f" {row.name} {','.join(texts + row.fixed).replace('here', '.')}")
 
     def is_known(self):
         """Whether as is known to differ in it."""
