@@ -25,12 +25,20 @@ program_of() {
         statement_names) echo name_cases ;;
         statement_checks) echo layout_cases ;;
         using_statements) echo using_cases ;;
-        machine_operands | operand_checks) echo operand_cases ;;
+        machine_operands | operand_checks | instruction_operands) echo operand_cases ;;
         declarations | branches | templates | field_ends | operations | effects | calls) echo statement_cases ;;
         expansions) echo expansion_cases ;;
         symbol_answers) echo answer_cases ;;
         prototypes | bindings | parameter_values) echo definition_cases ;;
         definitions | defining_members | comparisons) echo definition_cases ;;
+    esac
+}
+
+# The word by which its program knows a table.
+word_of() {
+    case $1 in
+        instruction_operands) echo operand_checks ;; # which has the same columns
+        *) echo "$1" ;;
     esac
 }
 
@@ -46,7 +54,7 @@ compare() {
         echo "$1: $program is not built: run rt run in crates/$name, or rt ci"
         return 1
     fi
-    found=$("$program" "$1" < "$1.txt")
+    found=$("$program" "$(word_of "$1")" < "$1.txt")
     answered=$?
     echo "$found" | sed "s/^/$1: /"
     return $answered

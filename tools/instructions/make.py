@@ -1,11 +1,12 @@
 #!/usr/bin/env python3
 """Makes what is written of the machine instructions from instructions.tsv beside it: the rows of the crate instruction_table
-(src/rows.rt), the page docs/INSTRUCTIONS.md and the tables of cases tests/cases/instructions.txt and
-tests/cases/operand_counts.txt. With --check it writes nothing, and fails if one of them differs from what it would write.
+(src/rows.rt), the page docs/INSTRUCTIONS.md and the tables of cases tests/cases/instructions.txt, operand_counts.txt and
+instruction_operands.txt. With --check it writes nothing, and fails if one of them differs from what it would write.
 
 The rows stand in the order of a perfect hash. The mnemonic of a row, eight characters with blanks behind, is a number of 64
 bits; with R rows and S shifts its row is number (n mod R + shift[n mod S]) mod R. That each row stands where this says is
 proved, so a mistake here is found by the gate."""
+import itertools
 import os
 import sys
 
@@ -37,6 +38,49 @@ KINDS = {
     "L2": ("LengthTo16", "an address with a length, 0 to 16"),
     "L3": ("RegisterLength", "an address with a register in the length's place: `d(r)`, `d(r,b)`"),
     "T": ("Target", "a relative target"),
+}
+# Of each kind of operand those that are right, at both ends of what it may be, and those that are wrong, just outside, each with
+# what is said of it: 72 of a place where a number is wanted, 81 of a register or a mask, 82 of an immediate value, 84 of a
+# displacement, 85 of a length, 86 of an odd target.
+REGISTER = (["0", "15"], [("16", "81"), ("-1", "81"), ("PLACE", "72")])
+IMMEDIATE_16 = (["-32768", "65535"], [("-32769", "82"), ("65536", "82"), ("PLACE", "72")])
+INDEXED = [("4096(1,2)", "84"), ("-1(1,2)", "84"), ("0(16,2)", "81"), ("0(1,16)", "81"), ("4096", "83"), ("PLACE", "83")]
+LONG = [("524288(1,2)", "84"), ("-524289(1,2)", "84"), ("0(16,2)", "81"), ("0(1,-1)", "81"), ("524288", "83"), ("PLACE", "83")]
+OPERANDS = {
+    "R": REGISTER,
+    "F": REGISTER,
+    "AR": REGISTER,
+    "CR": REGISTER,
+    "M": REGISTER,
+    "V": (["0", "31"], [("32", "81 vector"), ("-1", "81 vector"), ("PLACE", "72")]),
+    "I4": (["0", "15"], [("16", "82"), ("-1", "82"), ("PLACE", "72")]),
+    "I8": (["0", "255"], [("256", "82"), ("-1", "82"), ("PLACE", "72")]),
+    "I8S": (["-128", "255"], [("256", "82"), ("-129", "82"), ("PLACE", "72")]),
+    "U12": (["0", "4095"], [("4096", "82"), ("-1", "82"), ("PLACE", "72")]),
+    "I16": IMMEDIATE_16,
+    "U16": IMMEDIATE_16,
+    "I32": (["-2147483647-1", "X'FFFFFFFF'"], [("PLACE", "72"), ("2147483647+1", "72")]),
+    "X": (["0(0,15)", "4095(15,0)", "4095(15)", "0"], INDEXED),
+    "XL": (["-524288(0,15)", "524287(15,0)", "524287(15)", "-524288"], LONG),
+    "VX": (["0(31,15)", "4095(0,0)", "4095(31)", "0"], [*INDEXED[:2], ("0(32,2)", "81 vector"), *INDEXED[3:]]),
+    "B": (["0(15)", "4095(0)", "4095"], [("4096(2)", "84"), ("-1(2)", "84"), ("0(16)", "81"), ("-1", "83"), ("PLACE", "83")]),
+    "BL": (
+        ["-524288(15)", "524287(0)", "524287"],
+        [("524288(2)", "84"), ("-524289(2)", "84"), ("0(16)", "81"), ("-524289", "83"), ("PLACE", "83")],
+    ),
+    "L1": (
+        ["0(0,15)", "4095(256,0)", "4095(256)", "0"],
+        [("4096(1,2)", "84"), ("-1(1,2)", "84"), ("0(257,2)", "85"), ("0(-1,2)", "85"), ("0(1,16)", "81"), ("PLACE(1)", "83")],
+    ),
+    "L2": (
+        ["0(0,15)", "4095(16,0)", "4095(16)", "0"],
+        [("4096(1,2)", "84"), ("-1(1,2)", "84"), ("0(17,2)", "85"), ("0(-1,2)", "85"), ("0(1,16)", "81"), ("PLACE(1)", "83")],
+    ),
+    "L3": (
+        ["0(0,15)", "4095(15,0)", "4095(15)"],
+        [("4096(1,2)", "84"), ("-1(1,2)", "84"), ("0(16,2)", "81"), ("0(1,16)", "81"), ("PLACE(1)", "83")],
+    ),
+    "T": (["PLACE", "*+8", "0"], [("PLACE+1", "86"), ("*-7", "86")]),
 }
 LENGTHS = {"RR": 2, "I": 2, "E": 2, "RX": 4, "RS": 4, "RSI": 4, "SI": 4, "S": 4, "RI": 4, "RRE": 4, "RRF": 4, "RRD": 4, "IE": 4}
 ENCODINGS = (
@@ -290,6 +334,30 @@ def counts(rows):
     return "\n".join(head + lines + [""])
 
 
+def statement(mnemonic, operands):
+    """A statement of the table of cases on operands."""
+    return f"PLACE=0:64 |  |  | {' '.join(filter(None, [mnemonic, ','.join(operands)]))}"
+
+
+def faults(rows):
+    """The table of cases on operands. In turn each operand that is right or wrong for its kind stands somewhere."""
+    lines = [
+        "# Each machine instruction with right operands, of which nothing is said, and then with each of its operands wrong in turn.",
+        "# tools/instructions/make.py wrote this table from tools/instructions/instructions.tsv and the ends of what each kind of",
+        "# operand may be; the columns are those of operand_checks.",
+    ]
+    right = {kind: itertools.cycle(texts) for kind, (texts, _) in OPERANDS.items()}
+    wrong = {kind: itertools.cycle(texts) for kind, (_, texts) in OPERANDS.items()}
+    for mnemonic, _, operands in sorted(rows):
+        kinds = [kind.strip("[]") for kind in operands]
+        texts = [next(right[kind]) for kind in kinds]
+        lines.append(f"{statement(mnemonic, texts)} => ;")
+        for place, kind in enumerate(kinds):
+            text, said = next(wrong[kind])
+            lines.append(f"{statement(mnemonic, [*texts[:place], text, *texts[place + 1:]])} => ; {said}")
+    return "\n".join([*lines, ""])
+
+
 def main():
     rows = read_table()
     wanted = {
@@ -297,6 +365,7 @@ def main():
         "docs/INSTRUCTIONS.md": page(rows),
         "tests/cases/instructions.txt": cases(rows),
         "tests/cases/operand_counts.txt": counts(rows),
+        "tests/cases/instruction_operands.txt": faults(rows),
     }
     status = 0
     for name, text in wanted.items():
