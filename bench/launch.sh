@@ -12,8 +12,8 @@ from replay import frame, opened
 
 # A macro of nine statements, and one that sets 500 elements of an array and stops behind them.
 NINE = "         MACRO\n         NINE  &P\n         LCLA  &I\n" + "&I       SETA  &I+&P\n" * 8 + "         MEND\n"
-MANY = ("         MACRO\n         MANY\n         ACTR  2000\n         LCLA  &I,&V(500)\n.NEXT    ANOP\n&I       SETA  &I+1\n&V(&I)   SETA  &I\n"
-        "         AIF   (&I LT 500).NEXT\n         ANOP\n         MEND\n")
+MANY = ("         MACRO\n         MANY\n         ACTR  2000\n         LCLA  &I,&V(500)\n.NEXT    ANOP\n&I       SETA  &I+1\n"
+        "&V(&I)   SETA  &I\n         AIF   (&I LT 500).NEXT\n         ANOP\n         MEND\n")
 TEXT = NINE + MANY + "         NINE  1\n" * 9_800 + "         MANY\n         END\n"
 LINES = TEXT.split("\n")
 SHOWN = LINES.index("         ANOP") + 1

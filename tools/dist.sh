@@ -1,6 +1,7 @@
 #!/bin/sh
-# Makes hlasm_ls-VERSION-linux-x86_64.tar.gz, with the program as it was built, hlasm-lint, hlasm-debug, the clients, the pages for users and a
-# README: all that a machine without the kit needs. Usage: tools/dist.sh [FOLDER], where the tarball goes (default: dist).
+# Makes hlasm_ls-VERSION-linux-x86_64.tar.gz, with the program as it was built, hlasm-lint, hlasm-debug, the clients, the pages for
+# users and a README: all that a machine without the kit needs. Usage: tools/dist.sh [FOLDER], where the tarball goes (default:
+# dist).
 set -eu
 top=$(cd "$(dirname "$0")/.." && pwd)
 target=${1:-$top/dist}

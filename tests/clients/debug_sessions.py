@@ -17,7 +17,10 @@ BUILT = os.path.join(TOP, "crates/hlasm_ls/out/hlasm_ls")
 TABLE = os.path.join(TOP, "tests/cases/debug_sessions.txt")
 TEXTS = os.path.join(TOP, "crates/debug_cases/src/texts.rt")
 ESCAPES = {"n": "\n", "r": "\r"}
-CONFIGURATION = {"proc_grps.json": {"pgroups": [{"name": "G", "libs": ["lib"]}]}, "pgm_conf.json": {"pgms": [{"program": "*", "pgroup": "G"}]}}
+CONFIGURATION = {
+    "proc_grps.json": {"pgroups": [{"name": "G", "libs": ["lib"]}]},
+    "pgm_conf.json": {"pgms": [{"program": "*", "pgroup": "G"}]},
+}
 
 
 def texts():

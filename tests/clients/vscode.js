@@ -8,6 +8,7 @@ const { pathToFileURL } = require('url');
 const Module = require('module');
 
 const [folder, program, file, workspace] = process.argv.slice(2);
+const SETTINGS = { 'hlasm-ls.command': program, 'hlasm-ls.debugCommand': 'hlasm-debug' };
 const manifest = JSON.parse(fs.readFileSync(path.join(folder, 'package.json'), 'utf8'));
 const found = { version: manifest.version, lists: {}, typed: [], asked: [], changes: [] };
 
@@ -146,7 +147,7 @@ const adapters = {};
 const editor = { selections: [], edit: async (change) => change({ insert: (at, text) => found.typed.push([at.character, text.length]) }) };
 const vscode = {
   workspace: {
-    getConfiguration: (section) => ({ get: (name) => ({ 'hlasm-ls.command': program, 'hlasm-ls.debugCommand': 'hlasm-debug' })[`${section}.${name}`] }),
+    getConfiguration: (section) => ({ get: (name) => SETTINGS[`${section}.${name}`] }),
     workspaceFolders: workspace ? [{ uri: { scheme: 'file', fsPath: workspace } }] : undefined,
     createFileSystemWatcher: (pattern) => new Watcher(pattern),
   },
@@ -195,7 +196,8 @@ async function main() {
   await extension.activate(context);
   found.disposables = context.subscriptions.length;
   const [debugged] = manifest.contributes.debuggers;
-  found.adapters = [undefined, { uri: { fsPath: '/w' } }].map((workspaceFolder) => adapters[debugged.type].createDebugAdapterDescriptor({ workspaceFolder }));
+  const adapterIn = (workspaceFolder) => adapters[debugged.type].createDebugAdapterDescriptor({ workspaceFolder });
+  found.adapters = [undefined, { uri: { fsPath: '/w' } }].map(adapterIn);
   for (const name of [file, `${file}.txt`]) found.lists[path.basename(name)] = await client.open(name);
   if (workspace) await changeLibrary();
   editor.selections = [0, 3, 8, 9, 14, 15, 16, 23].map((character) => ({ active: { line: 0, character } }));

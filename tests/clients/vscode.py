@@ -53,7 +53,8 @@ class Extension(unittest.TestCase):
         self.assertIsNone(found["lists"]["first.hlasm.txt"], "a file of another language is opened")
         self.assertEqual([], found["asked"], "asked without an answer")
         self.assertEqual((0, 2), (found["status"], found["disposables"]))
-        self.assertEqual([("hlasm-debug", []), ("hlasm-debug", ["--root", "/w"])], [(it["command"], it["args"]) for it in found["adapters"]])
+        adapters = [(it["command"], it["args"]) for it in found["adapters"]]
+        self.assertEqual([("hlasm-debug", []), ("hlasm-debug", ["--root", "/w"])], adapters)
 
     def test_changes_in_a_library_and_in_settings(self):
         with tempfile.TemporaryDirectory(prefix="hlasm-vscode-") as room:

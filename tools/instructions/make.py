@@ -204,6 +204,30 @@ def format_row(encoding, operands, first):
     )
 
 
+# What the file of rows begins with.
+HEAD = [
+    "//! The machine instructions, as tools/instructions/make.py wrote them from the table beside it: change that, not this.",
+    "use crate::{Encoding, Format, Kind};",
+    "",
+    "/// A mnemonic, with blanks behind it, and the place of its format in `FORMATS`.",
+    "pub struct Row {",
+    "    pub mnemonic: [u8; 8],",
+    "    pub format: u8,",
+    "}",
+    "",
+    "/// Rows, each a mnemonic and the place of its format.",
+    "macro_rules! rows {",
+    "    ($($mnemonic:literal $format:literal;)*) => {",
+    "        [$(Row {",
+    "            mnemonic: *$mnemonic,",
+    "            format: $format,",
+    "        }),*]",
+    "    };",
+    "}",
+    "",
+]
+
+
 def source(rows):
     """The file of rows of the crate."""
     groups = by_shape(rows)
@@ -216,25 +240,7 @@ def source(rows):
     entries = [f'b"{name:8}" {numbers[shapes[name]]};' for name in placed]
     return "\n".join(
         [
-            "//! The machine instructions, as tools/instructions/make.py wrote them from the table beside it: change that, not this.",
-            "use crate::{Encoding, Format, Kind};",
-            "",
-            "/// A mnemonic, with blanks behind it, and the place of its format in `FORMATS`.",
-            "pub struct Row {",
-            "    pub mnemonic: [u8; 8],",
-            "    pub format: u8,",
-            "}",
-            "",
-            "/// Rows, each a mnemonic and the place of its format.",
-            "macro_rules! rows {",
-            "    ($($mnemonic:literal $format:literal;)*) => {",
-            "        [$(Row {",
-            "            mnemonic: *$mnemonic,",
-            "            format: $format,",
-            "        }),*]",
-            "    };",
-            "}",
-            "",
+            *HEAD,
             "/// The kinds of operands, list after list.",
             "#[rattlefmt::skip]",
             f"pub static KINDS: [Kind; {sum(line.count(',') for line in kinds)}] = [",
