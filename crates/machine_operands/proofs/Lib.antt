@@ -1,2 +1,4 @@
 pub mod TextLaws
 pub mod ShortLaws
+pub mod FrontLaws
+pub mod LiteralLaws

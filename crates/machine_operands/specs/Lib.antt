@@ -1,4 +1,5 @@
 pub mod Forms
+pub mod Short
 pub mod Parts
 pub mod Operands
 pub mod Views

@@ -7,6 +7,7 @@ ghost use Rattle.machine_operands.specs.Views.{displacement_of, parts_reading_of
 
 use crate::parts::{PartsReading, read_parts};
 use crate::reading::{Reading, read_before, read_whole};
+use crate::short::short_front;
 use crate::text::{behind, character_count, head, sum};
 use crate::{Address, AddressForm, Displacement, Written};
 use constant_grammar::Formula;
@@ -82,8 +83,20 @@ fn behind_expression(
     }
 }
 
-/// An address without literal.
+/// An address without literal, however it begins.
+#[inline(never)]
 #[tactic(auto, unfolding(crate::specs::Operands::plain_address))]
+fn long_address(alloc: Global, form: AddressForm, text: &str) -> Result<Written, OutOfMemory>
+    ensures { IfOk result (λ written. written_of written ≡ spec.plain_address form (chars text.now)) }
+{
+    match read_whole(alloc, text)? {
+        Reading::Tree(tree) => bare(form, Displacement::Expression(tree), text),
+        Reading::At(at) => behind_expression(alloc, form, text, at),
+    }
+}
+
+/// An address without literal.
+#[tactic(auto, using(crate::proofs::FrontLaws::address-opened))]
 pub(crate) fn plain_address(
     alloc: Global,
     form: AddressForm,
@@ -91,9 +104,14 @@ pub(crate) fn plain_address(
 ) -> Result<Written, OutOfMemory>
     ensures { IfOk result (λ written. written_of written ≡ spec.plain_address form (chars text.now)) }
 {
-    match read_whole(alloc, text)? {
-        Reading::Tree(tree) => bare(form, Displacement::Expression(tree), text),
-        Reading::At(at) => behind_expression(alloc, form, text, at),
+    match short_front(text) {
+        Some(front) => {
+            if front.stop == '(' {
+                return opened(alloc, Some(front.tree), form, front.count, front.rest);
+            }
+            long_address(alloc, form, text)
+        }
+        None => long_address(alloc, form, text),
     }
 }
 

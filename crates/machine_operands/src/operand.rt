@@ -124,6 +124,7 @@ fn literal_written(
 }
 
 /// An operand that begins with a literal, which is this constant.
+#[inline(never)]
 fn with_literal(
     alloc: Global,
     form: OperandForm,
@@ -161,6 +162,7 @@ pub fn begins_literal(text: &str) -> bool
 }
 
 /// The literal in an operand, if one may stand there.
+#[tactic(auto, using(crate::proofs::LiteralLaws::literal_in-none))]
 fn literal_if(
     alloc: Global,
     takes: bool,
@@ -168,7 +170,7 @@ fn literal_if(
 ) -> Result<Option<LiteralOperand<'_>>, OutOfMemory>
     ensures { IfOk result (λ found. option_map literal_of found ≡ spec.literal_if takes (chars text.now)) }
 {
-    if takes {
+    if takes && begins_literal(text) {
         return literal_operand(alloc, text);
     }
     Ok(None)

@@ -3,10 +3,12 @@ ghost use Rattle.std.specs.Prelude.{◌≡◌, IfOk};
 ghost use Rattle.std.specs.Str.{chars};
 ghost use Rattle.constant_grammar.specs.Views.{tree_if, tree_in};
 ghost use Rattle.machine_operands.specs.Parts as spec;
+ghost use Rattle.machine_operands.specs.Short.{IsShortFront};
 ghost use Rattle.machine_operands.specs.Views.{parts_of, parts_reading_of, reading_of};
 
 use crate::AddressForm;
 use crate::reading::{FrontReading, Reading, read_before, read_closed};
+use crate::short::{ShortFront, short_front};
 use crate::text::{behind, character_count, head, sum};
 use constant_grammar::Formula;
 use hl_base::OutOfMemory;
@@ -37,14 +39,30 @@ fn closed(count: u32, text: &str, tree: Formula, before: usize) -> Result<Readin
     Ok(Reading::At(sum(count, end)?))
 }
 
-/// The last expression.
+/// The last expression, however it begins.
+#[inline(never)]
 #[tactic(auto, unfolding(crate::specs::Parts::last))]
-fn last(alloc: Global, count: u32, text: &str) -> Result<Reading, OutOfMemory>
+fn long_last(alloc: Global, count: u32, text: &str) -> Result<Reading, OutOfMemory>
     ensures { IfOk result (λ reading. reading_of reading ≡ spec.last count (chars text.now)) }
 {
     match read_closed(alloc, text)? {
         FrontReading::Tree(tree, before) => closed(count, text, tree, before),
         FrontReading::At(at) => Ok(Reading::At(sum(count, at as usize)?)),
+    }
+}
+
+/// The last expression.
+fn last(alloc: Global, count: u32, text: &str) -> Result<Reading, OutOfMemory>
+    ensures { IfOk result (λ reading. reading_of reading ≡ spec.last count (chars text.now)) }
+{
+    match short_front(text) {
+        Some(front) => {
+            if front.stop == ')' {
+                return closed(count, text, front.tree, front.count as usize);
+            }
+            long_last(alloc, count, text)
+        }
+        None => long_last(alloc, count, text),
     }
 }
 
@@ -130,9 +148,10 @@ fn two(
     }
 }
 
-/// What begins with an expression.
+/// What begins with an expression, however that begins.
+#[inline(never)]
 #[tactic(auto, unfolding(crate::specs::Parts::given))]
-fn given(
+fn long_given(
     alloc: Global,
     form: AddressForm,
     count: u32,
@@ -143,6 +162,42 @@ fn given(
     match read_closed(alloc, text)? {
         FrontReading::Tree(tree, before) => Ok(alone(form, closed(count, text, tree, before)?)),
         FrontReading::At(at) => two(alloc, form, count, text, at),
+    }
+}
+
+/// What begins with a symbol or a decimal number.
+fn short_given(
+    alloc: Global,
+    form: AddressForm,
+    count: u32,
+    text: &str,
+    front: ShortFront<'_>,
+) -> Result<PartsReading, OutOfMemory>
+    requires { IsShortFront (chars text.now) (tree_in front.tree) front.count front.stop (chars front.rest.now) }
+    ensures { IfOk result (λ parts. parts_reading_of parts ≡ spec.given form count (chars text.now)) }
+{
+    if front.stop == ')' {
+        let reading = closed(count, text, front.tree, front.count as usize)?;
+        return Ok(alone(form, reading));
+    }
+    if front.stop == ',' && form.has_two() {
+        return with_first(alloc, Some(front.tree), count, front.count, front.rest);
+    }
+    long_given(alloc, form, count, text)
+}
+
+/// What begins with an expression.
+fn given(
+    alloc: Global,
+    form: AddressForm,
+    count: u32,
+    text: &str,
+) -> Result<PartsReading, OutOfMemory>
+    ensures { IfOk result (λ parts. parts_reading_of parts ≡ spec.given form count (chars text.now)) }
+{
+    match short_front(text) {
+        Some(front) => short_given(alloc, form, count, text, front),
+        None => long_given(alloc, form, count, text),
     }
 }
 
