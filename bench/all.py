@@ -91,6 +91,8 @@ ROWS = [
         r"its start included, in (\d+) ms"),
     Row("session.sh", "instructions of a keystroke with its list", r"(\d+) instructions a keystroke", "instructions"),
     Row("session.sh", "memory of 1,000 edits", r"(?m)^1000 edits.* (\d+) kB", "kB", "10 edits", r"(?m)^10 edits.* (\d+) kB", most=1.1),
+    Row("session.sh", "a keystroke in a program of 10,000 lines, from message to frame", r"one of 1 open programs.*: ([\d.]+) ms", "ms",
+        most=10),
     Row("session.sh", "a keystroke with 20 open programs", r"one of 20 open programs.*: ([\d.]+) ms", "ms", "with one",
         r"one of 1 open programs.*: ([\d.]+) ms", most=1.1),
     Row("session.sh", "10,000 changes in one message, downwards", r"downwards.* (\d+) copies", "copies of the text", most=100),

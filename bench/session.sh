@@ -22,9 +22,13 @@ sys.dont_write_bytecode = True
 from replay import frame, opened, run, write_session
 uri = "file:///w/a.hlasm"
 
+# A program of which nothing is to be said, and which is laid out and checked whole.
 def text(lines):
+    begin = ["BENCH    CSECT", "         USING MAP,11", "* an instruction in two has addresses"]
     shapes = ["L{n:05}   MVC   TARGET,SOURCE  moves it", "         LR    R1,R2", "* a comment line with some words in it"]
-    return "".join(shapes[n % 3].format(n=n) + "\n" for n in range(lines)) + "         END\n"
+    end = ["R1       EQU   1", "R2       EQU   2", "MAP      DSECT", "TARGET   DS    CL8", "SOURCE   DS    CL8", "         END"]
+    middle = [shapes[n % 3].format(n=n) for n in range(len(begin), lines - len(end))]
+    return "".join(line + "\n" for line in begin + middle + end)
 
 # A keystroke: a character comes into the middle of the text, or is taken out again.
 def keystroke(number, line):
