@@ -1,9 +1,7 @@
 pub mod AskingLaws
 mod CallLaws
-pub mod DebuggerLaws
 pub mod EventLaws
 pub mod FreshLaws
-pub mod LaunchLaws
 pub mod ListLaws
 pub mod ListedLaws
 pub mod MadeLaws

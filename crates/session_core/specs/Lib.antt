@@ -1,5 +1,4 @@
 pub mod Codes
-pub mod Debugging
 pub mod Diagnostics
 pub mod Held
 pub mod Inside
