@@ -377,8 +377,10 @@ def main():
     found = listed(server, {name: lines for name, lines, _, _ in files})
     differences = 0
     for name, lines, wanted, meanings in files:
-        for line, code in sorted(found[name] ^ wanted):
-            said = "is said" if (line, code) in found[name] else "is not said"
+        # The programs have no base registers, as these are none of the layout's: that no USING covers an address is not compared.
+        laid_out = {(line, code) for line, code in found[name] if code != "H083"}
+        for line, code in sorted(laid_out ^ wanted):
+            said = "is said" if (line, code) in laid_out else "is not said"
             print(f"{name}:{line}: {code} {said}: {meanings.get(line, lines[line - 1])}")
             differences += 1
     symbols, sections = map(sum, zip(*(comparison.compared() for comparison in comparisons)))
