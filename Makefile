@@ -1,7 +1,7 @@
 # make run: proves and builds the program, and lists what it reports of a first example, and of one with a macro of a library.
 # make demo: proves and builds the program, and shows the stored session: what an editor sends and what it is answered.
-# make install: puts the program and hlasm-lint into PREFIX/bin, which is your own ~/.local/bin if you name no PREFIX, and says
-# whether that is on your PATH.
+# make install: puts the program, hlasm-lint and hlasm-debug into PREFIX/bin, which is your own ~/.local/bin if you name
+# no PREFIX, and says whether that is on your PATH.
 # make dist: makes dist/hlasm_ls-VERSION-linux-x86_64.tar.gz, which needs no kit where it is unpacked. The version is that of the
 # file VERSION.
 # make test: the gate: proves every crate and its tests from nothing, tries at most six edits that must fail of each crate, runs everything.

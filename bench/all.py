@@ -19,6 +19,7 @@ BEGIN, END = "<!-- figures, written by make bench -->\n", "<!-- end of the figur
 SCRIPTS = [
     "statements.sh", "expressions.sh", "effect.sh", "instructions.sh", "edits.sh", "session.sh", "definitions.sh", "open_code.sh",
     "macros.sh", "library.sh", "lookahead.sh", "layout.sh", "checks.sh", "memo.sh", "traces.sh",
+    "launch.sh",
 ]
 # More than so much of the processors' time in use: the figures would be those of a busy machine.
 MOST_BUSY = 0.05
@@ -132,6 +133,10 @@ ROWS = [
     *nested(100, 0),
     *nested(10, 1),
     Row("traces.sh", "a point found in a node of 10,000 links", r"10,000 links: ([\d.]+) us", "µs", most=5),
+    Row("launch.sh", "a program with 100,000 points launched, up to the first stop", r"(?m)^launch: ([\d.]+) ms", "ms", "its list",
+        r"(?m)^list: ([\d.]+) ms", most=1.2),
+    Row("launch.sh", "a stop behind nearly all of its points", r"(?m)^stop: ([\d.]+) ms", "ms", most=5),
+    Row("launch.sh", "500 variables there", r"(?m)^variables: ([\d.]+) ms", "ms", most=20),
 ]
 
 

@@ -1,5 +1,5 @@
-// Starts hlasm_ls for HLASM files with the generic client of VS Code, tells it of changes in libraries and settings, and puts
-// blanks up to the next column where a field begins.
+// Starts hlasm_ls for HLASM files with the generic client of VS Code, tells it of changes in libraries and settings, names the
+// debug adapter, and puts blanks up to the next column where a field begins.
 const fs = require('fs');
 const path = require('path');
 const vscode = require('vscode');
@@ -77,10 +77,18 @@ class LibraryWatcher {
   }
 }
 
+// The program that a debug session starts, with the folder that it is to find the libraries in.
+function debugAdapter(session) {
+  const folder = session.workspaceFolder && session.workspaceFolder.uri.fsPath;
+  const command = vscode.workspace.getConfiguration('hlasm-ls').get('debugCommand');
+  return new vscode.DebugAdapterExecutable(command, folder ? ['--root', folder] : []);
+}
+
 let client;
 
 exports.activate = (context) => {
   context.subscriptions.push(vscode.commands.registerCommand('hlasm-ls.nextStop', goToNextStop));
+  context.subscriptions.push(vscode.debug.registerDebugAdapterDescriptorFactory('hlasm', { createDebugAdapterDescriptor: debugAdapter }));
   const command = vscode.workspace.getConfiguration('hlasm-ls').get('command');
   // The root that the generic client gives the server is the first folder of the workspace.
   const [workspace] = vscode.workspace.workspaceFolders || [];

@@ -10,6 +10,7 @@ program_of() {
         sources | sinks | libraries) echo io_cases ;;
         readings) echo reading_cases ;;
         debug_requests | debug_arguments | debug_bodies) echo message_cases ;;
+        debug_sessions) echo debug_cases ;;
         config_groups | config_programs | config_choices) echo message_cases ;;
         nodes | chains | variables) echo trace_cases ;;
         frames | pieces | written_frames) echo text_cases ;;

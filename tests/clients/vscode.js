@@ -143,10 +143,11 @@ async function changeLibrary() {
 
 let client;
 const commands = {};
+const adapters = {};
 const editor = { selections: [], edit: async (change) => change({ insert: (at, text) => found.typed.push([at.character, text.length]) }) };
 const vscode = {
   workspace: {
-    getConfiguration: (section) => ({ get: (name) => (`${section}.${name}` === 'hlasm-ls.command' ? program : undefined) }),
+    getConfiguration: (section) => ({ get: (name) => SETTINGS[`${section}.${name}`] }),
     workspaceFolders: workspace ? [{ uri: { scheme: 'file', fsPath: workspace } }] : undefined,
     createFileSystemWatcher: (pattern) => new Watcher(pattern),
   },
@@ -172,6 +173,12 @@ const vscode = {
   Uri: { file: (fsPath) => ({ fsPath }) },
   commands: { registerCommand: (name, run) => { commands[name] = run; return { dispose() {} }; } },
   window: { get activeTextEditor() { return editor; } },
+  DebugAdapterExecutable: class {
+    constructor(command, args) {
+      Object.assign(this, { command, args });
+    }
+  },
+  debug: { registerDebugAdapterDescriptorFactory: (type, factory) => { adapters[type] = factory; return { dispose() {} }; } },
 };
 class Started extends LanguageClient {
   constructor(...words) {
@@ -188,6 +195,9 @@ async function main() {
   const context = { subscriptions: [] };
   await extension.activate(context);
   found.disposables = context.subscriptions.length;
+  const [debugged] = manifest.contributes.debuggers;
+  const adapterIn = (workspaceFolder) => adapters[debugged.type].createDebugAdapterDescriptor({ workspaceFolder });
+  found.adapters = [undefined, { uri: { fsPath: '/w' } }].map(adapterIn);
   for (const name of [file, `${file}.txt`]) found.lists[path.basename(name)] = await client.open(name);
   if (workspace) await changeLibrary();
   editor.selections = [0, 3, 8, 9, 14, 15, 16, 23].map((character) => ({ active: { line: 0, character } }));

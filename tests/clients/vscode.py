@@ -52,7 +52,9 @@ class Extension(unittest.TestCase):
         self.assertEqual(["H001", "H001", "H003"], [code for _, _, code, _ in shown])
         self.assertIsNone(found["lists"]["first.hlasm.txt"], "a file of another language is opened")
         self.assertEqual([], found["asked"], "asked without an answer")
-        self.assertEqual((0, 1), (found["status"], found["disposables"]))
+        self.assertEqual((0, 2), (found["status"], found["disposables"]))
+        adapters = [(it["command"], it["args"]) for it in found["adapters"]]
+        self.assertEqual([("hlasm-debug", []), ("hlasm-debug", ["--root", "/w"])], adapters)
 
     def test_changes_in_a_library_and_in_settings(self):
         with tempfile.TemporaryDirectory(prefix="hlasm-vscode-") as room:
@@ -69,7 +71,7 @@ class Extension(unittest.TestCase):
             found = started(os.path.join(room, "p.hlasm"), room)
         self.assertEqual(["H040"], [it["code"] for it in found["lists"]["p.hlasm"]])
         self.assertEqual([["lib/SHR.mac", []], ["lib/SHR.mac", ["MNOTE"]], ["lib/SHR.mac", ["H040"]], ["other/SHR", []]], found["changes"])
-        self.assertEqual((0, 2), (found["status"], found["disposables"]))
+        self.assertEqual((0, 3), (found["status"], found["disposables"]))
 
     def test_the_tab_key_goes_to_the_next_field(self):
         stops = [(at, at + count) for at, count in started()["typed"]]

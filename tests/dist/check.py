@@ -92,12 +92,12 @@ class Tarball(unittest.TestCase):
 
     def test_where_it_was_installed(self):
         words = [os.path.join(TOP, "tools/install.sh"), f"{self.room}/staged/bin", "/opt/hlasm/bin"]
-        says = f"hlasm_ls and hlasm-lint {VERSION} are in /opt/hlasm/bin\n"
+        says = f"hlasm_ls, hlasm-lint and hlasm-debug {VERSION} are in /opt/hlasm/bin\n"
         for path, more in (("/opt/hlasm/bin:", "That is on your PATH.\n"),
                            ("/opt/hlasm/bin2:", 'That is not on your PATH. Add it, in ~/.profile: PATH="/opt/hlasm/bin:$PATH"\n')):
             ran = run(words, env=dict(os.environ, PATH=path + os.environ["PATH"]), encoding="utf-8")
             self.assertEqual((0, says + more, ""), (ran.returncode, ran.stdout, ran.stderr))
-        self.assertEqual(["hlasm-lint", "hlasm_ls"], sorted(os.listdir(f"{self.room}/staged/bin")))
+        self.assertEqual(["hlasm-debug", "hlasm-lint", "hlasm_ls"], sorted(os.listdir(f"{self.room}/staged/bin")))
 
 
 if __name__ == "__main__":

@@ -45,7 +45,7 @@ whenever_cond Holds false one other calls so also = also
 
 -- ---- events
 
-whenever_unless : (Holds : Effect → Type 0) (s : State) (why : Option Refused) (event : Asking Effect) (calls : List LibraryCall) → ((body : List ℕ) → Holds (says s body))
+pub whenever_unless : (Holds : Effect → Type 0) (s : State) (why : Option Refused) (event : Asking Effect) (calls : List LibraryCall) → ((body : List ℕ) → Holds (says s body))
     → Whenever Holds (event calls) → Whenever Holds (unless_refused s why event calls)
 whenever_unless Holds s None event calls said so = so
 whenever_unless Holds s (Some why) event calls said so = said (reply why)

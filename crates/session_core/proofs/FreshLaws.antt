@@ -19,6 +19,10 @@ use Rattle.document_store.specs.Changes.{opened, changed, closed}
 use Rattle.document_store.specs.declared.fault.StoreFault.{StoreFault}
 use Rattle.library_folders.specs.declared.folders.Folder.{Folder}
 use Rattle.library_reading.specs.Asked.{Asked, Came, Lacks, Differs}
+use Rattle.dap_messages.specs.Requests.{request_of}
+use Rattle.dap_messages.specs.declared.requests.DapIn.{DapIn}
+use Rattle.dap_messages.specs.declared.requests.DapRefusal.{DapRefusal}
+use Rattle.session_core.specs.Debugging.{debugged}
 use Rattle.session_core.specs.declared.state.LastList.{LastList}
 use Rattle.session_core.specs.declared.state.Stage.TheVariants.{Active}
 use Rattle.session_core.specs.Diagnostics.{list_of}
@@ -300,6 +304,10 @@ good_closing s n (Err fault) fresh = λ alive. fresh
 good_files : (s : State) → AreFresh s → HoldsOfQueues IsGood s
 good_files s fresh = record { stays = λ bodies alive. fresh; queues = good_queues }
 
+good_debugged : (s : State) (number : ℕ) (read : Result DapIn DapRefusal) → AreFresh s → IsGood (debugged s number read)
+unfolding debugged
+good_debugged s number read fresh = λ alive. fresh
+
 good_effect : (s : State) (message : LspIn) (calls : List LibraryCall) → AreFresh s → Whenever IsGood (effect s message calls)
 good_effect s (Initialize id root) calls fresh = good_queues (record s { stage = Active; root = root_of root }) (initialize_reply id ∷ [])
 good_effect s (Shutdown id) calls fresh = λ alive. fresh_many (length s.queue) s fresh
@@ -316,7 +324,7 @@ good_effect s DidSave calls fresh = λ alive. fresh
 good_effect s DidChangeConfiguration calls fresh = λ alive. fresh
 good_effect s (DidChangeWatchedFiles changes) calls fresh = whenever_watched IsGood s changes calls (good_files s fresh)
 good_effect s (Cancel id) calls fresh = λ alive. fresh
-good_effect s (Dap session message) calls fresh = λ alive. fresh
+good_effect s (Dap session message) calls fresh = good_debugged s session (request_of message) fresh
 
 good_leaves : (asked : Asked Effect) → Whenever IsGood asked → LeavesFresh (step_of asked)
 good_leaves (Came effect rest) good = good
@@ -378,6 +386,10 @@ kept_many (suc n) s =
 keeps_files : (s : State) → HoldsOfQueues (KeepsThemOrQueues s) s
 keeps_files s = record { stays = λ bodies. inl (refl, refl); queues = λ t bodies. inr (all_queued t) }
 
+keeps_debugged : (s : State) (number : ℕ) (read : Result DapIn DapRefusal) → KeepsThemOrQueues s (debugged s number read)
+unfolding debugged
+keeps_debugged s number read = inl (refl, refl)
+
 keeps_effect : (s : State) (message : LspIn) (calls : List LibraryCall) → Whenever (KeepsThemOrQueues s) (effect s message calls)
 keeps_effect s (Initialize id root) calls = inr (all_queued (record s { stage = Active; root = root_of root }))
 keeps_effect s (Shutdown id) calls = inl (kept_many (length s.queue) s)
@@ -394,7 +406,7 @@ keeps_effect s DidSave calls = inl (refl, refl)
 keeps_effect s DidChangeConfiguration calls = inl (refl, refl)
 keeps_effect s (DidChangeWatchedFiles changes) calls = whenever_watched (KeepsThemOrQueues s) s changes calls (keeps_files s)
 keeps_effect s (Cancel id) calls = inl (refl, refl)
-keeps_effect s (Dap session message) calls = inl (refl, refl)
+keeps_effect s (Dap session message) calls = keeps_debugged s session (request_of message)
 
 keeps_leaves : (s : State) (asked : Asked Effect) → Whenever (KeepsThemOrQueues s) asked → KeepsOrQueues s (step_of asked)
 keeps_leaves s (Came effect rest) keeps = keeps

@@ -1,7 +1,9 @@
 pub mod AskingLaws
 mod CallLaws
+pub mod DebuggerLaws
 pub mod EventLaws
 pub mod FreshLaws
+pub mod LaunchLaws
 pub mod ListLaws
 pub mod ListedLaws
 pub mod MadeLaws

@@ -15,10 +15,15 @@ use Rattle.library_folders.specs.declared.folders.Folder.{Folder}
 use Rattle.library_reading.specs.Asked.{Asking, Came, IsShort, answered}
 use Rattle.group_members.specs.Members.{Indexes}
 use Rattle.group_members.specs.declared.index.MemberIndex.{MemberIndex}
+use Rattle.trace_values.specs.declared.item.TraceItem.{TraceItem}
+use Rattle.trace_arena.specs.Points.{Point}
 use Rattle.document_store.specs.Store.{Store, OpenDocument, number_of}
+use Rattle.document_store.specs.Shown.{Shows}
+use Rattle.document_store.specs.declared.document.Document.{Document}
 use Rattle.document_store.specs.declared.fault.StoreFault.{StoreFault}
 use Rattle.session_core.specs.declared.state.LastList.{LastList}
 use Rattle.session_core.specs.declared.watching.Watch.{Watch}
+use Rattle.session_core.specs.Debugging.{trace_of}
 use Rattle.session_core.specs.Diagnostics.{diagnostics_of}
 use Rattle.session_core.specs.Held.{Held}
 use Rattle.session_core.specs.Message.{after_change, after_closing, asked, farewell, unless_refused, Watching, configured}
@@ -122,6 +127,12 @@ watched_so_far s watch = record { state = s; bodies = watch.bodies; log = watch.
 abbrev pub configured_where : Option (List ℕ) → Watching → Asking Watching
 configured_where None w = answered w
 configured_where (Some root) w = configured root w
+
+-- ---- launches
+
+-- this is the trace of the document of a number, as it is shown
+abbrev pub TellsTrace : State → PathId → (shown : Document) → List (Point TraceItem) → Type 0
+TellsTrace s n shown trace = (document : OpenDocument) → document_at s.store n ≡ Some document → Shows s.store.paths document shown → trace ≡ trace_of s n document
 
 -- ---- a session
 

@@ -1,5 +1,6 @@
 -- Words of the laws of a session (this project).
-use Rattle.std.specs.Prelude.{◌≡◌, ℕ, ◌≤◌, ◌⊎◌, Bool, true, false, not, List, length, Option, Some, None, Result, Ok, Err, is_err}
+use Rattle.std.specs.Prelude.{◌≡◌, ◌==◌, ℕ, ◌≤◌, ◌⊎◌, ◌&&◌, Bool, true, false, not, List, length, Option, Some, None, Result, Ok, Err, is_err}
+use Rattle.std.specs.Option.{option_map_or}
 use Rattle.serde_json.specs.Data.{Data}
 use Rattle.json_view.specs.Texts.{reading}
 use Rattle.io_edge.specs.LibraryCall.{LibraryCall}
@@ -10,6 +11,13 @@ use Rattle.lsp_messages.specs.Messages.{message_of}
 use Rattle.hl_base.specs.declared.place.PathId.{PathId}
 use Rattle.document_store.specs.Store.{OpenDocument}
 use Rattle.document_store.specs.Changes.{opened, changed, closed}
+use Rattle.trace_values.specs.declared.item.TraceItem.{TraceItem}
+use Rattle.trace_arena.specs.Points.{Point}
+use Rattle.dap_messages.specs.declared.requests.DapIn.{DapIn}
+use Rattle.dap_messages.specs.declared.requests.DapRefusal.{DapRefusal}
+use Rattle.dap_messages.specs.Requests.{request_of}
+use Rattle.debug_sessions.specs.State.{session_of}
+use Rattle.debug_sessions.specs.Laws.{reads_disconnect, trace_in}
 use Rattle.session_core.specs.Refusals.{is_fresh, is_active, is_ended}
 use Rattle.session_core.specs.Served.{as_served}
 use Rattle.session_core.specs.Diagnostics.{list_of}
@@ -84,6 +92,76 @@ abbrev pub Keeps : Step → State → List LibraryCall → Type 0
 Keeps (Goes t bodies rest) s calls = (t ≡ s) × (length bodies ≤ 1) × (rest ≡ calls)
 Keeps Stopped s calls = ⊥
 Keeps Other s calls = ⊥
+
+-- ---- debug sessions
+
+-- what is said to a debug session: its number, and the message as it is read
+pub record DebugSaid : Type 0 where
+  pub number : ℕ
+  pub read : Result DapIn DapRefusal
+
+-- what a message says to a debug session, if it is to one
+abbrev pub debug_said : Result LspIn Refusal → Option DebugSaid
+debug_said (Err refusal) = None
+debug_said (Ok (Initialize id root)) = None
+debug_said (Ok (Shutdown id)) = None
+debug_said (Ok (Definition id uri at)) = None
+debug_said (Ok (References id uri at declarations)) = None
+debug_said (Ok (Hover id uri at)) = None
+debug_said (Ok (DocumentSymbol id uri)) = None
+debug_said (Ok Initialized) = None
+debug_said (Ok Exit) = None
+debug_said (Ok (DidOpen uri language version text)) = None
+debug_said (Ok (DidChange uri version edits)) = None
+debug_said (Ok (DidClose uri)) = None
+debug_said (Ok DidSave) = None
+debug_said (Ok DidChangeConfiguration) = None
+debug_said (Ok (DidChangeWatchedFiles changes)) = None
+debug_said (Ok (Cancel id)) = None
+debug_said (Ok (Dap session message)) = Some (record { number = session; read = request_of message })
+
+abbrev pub value_debug_said : Option Data → Option DebugSaid
+value_debug_said None = None
+value_debug_said (Some value) = debug_said (as_served (message_of value))
+
+-- what a body says to one
+abbrev pub body_debug_said : List ℕ → Option DebugSaid
+body_debug_said body = value_debug_said (reading body)
+
+-- it is said to the session of a number
+abbrev pub is_to : (number : ℕ) → DebugSaid → Bool
+is_to number said = said.number == number
+
+-- and disconnects it
+abbrev pub is_end_of : (number : ℕ) → DebugSaid → Bool
+is_end_of number said = is_to number said && reads_disconnect said.read
+
+-- a body is a message to the debug session of a number
+abbrev pub is_body_debugging : (number : ℕ) → List ℕ → Bool
+is_body_debugging number body = option_map_or (is_to number) (body_debug_said body) false
+
+-- and disconnects it
+abbrev pub is_body_disconnecting : (number : ℕ) → List ℕ → Bool
+is_body_disconnecting number body = option_map_or (is_end_of number) (body_debug_said body) false
+
+-- the debug session of a number is as it was: its launch, its place, its breakpoints and how many messages it has sent
+abbrev pub HasDebugger : (number : ℕ) → (before now : State) → Type 0
+HasDebugger number s t = session_of number t.debuggers ≡ session_of number s.debuggers
+
+abbrev pub KeepsDebugger : (number : ℕ) → State → Step → Type 0
+KeepsDebugger number s (Goes t bodies rest) = HasDebugger number s t
+KeepsDebugger number s Stopped = Unit {0}
+KeepsDebugger number s Other = Unit {0}
+
+-- the debug session of a number has a launch of this trace
+abbrev pub HasTrace : (number : ℕ) → List (Point TraceItem) → State → Type 0
+HasTrace number trace s = trace_in number s.debuggers ≡ Some trace
+
+-- where the session goes on, that has still
+abbrev pub KeepsTrace : (number : ℕ) → List (Point TraceItem) → Step → Type 0
+KeepsTrace number trace (Goes t bodies rest) = HasTrace number trace t
+KeepsTrace number trace Stopped = Unit {0}
+KeepsTrace number trace Other = Unit {0}
 
 -- ---- lists
 

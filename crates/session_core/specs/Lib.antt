@@ -1,4 +1,5 @@
 pub mod Codes
+pub mod Debugging
 pub mod Diagnostics
 pub mod Held
 pub mod Inside

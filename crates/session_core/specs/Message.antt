@@ -26,6 +26,7 @@ use Rattle.lsp_messages.specs.declared.incoming.FileChange.{FileChange}
 use Rattle.lsp_messages.specs.declared.incoming.Refusal.{Refusal}
 use Rattle.lsp_messages.specs.declared.incoming.Refusal.TheVariants.{NotRequest, UnknownMethod, BadParams, OutOfMemory}
 use Rattle.lsp_messages.specs.Messages.{is_response, message_of}
+use Rattle.dap_messages.specs.Requests.{request_of}
 use Rattle.document_store.specs.Store.{Store, OpenDocument}
 use Rattle.document_store.specs.Changes.{opened, changed, closed}
 use Rattle.document_store.specs.declared.fault.StoreFault.{StoreFault}
@@ -33,6 +34,7 @@ use Rattle.session_core.specs.declared.state.LastList.{LastList}
 use Rattle.session_core.specs.declared.state.Stage.{Stage}
 use Rattle.session_core.specs.declared.state.Stage.TheVariants.{Active, Closing, Ended}
 use Rattle.session_core.specs.Refusals.{Kind, Opens, Asks, Ends, Tells, Neither, kind_of, Refused, reply, refusal, is_active, is_closing, is_ended}
+use Rattle.session_core.specs.Debugging.{debugged}
 use Rattle.session_core.specs.Replies.{initialize_reply, shutdown_reply, list_body, logged_line}
 use Rattle.session_core.specs.Served.{as_served}
 use Rattle.session_core.specs.State.{State, libraries, is_number, number_at, is_program, document_at, number_named, programs, with_programs, without, last_list, published_without, is_empty}
@@ -205,7 +207,7 @@ effect s DidSave = answered (quiet s)
 effect s DidChangeConfiguration = answered (quiet s)
 effect s (DidChangeWatchedFiles changes) = changes_told changes (unconcerned s) >>= (λ w. answered (after_watching w))
 effect s (Cancel id) = answered (quiet s)
-effect s (Dap session message) = answered (quiet s)
+effect s (Dap session message) = answered (debugged s session (request_of message))
 
 -- what was read in place of a message does nothing
 abbrev pub effect_of : State → Result LspIn Refusal → Asking Effect

@@ -28,7 +28,7 @@ served DidSave = Ok DidSave
 served DidChangeConfiguration = Ok DidChangeConfiguration
 served (DidChangeWatchedFiles changes) = Ok (DidChangeWatchedFiles changes)
 served (Cancel id) = unknown None (codes "$/cancelRequest")
-served (Dap session message) = unknown None (codes "hlasm/dap")
+served (Dap session message) = Ok (Dap session message)
 
 -- the methods of those that are not served
 abbrev pub is_unserved : (method : List ℕ) → Bool
@@ -38,7 +38,6 @@ is_unserved method =
     || bytes_eq (encode_utf8_all method) (codes "textDocument/hover")
     || bytes_eq (encode_utf8_all method) (codes "textDocument/documentSymbol")
     || bytes_eq (encode_utf8_all method) (codes "$/cancelRequest")
-    || bytes_eq (encode_utf8_all method) (codes "hlasm/dap")
 
 -- their parameters are not looked at
 abbrev pub refusal_served : Refusal → Refusal

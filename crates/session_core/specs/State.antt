@@ -9,13 +9,15 @@ use Rattle.library_folders.specs.declared.configuration.Configuration.{Configura
 use Rattle.library_folders.specs.declared.folders.Folder.{Folder}
 use Rattle.library_folders.specs.Folders.{folders_of, is_member}
 use Rattle.lsp_messages.specs.declared.outgoing.Diagnostic.{Diagnostic}
+use Rattle.debug_sessions.specs.State.{Debuggers}
 use Rattle.session_core.specs.declared.state.Stage.{Stage}
 use Rattle.session_core.specs.declared.state.Stage.TheVariants.{Fresh}
 use Rattle.session_core.specs.declared.state.LastList.{LastList}
 
 -- How far the session has come, the path of the folder that the client works in, how many statements a program may be given,
--- the configuration as it was last read, the documents and files, the programs whose list is still to be made, in order, and
--- what was last published of each program since it was opened or became one. A program is named by the number of its path.
+-- the configuration as it was last read, the documents and files, the programs whose list is still to be made, in order, what
+-- was last published of each program since it was opened or became one, and the debug sessions that are in use. A program is
+-- named by the number of its path.
 pub record State : Type 0 where
   pub stage : Stage
   pub root : Option (List ℕ)
@@ -24,6 +26,7 @@ pub record State : Type 0 where
   pub store : Store
   pub queue : List PathId
   pub published : List LastList
+  pub debuggers : Debuggers
 
 -- where no configuration was read
 abbrev pub no_configuration : Configuration
@@ -31,7 +34,7 @@ no_configuration = record { groups = []; programs = [] }
 
 -- before the first message, where a program may be given so many statements
 abbrev pub start : (budget : ℕ) → State
-start budget = record { stage = Fresh; root = None; budget = budget; configuration = no_configuration; store = empty_store; queue = []; published = [] }
+start budget = record { stage = Fresh; root = None; budget = budget; configuration = no_configuration; store = empty_store; queue = []; published = []; debuggers = [] }
 
 -- ---- library folders
 

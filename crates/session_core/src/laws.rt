@@ -1,9 +1,11 @@
 //! Laws of the definitions, each the contract of a function with no body.
 ghost use Rattle.std.specs.Prelude.{◌≡◌, ℕ, List, [], Bool, true, false};
 ghost use Rattle.io_edge.specs.LibraryCall.{LibraryCall};
+ghost use Rattle.trace_values.specs.declared.item.TraceItem.{TraceItem};
+ghost use Rattle.trace_arena.specs.Points.{Point};
 ghost use Rattle.session_core.specs.declared.phase.Phase.TheVariants.{Exit};
 ghost use Rattle.session_core.specs.Held.{phase_of};
-ghost use Rattle.session_core.specs.Laws.{is_refused_body, is_body_on_files, Keeps, LeavesCalls, AreFresh, LeavesFresh, KeepsOrQueues};
+ghost use Rattle.session_core.specs.Laws.{is_refused_body, is_body_on_files, is_body_debugging, is_body_disconnecting, Keeps, LeavesCalls, AreFresh, LeavesFresh, KeepsOrQueues, HasDebugger, KeepsDebugger, HasTrace, KeepsTrace};
 ghost use Rattle.session_core.specs.Message.{message};
 ghost use Rattle.session_core.specs.State.{State, start};
 ghost use Rattle.session_core.specs.Step.{Goes, MakesAll};
@@ -43,4 +45,19 @@ pub fn changes_queue_every_program()
 /// Only `initialized` and a change of watched files ask the library: any other message makes no call of it, as a keystroke.
 pub fn only_messages_on_files_ask()
     ensures { (s : State) (body : List ℕ) (calls : List LibraryCall) → is_body_on_files body ≡ false → LeavesCalls (message s body calls) calls }
+{}
+
+/// No event but a message to a debug session changes it: its launch, its place and its breakpoints. So nothing that is typed,
+/// and no Turn, changes what its program is stopped at.
+pub fn debuggers_change_by_their_messages()
+    ensures message { (s : State) (number : ℕ) (body : List ℕ) (calls : List LibraryCall) → is_body_debugging number body ≡ false → KeepsDebugger number s (message s body calls) }
+    ensures turn { (s : State) (number : ℕ) → HasDebugger number s (turn s).state }
+{}
+
+/// A debugger keeps its launch's trace until a message disconnects it, whatever events come between: edits, files that change,
+/// Turns, and launches of other debug sessions.
+pub fn debuggers_keep_their_traces()
+    ensures message { (s : State) (number : ℕ) (trace : List (Point TraceItem)) (body : List ℕ) (calls : List LibraryCall) → HasTrace number trace s
+        → is_body_disconnecting number body ≡ false → KeepsTrace number trace (message s body calls) }
+    ensures turn { (s : State) (number : ℕ) (trace : List (Point TraceItem)) → HasTrace number trace s → HasTrace number trace (turn s).state }
 {}

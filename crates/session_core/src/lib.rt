@@ -10,11 +10,12 @@
 //!
 //! Within the crate, `receiving` goes from a body to what it does: `lifecycle` begins and ends the session, `requests`,
 //! `notifications` (documents) and `watching` (files) take the others, `settling` takes leave of documents that are no
-//! programs any more, and `replies` has the bodies written. `standing` has the state and its Turns, `programs` the queue, the
-//! documents by number and what was published, `lists` the list of a program.
+//! programs any more, `debugging` takes debug messages, and `replies` has the bodies written. `standing` has the state and its
+//! Turns, `programs` the queue, the documents by number and what was published, `lists` the list of a program and its trace.
 #![tactic(auto)]
 
 mod bodies;
+mod debugging;
 mod fault;
 pub mod laws;
 mod lifecycle;

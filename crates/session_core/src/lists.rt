@@ -1,24 +1,29 @@
-//! The list of a program.
+//! The list of a program, and its trace as it is launched.
 ghost use Rattle.std.specs.Prelude.{◌≡◌, ◌<◌, length, Some, None, IfOk, IfSome, slice_get};
 ghost use Rattle.std.specs.Option.{option_copied};
 ghost use Rattle.std.specs.Rc.{rc_str_bytes};
 ghost use Rattle.std.specs.Str.{chars};
 ghost use Rattle.document_store.specs.Store.{OpenDocument};
-ghost use Rattle.document_store.specs.Shown.{Shows};
+ghost use Rattle.document_store.specs.Shown.{IsShown, Shows};
 ghost use Rattle.group_members.specs.Members.{Indexes};
 ghost use Rattle.library_folders.specs.Folders.{parm_for};
 ghost use Rattle.program_assembly.specs.Assembly.{assembly_notes};
+ghost use Rattle.program_launch.specs.Traces as launches;
+ghost use Rattle.text_pool.specs.Pool.{IsLive, text_of};
+ghost use Rattle.session_core.specs.Debugging.{trace_in};
 ghost use Rattle.session_core.specs.Diagnostics.{diagnostics_of, members_of};
 ghost use Rattle.session_core.specs.State.{document_at, libraries_of};
 
 use crate::programs::text_at;
 use answers_feed::published;
-use document_store::{Document, DocumentStore};
+use debug_sessions::Launched;
+use document_store::{Document, DocumentStore, MemberText};
 use group_members::{GroupMembers, MemberIndex};
-use hl_base::{Ledger, Notes, OutOfMemory, PathId, Steps, Text};
+use hl_base::{Ledger, Notes, OutOfMemory, PathId, Steps, Text, TextId};
 use library_folders::{Configuration, Folder, folders_for, parm_for};
 use lsp_messages::Diagnostics;
 use program_assembly::assembly_notes;
+use program_launch::launch;
 use std::alloc::Global;
 use std::rc::RcStr;
 
@@ -92,5 +97,51 @@ impl Surroundings<'_> {
         let text = text_at(alloc, self.store, path)?;
         let notes = self.notes(alloc, path, &text, steps)?;
         published(alloc, notes.as_slice(), path, self.folders, self.store)
+    }
+
+    /// The trace of the program of a path and a text.
+    fn trace<L: Ledger>(
+        &self,
+        alloc: Global,
+        path: PathId,
+        text: TextId,
+        steps: &mut Steps<L>,
+    ) -> Result<Launched, OutOfMemory>
+        requires given { path.0 < length self.now.store.now.store.paths }
+        requires index { Indexes self.now.store.now.store self.now.index.now }
+        requires live { IsLive self.now.store.now.pool text.0 }
+        ensures { IfOk result (λ trace. (document : OpenDocument) → slice_get self.now.store.now.store.paths path.0 ≡ Some document.path
+            → text_of self.now.store.now.pool text.0 ≡ document.text
+            → trace ≡ launches.trace_of path.0 document.text (parm_for (option_copied self.now.root) self.now.configuration.now document.path)
+            (members_of (option_copied self.now.root) self.now.configuration.now self.now.store.now.store document) self.now.budget) }
+    {
+        let place = self.store.path_text(path);
+        let root = self.root.map(|root| root.as_str());
+        let folders = folders_for(alloc, root, self.configuration, place)?;
+        let parm = parm_for(root, self.configuration, place);
+        let members = GroupMembers::new(self.store, self.index, &folders);
+        launch(alloc, path, text, parm, &members, self.budget, steps)
+    }
+
+    /// The trace of the program of a document, as it is shown.
+    pub(crate) fn trace_of<L: Ledger>(
+        &self,
+        alloc: Global,
+        path: PathId,
+        document: &Document<'_>,
+        steps: &mut Steps<L>,
+    ) -> Result<Launched, OutOfMemory>
+        requires given { path.0 < length self.now.store.now.store.paths }
+        requires index { Indexes self.now.store.now.store self.now.index.now }
+        requires shown { IsShown self.now.store.now.store.paths (document_at self.now.store.now.store path) (Some document.now) }
+        ensures { IfOk result (λ trace. (shown : OpenDocument) → document_at self.now.store.now.store path ≡ Some shown
+            → Shows self.now.store.now.store.paths shown document.now
+            → trace ≡ trace_in (option_copied self.now.root) self.now.configuration.now self.now.store.now.store self.now.budget path shown) }
+    {
+        match self.store.present(path) {
+            Some(MemberText::File(text)) => self.trace(alloc, path, text, steps),
+            Some(MemberText::Unreadable) => unreachable!(),
+            None => unreachable!(),
+        }
     }
 }

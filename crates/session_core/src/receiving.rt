@@ -146,10 +146,7 @@ impl Standing {
                 self.watched(alloc, changes.as_slice(), library)
             }
             LspIn::Cancel { id: _id } => self.unserved(alloc, "$/cancelRequest"),
-            LspIn::Dap {
-                session: _session,
-                message: _message,
-            } => self.unserved(alloc, "hlasm/dap"),
+            LspIn::Dap { session, message } => self.debugged(alloc, session, &message, steps),
         }
     }
 

@@ -1,5 +1,8 @@
 //! The bodies that a session writes (JSON-RPC 2.0, "Response object"; LSP 3.17, `ErrorCodes`).
-ghost use Rattle.std.specs.Prelude.{◌≡◌, ◌≢◌, ◌++◌, [], ◌∷◌, None, IfOk, OnOk, OnErr, codes, encode_utf8_all, string_bytes, IsSome, Some};
+ghost use Rattle.std.specs.Prelude.{◌≡◌, ◌≢◌, ◌++◌, [], ◌∷◌, false, None, IfOk, OnOk, OnErr, codes, encode_utf8_all, string_bytes, IsSome, Some};
+ghost use Rattle.serde_json.specs.View.{view};
+ghost use Rattle.serde_json.specs.Written.{has_float};
+ghost use Rattle.session_core.specs.Debugging.{debug_body};
 ghost use Rattle.session_core.specs.Inside.{list_told};
 ghost use Rattle.std.specs.Str.{chars};
 ghost use Rattle.session_core.specs.Replies.{initialize_reply, shutdown_reply, refusal, parse_error, invalid_request, not_initialized, unknown_method, bad_parameter, log_line, logged_line, bad_params, refusal_of, list_body};
@@ -102,6 +105,19 @@ pub(crate) fn bad_params(alloc: Global, name: &Text) -> Result<String, OutOfMemo
 {
     let name = name.as_str();
     Ok(format!(in alloc; "BadParams({name})")?)
+}
+
+/// A message to the client of a debug session. It has no number with a fraction.
+#[tactic(auto, unfolding(lsp_messages::specs::Written::text_of, lsp_messages::specs::Written::value_of))]
+pub(crate) fn debug_body(
+    alloc: Global,
+    session: u32,
+    message: Value,
+) -> Result<Vec<u8>, OutOfMemory>
+    requires whole { has_float (view message) ≡ false }
+    ensures { IfOk result (λ body. body.items ≡ debug_body session (view message)) }
+{
+    LspOut::Dap { session, message }.text(alloc)
 }
 
 /// Why the documents stay as they are, as the log has it.

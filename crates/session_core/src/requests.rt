@@ -31,7 +31,6 @@ fn is_unserved(method: &Text) -> bool
         || method == "textDocument/hover"
         || method == "textDocument/documentSymbol"
         || method == "$/cancelRequest"
-        || method == "hlasm/dap"
 }
 
 /// A request before `initialize`.

@@ -13,6 +13,7 @@ use crate::programs::{document_at, is_queued, keep_list, last_list};
 use crate::replies;
 use crate::state::{LastList, Stage};
 use answers_feed::is_same_list;
+use debug_sessions::DebugSessions;
 use document_store::{Document, DocumentStore};
 use group_members::MemberIndex;
 use hl_base::{Ledger, OutOfMemory, PathId, Steps, Text};
@@ -22,7 +23,8 @@ use std::alloc::Global;
 use std::marker::Model;
 
 /// How far the session has come, the folder of the client, the budget of a program, the configuration, the documents and
-/// files, the queue, what was published, and of which programs that is the list as it is now. Contracts see the state.
+/// files, the queue, what was published, of which programs that is the list as it is now, and the debug sessions. Contracts see
+/// the state.
 #[derive(Drop)]
 pub(crate) struct Standing {
     pub(crate) stage: Stage,
@@ -38,6 +40,7 @@ pub(crate) struct Standing {
     pub(crate) listed: Vec<PathId>,
     // Where each folder's members are found, unless it is to be made anew.
     pub(crate) index: Option<MemberIndex>,
+    pub(crate) debuggers: DebugSessions,
 }
 
 impl Model for Standing {
@@ -57,6 +60,7 @@ impl Model for Standing {
       store = s.store.store;
       queue = s.queue.items;
       published = s.published.items;
+      debuggers = s.debuggers;
     } };
 
     ghost invariant = { λ s. IsWhole s.listed.items s.folders.items s.index
@@ -119,6 +123,7 @@ impl Standing {
             published: Vec::new(alloc),
             listed: Vec::new(alloc),
             index: None,
+            debuggers: DebugSessions::new(alloc),
         }
     }
 

@@ -78,6 +78,6 @@ returns-in-Cancel g c =
 pub returns-in-Dap : goal.returns-in-Dap
 returns-in-Dap g c =
     let s = c.args.self.now in
-    let acts : IfOk c.unserved-in-Dap.result (λ bodies. Acts (asked s (as_served (Ok c.args.message))) c.unserved-in-Dap.new.self bodies) =
-    subst (λ (m : LspIn). IfOk c.unserved-in-Dap.result (λ bodies. Acts (asked s (as_served (Ok m))) c.unserved-in-Dap.new.self bodies)) (sym c.in-Dap.is) c.unserved-in-Dap.ensures in
-    over_none (asked s (as_served (Ok c.args.message))) c.unserved-in-Dap.new.self c.unserved-in-Dap.result _ _ (short_asked s (as_served (Ok c.args.message))) acts
+    let acts : IfOk c.debugged.result (λ bodies. Acts (asked s (Ok c.args.message)) c.debugged.new.self bodies) = search rules in
+    let same : as_served (Ok c.args.message) ≡ Ok c.args.message = subst (λ (m : LspIn). as_served (Ok m) ≡ Ok m) (sym c.in-Dap.is) refl in
+    over_message s c.debugged.new.self (as_served (Ok c.args.message)) (Ok c.args.message) c.debugged.result _ _ same acts
