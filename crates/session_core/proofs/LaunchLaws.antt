@@ -68,11 +68,11 @@ launched_other s n shown folders told are is tells other = by_document (document
 pub launched_made : (s : State) (n : PathId) (shown : Document) (folders : List Folder) (told : Bool) (trace : List (Point TraceItem)) → folders ≡ libraries s
     → IsShown s.store.paths (document_at s.store n) (Some shown) → TellsProgram s folders shown told → told ≡ true
     → TellsTrace s n shown trace → Some trace ≡ launched_at s n
-launched_made s n shown folders told trace are is tells yes made = by_document (document_at s.store n) refl is where
+launched_made s n shown folders told trace are is tells holds made = by_document (document_at s.store n) refl is where
   by_document : (found : Option OpenDocument) → document_at s.store n ≡ found → IsShown s.store.paths found (Some shown) → Some trace ≡ launched_of s n found
   by_document None e is = absurd is
   by_document (Some document) e shows =
-      let so : is_program (libraries s) document ≡ true = ap (λ f. is_program f document) (sym are) ∙ sym (tells document shows) ∙ yes in
+      let so : is_program (libraries s) document ≡ true = ap (λ f. is_program f document) (sym are) ∙ sym (tells document shows) ∙ holds in
       ap (λ t. Some t) (made document e shows)
       ∙ ap (λ b. cond b (Some (trace_of s n document)) None) (sym so)
 
