@@ -1,25 +1,56 @@
 //! The trace of a program that is launched in a debugger.
 //!
-//! `launch` assembles a program afresh, in an arena of its own, and hands both over as the `Launched` of a debug session. It
-//! knows nothing of debug messages, of documents and of when a program is launched.
+//! `launch` runs the open code of a program afresh, in an arena of its own, and hands both over as the `Launched` of a debug
+//! session. Nothing is reported of the run, so it takes less than an assembly. It knows nothing of debug messages, of documents and
+//! of when a program is launched.
 //!
 //! Its one contract in words: the points of the trace are those of the plain expansion of the program's text, with its SYSPARM,
 //! its members and its budget as they are handed in; nothing that is assembled later touches them.
 #![tactic(auto)]
 
 ghost use Rattle.std.specs.Prelude.{◌≡◌, IfOk};
+ghost use Rattle.std.specs.Rc.{rc_str_bytes};
 ghost use Rattle.std.specs.Str.{chars};
 ghost use Rattle.text_pool.specs.Pool.{IsLive, text_of};
 ghost use Rattle.program_launch.specs.Traces.{trace_of};
 
+use call_sites::CallSite;
 use debug_sessions::Launched;
 use expansion_memo::Memo;
+use expansion_step::runs_are_expansions;
 use hl_base::{Ledger, OutOfMemory, PathId, Steps, TextId};
 use macro_expand::{Expander, HlasmLanguage};
-use program_assembly::{assemble, assemblies_are_plain};
+use program_world::{ProgramWorld, the_world_fits};
 use std::alloc::Global;
+use std::rc::RcStr;
 use text_pool::Present;
 use trace_arena::TraceArena;
+
+/// The trace of the open code of a path and a text, as `launch` has it.
+fn run<P: Present, L: Ledger>(
+    alloc: Global,
+    path: PathId,
+    text: &RcStr,
+    parm: &str,
+    present: &P,
+    budget: u32,
+    steps: &mut Steps<L>,
+) -> Result<Launched, OutOfMemory>
+    ensures { IfOk result (λ launched. launched
+        ≡ trace_of path.0 (chars (rc_str_bytes text.now)) (chars parm.now) (P.members present.now) budget) }
+{
+    the_world_fits();
+    runs_are_expansions::<HlasmLanguage, ProgramWorld<P>>();
+    let machine = Expander::new(HlasmLanguage);
+    let mut memo: Memo<Expander> = Memo::new(alloc);
+    let mut arena = TraceArena::new(alloc);
+    let call = CallSite::OpenCode(path, text.clone()?);
+    let mut world = ProgramWorld::new(alloc, text.clone()?, parm, present)?;
+    let outcome = memo.expand(
+        &machine, alloc, &call, &mut world, budget, 0, &mut arena, steps,
+    )?;
+    Ok(Launched::of(arena, outcome.node))
+}
 
 /// The trace of the program of a path and a text, with this SYSPARM, these members and this budget.
 pub fn launch<P: Present, L: Ledger>(
@@ -35,12 +66,6 @@ pub fn launch<P: Present, L: Ledger>(
     ensures { IfOk result (λ launched. launched
         ≡ trace_of path.0 (text_of (P.texts present.now) text.0) (chars parm.now) (P.members present.now) budget) }
 {
-    assemblies_are_plain::<P>();
-    let machine = Expander::new(HlasmLanguage);
-    let mut memo: Memo<Expander> = Memo::new(alloc);
-    let mut arena = TraceArena::new(alloc);
-    let made = assemble(
-        &machine, alloc, path, text, parm, present, &mut memo, &mut arena, budget, steps,
-    )?;
-    Ok(Launched::of(arena, made.root))
+    let text = present.pool().shared(alloc, text)?;
+    run(alloc, path, &text, parm, present, budget, steps)
 }
