@@ -13,9 +13,8 @@ use Rattle.lsp_messages.specs.declared.incoming.ChangeKind.TheVariants.{Created,
 use Rattle.lsp_messages.specs.declared.incoming.FileChange.{FileChange}
 use Rattle.lsp_messages.specs.declared.incoming.Refusal.{Refusal}
 use Rattle.lsp_messages.specs.Messages.{is_response, message_of}
-use Rattle.session_core.specs.Message.{event, received, asked, effect, effect_of, is_passed_over, unless_refused, Watching, taking_of, after_reading, after_member, configured, member_changed, is_configuration, is_member_file, change_told, changes_told, queue_all, after_watching, begun, unconcerned}
+use Rattle.session_core.specs.Message.{event, served, received, asked, effect, effect_of, concluded, is_passed_over, unless_refused, Watching, taking_of, after_reading, after_member, configured, member_changed, is_configuration, is_member_file, change_told, changes_told, queue_all, after_watching, begun, unconcerned}
 use Rattle.session_core.specs.Refusals.{Refused, refusal, reply, is_ended}
-use Rattle.session_core.specs.Served.{as_served}
 use Rattle.session_core.specs.State.{State, libraries}
 use Rattle.session_core.specs.Step.{Effect, quiet, says}
 
@@ -50,11 +49,13 @@ pub whenever_unless : (Holds : Effect → Type 0) (s : State) (why : Option Refu
 whenever_unless Holds s None event calls said so = so
 whenever_unless Holds s (Some why) event calls said so = said (reply why)
 
--- What is so where nothing changes, whatever one body is written, and of each message that is taken, is so of each event.
+-- What is so where nothing changes, whatever one body is written, and of each message that is taken, and stays so behind answers, is
+-- so of each event.
 pub record HoldsOfEach (Holds : Effect → Type 0) (s : State) : Type 0 where
   pub nothing : Holds (quiet s)
   pub refused : (body : List ℕ) → Holds (says s body)
   pub taken : (message : LspIn) (calls : List LibraryCall) → Whenever Holds (effect s message calls)
+  pub behind : (first : Effect) → Holds first → Holds (concluded first)
 
 whenever_told : (Holds : Effect → Type 0) (s : State) (told : Result LspIn Refusal) (calls : List LibraryCall) → HoldsOfEach Holds s → Whenever Holds (effect_of s told calls)
 whenever_told Holds s (Ok message) calls each = each.taken message calls
@@ -63,17 +64,19 @@ whenever_told Holds s (Err refusal) calls each = each.nothing
 whenever_asked : (Holds : Effect → Type 0) (s : State) (told : Result LspIn Refusal) (calls : List LibraryCall) → HoldsOfEach Holds s → Whenever Holds (asked s told calls)
 whenever_asked Holds s told calls each =
     whenever_cond Holds (is_passed_over s.stage told) (answered (quiet s)) _ calls each.nothing
-    (whenever_unless Holds s (refusal s.stage s.store (Some told)) (effect_of s told) calls each.refused (whenever_told Holds s told calls each))
+    (whenever_unless Holds s (refusal s.stage s.store s.waiting (Some told)) (effect_of s told) calls each.refused (whenever_told Holds s told calls each))
 
 whenever_received : (Holds : Effect → Type 0) (s : State) (value : Option Data) (calls : List LibraryCall) → HoldsOfEach Holds s → Whenever Holds (received s value calls)
 whenever_received Holds s None calls each = each.refused _
 whenever_received Holds s (Some value) calls each =
-    whenever_cond Holds (is_response value) (answered (quiet s)) (asked s (as_served (message_of value))) calls each.nothing (whenever_asked Holds s (as_served (message_of value)) calls each)
+    whenever_cond Holds (is_response value) (answered (quiet s)) (asked s (message_of value)) calls each.nothing (whenever_asked Holds s (message_of value) calls each)
 
 pub whenever_event : (Holds : Effect → Type 0) (s : State) (body : List ℕ) (calls : List LibraryCall) → HoldsOfEach Holds s → Whenever Holds (event s body calls)
 unfolding event
 whenever_event Holds s body calls each =
-    whenever_cond Holds (is_ended s.stage) (answered (quiet s)) (received s (reading body)) calls each.nothing (whenever_received Holds s (reading body) calls each)
+    whenever_cond Holds (is_ended s.stage) (answered (quiet s)) (served s (reading body)) calls each.nothing
+    (whenever_behind Holds Holds (received s (reading body) calls) (λ first. answered (concluded first)) (whenever_received Holds s (reading body) calls each)
+    (λ first rest so. each.behind first so))
 
 -- ---- messages on files
 

@@ -3,15 +3,14 @@ use Rattle.std.proofs.Common.{◌≡◌, ℕ, Bool, true, false, cond, List, [],
 use Rattle.serde_json.specs.Data.{Data}
 use Rattle.json_view.specs.Texts.{reading}
 use Rattle.io_edge.specs.LibraryCall.{LibraryCall}
-use Rattle.library_reading.specs.Asked.{Asking, answered}
+use Rattle.library_reading.specs.Asked.{Asked, Came, Lacks, Differs, Asking, answered, behind}
 use Rattle.lsp_messages.specs.declared.incoming.LspIn.{LspIn}
 use Rattle.lsp_messages.specs.declared.incoming.LspIn.TheVariants.{Initialize, Shutdown, Definition, References, Hover, DocumentSymbol, Initialized, Exit, DidOpen, DidChange, DidClose, DidSave, DidChangeConfiguration, DidChangeWatchedFiles, Cancel, Dap}
 use Rattle.lsp_messages.specs.declared.incoming.Refusal.{Refusal}
 use Rattle.lsp_messages.specs.Messages.{is_response, message_of}
 use Rattle.session_core.specs.Laws.{is_on_files, is_value_on_files, is_body_on_files, LeavesCalls}
-use Rattle.session_core.specs.Message.{message, event, received, asked, effect_of, is_passed_over, unless_refused}
+use Rattle.session_core.specs.Message.{message, event, served, received, asked, effect_of, concluded, is_passed_over, unless_refused}
 use Rattle.session_core.specs.Refusals.{Refused, refusal, is_ended}
-use Rattle.session_core.specs.Served.{as_served}
 use Rattle.session_core.specs.State.{State}
 use Rattle.session_core.specs.Step.{Effect, quiet, step_of}
 
@@ -49,15 +48,23 @@ leaves_told s (Ok (Dap session message)) other = λ calls. refl
 leaves_asked : (s : State) (told : Result LspIn Refusal) → is_on_files told ≡ false → LeavesAll (asked s told)
 leaves_asked s told other =
     leaves_cond (is_passed_over s.stage told) (answered (quiet s)) _ (λ calls. refl)
-    (leaves_unless s (refusal s.stage s.store (Some told)) (effect_of s told) (leaves_told s told other))
+    (leaves_unless s (refusal s.stage s.store s.waiting (Some told)) (effect_of s told) (leaves_told s told other))
 
 leaves_received : (s : State) (value : Option Data) → is_value_on_files value ≡ false → LeavesAll (received s value)
 leaves_received s None other = λ calls. refl
-leaves_received s (Some value) other = leaves_cond (is_response value) (answered (quiet s)) (asked s (as_served (message_of value))) (λ calls. refl) (leaves_asked s (as_served (message_of value)) other)
+leaves_received s (Some value) other = leaves_cond (is_response value) (answered (quiet s)) (asked s (message_of value)) (λ calls. refl) (leaves_asked s (message_of value) other)
+
+-- answers ask it nothing
+leaves_behind : (first : Asked Effect) (calls : List LibraryCall) → LeavesCalls (step_of first) calls → LeavesCalls (step_of (behind first (λ z. answered (concluded z)))) calls
+leaves_behind (Came effect rest) calls leaves = leaves
+leaves_behind Lacks calls leaves = leaves
+leaves_behind Differs calls leaves = leaves
 
 leaves_event : (s : State) (body : List ℕ) → is_body_on_files body ≡ false → LeavesAll (event s body)
 unfolding event
-leaves_event s body other = leaves_cond (is_ended s.stage) (answered (quiet s)) (received s (reading body)) (λ calls. refl) (leaves_received s (reading body) other)
+leaves_event s body other =
+    leaves_cond (is_ended s.stage) (answered (quiet s)) (served s (reading body)) (λ calls. refl)
+    (λ calls. leaves_behind (received s (reading body) calls) calls (leaves_received s (reading body) other calls))
 
 pub message_leaves : (s : State) (body : List ℕ) (calls : List LibraryCall) → is_body_on_files body ≡ false → LeavesCalls (message s body calls) calls
 message_leaves s body calls other = leaves_event s body other calls

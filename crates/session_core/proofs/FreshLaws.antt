@@ -27,15 +27,16 @@ use Rattle.session_core.specs.declared.state.LastList.{LastList}
 use Rattle.session_core.specs.declared.state.Stage.TheVariants.{Active}
 use Rattle.session_core.specs.Diagnostics.{list_of}
 use Rattle.session_core.specs.Laws.{is_listed, AreFresh, AllQueued, LeavesFresh, KeepsOrQueues}
-use Rattle.session_core.specs.Message.{message, event, effect, after_change, after_closing, farewell_at, queue_all, root_of}
+use Rattle.session_core.specs.Message.{message, event, effect, concluded, after_change, after_closing, farewell_at, queue_all, root_of}
 use Rattle.session_core.specs.Refusals.{is_ended}
 use Rattle.session_core.specs.Replies.{initialize_reply, list_body}
 use Rattle.answers_feed.specs.Same.{is_same_position, is_same_span, is_same_relation, is_same_diagnostic, is_same_list}
 use Rattle.session_core.specs.State.{State, start, libraries, number_at, number_named, is_number, is_program, is_queued, document_at, programs, with_programs, last_list, without_list, with_list, without, published_without}
 use Rattle.session_core.specs.Step.{Effect, quiet, says, step_of}
+use Rattle.session_core.proofs.AnswerLaws.{so_behind}
 use Rattle.session_core.proofs.AskingLaws.{Whenever, whenever_event, HoldsOfQueues, whenever_begun, whenever_watched}
 use Rattle.session_core.proofs.TextLaws.{found_passes}
-use Rattle.session_core.specs.Turn.{is_published, publish, assemble_first, assemble_many, turn, turn_of, turn_at, without_first}
+use Rattle.session_core.specs.Turn.{is_published, publish, assemble_first, assemble_many, assemble_all, answer_waiting, turn, turn_of, turn_at, without_first}
 
 -- ---- tests
 
@@ -273,8 +274,12 @@ fresh_first s fresh = by_queue s.queue refl where
   by_queue [] e = fresh
   by_queue (n ∷ rest) e = fresh_turn_at s n rest (document_at s.store n) e refl fresh
 
+-- answers leave lists as they are
+fresh_behind : (s : State) → AreFresh s → AreFresh (answer_waiting s).state
+fresh_behind s fresh = so_behind AreFresh s fresh fresh
+
 pub fresh_turn : (s : State) → AreFresh s → AreFresh (turn s).state
-fresh_turn s fresh = fresh_first s fresh
+fresh_turn s fresh = fresh_behind (assemble_first s).state (fresh_first s fresh)
 
 fresh_many : (n : ℕ) (s : State) → AreFresh s → AreFresh (assemble_many n s).state
 fresh_many zero s fresh = fresh
@@ -310,7 +315,7 @@ good_debugged s number read fresh = λ alive. fresh
 
 good_effect : (s : State) (message : LspIn) (calls : List LibraryCall) → AreFresh s → Whenever IsGood (effect s message calls)
 good_effect s (Initialize id root) calls fresh = good_queues (record s { stage = Active; root = root_of root }) (initialize_reply id ∷ [])
-good_effect s (Shutdown id) calls fresh = λ alive. fresh_many (length s.queue) s fresh
+good_effect s (Shutdown id) calls fresh = λ alive. fresh_behind (assemble_all s).state (fresh_many (length s.queue) s fresh)
 good_effect s (Definition id uri at) calls fresh = λ alive. fresh
 good_effect s (References id uri at declarations) calls fresh = λ alive. fresh
 good_effect s (Hover id uri at) calls fresh = λ alive. fresh
@@ -326,6 +331,9 @@ good_effect s (DidChangeWatchedFiles changes) calls fresh = whenever_watched IsG
 good_effect s (Cancel id) calls fresh = λ alive. fresh
 good_effect s (Dap session message) calls fresh = good_debugged s session (request_of message) fresh
 
+good_behind : (first : Effect) → IsGood first → IsGood (concluded first)
+good_behind first good = so_behind (λ t. is_ended t.stage ≡ false → AreFresh t) first.state good good
+
 good_leaves : (asked : Asked Effect) → Whenever IsGood asked → LeavesFresh (step_of asked)
 good_leaves (Came effect rest) good = good
 good_leaves Lacks good = tt
@@ -338,6 +346,7 @@ fresh_message s body calls fresh =
       nothing = λ alive. fresh;
       refused = λ line alive. fresh;
       taken = λ told more. good_effect s told more fresh;
+      behind = good_behind;
     }))
 
 pub fresh_start : (budget : ℕ) → AreFresh (start budget)
@@ -383,6 +392,12 @@ kept_many (suc n) s =
     let others = kept_many n (assemble_first s).state in
     (others.0 ∙ first.0, others.1 ∙ first.1)
 
+kept_behind : (s t : State) → IsAsBefore s t → IsAsBefore s (answer_waiting t).state
+kept_behind s t same = so_behind (IsAsBefore s) t same same
+
+keeps_behind : (s : State) (first : Effect) → KeepsThemOrQueues s first → KeepsThemOrQueues s (concluded first)
+keeps_behind s first keeps = so_behind (λ t. IsAsBefore s t ⊎ AllQueued t) first.state keeps keeps
+
 keeps_files : (s : State) → HoldsOfQueues (KeepsThemOrQueues s) s
 keeps_files s = record { stays = λ bodies. inl (refl, refl); queues = λ t bodies. inr (all_queued t) }
 
@@ -392,7 +407,7 @@ keeps_debugged s number read = inl (refl, refl)
 
 keeps_effect : (s : State) (message : LspIn) (calls : List LibraryCall) → Whenever (KeepsThemOrQueues s) (effect s message calls)
 keeps_effect s (Initialize id root) calls = inr (all_queued (record s { stage = Active; root = root_of root }))
-keeps_effect s (Shutdown id) calls = inl (kept_many (length s.queue) s)
+keeps_effect s (Shutdown id) calls = inl (kept_behind s (assemble_all s).state (kept_many (length s.queue) s))
 keeps_effect s (Definition id uri at) calls = inl (refl, refl)
 keeps_effect s (References id uri at declarations) calls = inl (refl, refl)
 keeps_effect s (Hover id uri at) calls = inl (refl, refl)
@@ -420,4 +435,5 @@ change_queues s body calls =
       nothing = inl (refl, refl);
       refused = λ line. inl (refl, refl);
       taken = keeps_effect s;
+      behind = keeps_behind s;
     }))

@@ -1,3 +1,5 @@
+pub mod AnswerLaws
+pub mod AsideLaws
 pub mod AskingLaws
 mod CallLaws
 pub mod DebuggerLaws
@@ -9,6 +11,7 @@ pub mod ListedLaws
 pub mod MadeLaws
 pub mod MemberLaws
 pub mod MessageLaws
+pub mod NameLaws
 pub mod OverLaws
 pub mod ProgramLaws
 pub mod SettlingLaws

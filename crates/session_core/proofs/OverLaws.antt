@@ -1,21 +1,22 @@
 -- What is so of an event over the calls that it makes.
-use Rattle.std.proofs.Common.{◌≡◌, ◌≢◌, ℕ, List, [], ◌++◌, Option, Result, Ok, Err, IfOk, OnOk, OnErr, refl, sym, ap, ◌∙◌, subst}
+use Rattle.std.proofs.Common.{◌≡◌, ◌≢◌, ℕ, Bool, true, false, cond, List, [], ◌++◌, Option, Result, Ok, Err, IfOk, IsErr, OnOk, OnErr, refl, sym, ap, ◌∙◌, subst}
 use Rattle.std.proofs.lemmas.List.{append-nil}
 use Rattle.hl_base.specs.declared.memory.OutOfMemory.{OutOfMemory}
 use Rattle.io_edge.specs.LibraryCall.{LibraryCall}
-use Rattle.library_reading.specs.Asked.{Asking, IsShort, AsksOver}
-use Rattle.library_reading.proofs.AskedLaws.{AreShort, asks_nothing, asks_stopped}
+use Rattle.library_reading.specs.Asked.{Asking, answered, IsShort, AsksOver}
+use Rattle.library_reading.proofs.AskedLaws.{AreShort, asks_nothing, asks_stopped, asks_made, asks_cut}
 use Rattle.lsp_messages.specs.declared.incoming.LspIn.{LspIn}
 use Rattle.lsp_messages.specs.declared.incoming.Refusal.{Refusal}
 use Rattle.lsp_messages.specs.declared.incoming.Refusal.TheVariants as refusals
 use Rattle.lsp_messages.specs.Messages.{IsReading}
 use Rattle.session_core.specs.Held.{Held}
 use Rattle.session_core.specs.Inside.{HearsOver}
-use Rattle.session_core.specs.Message.{asked}
-use Rattle.session_core.specs.Served.{as_served}
+use Rattle.json_view.specs.Texts.{reading}
+use Rattle.session_core.specs.Message.{asked, received, served, concluded, event}
+use Rattle.session_core.specs.Refusals.{is_ended}
 use Rattle.session_core.specs.State.{State}
-use Rattle.session_core.specs.Step.{Effect, Acts, written}
-use Rattle.session_core.proofs.ShortLaws.{short_asked}
+use Rattle.session_core.specs.Step.{Effect, quiet, IsEffect, Acts, written}
+use Rattle.session_core.proofs.ShortLaws.{short_asked, short_event}
 
 -- the effect of a state and of what is written
 abbrev pub acting : State → List (List ℕ) → Effect
@@ -50,18 +51,56 @@ reading_is refusals.OutOfMemory wanted read other = absurd (other refl)
 pub over_refused : (s now : State) (refusal : Refusal) (read wanted : Result LspIn Refusal)
     (result : Result (List (List ℕ)) OutOfMemory) (told : Option (List LibraryCall)) (many : ℕ)
     → read ≡ Err refusal → IsReading read wanted
-    → IfOk result (λ bodies. (refusal ≢ refusals.OutOfMemory) × Acts (asked s (as_served (Err refusal))) now bodies)
-    → AsksOver (asked s (as_served wanted)) (acting now) result told told many many
+    → IfOk result (λ bodies. (refusal ≢ refusals.OutOfMemory) × Acts (asked s (Err refusal)) now bodies)
+    → AsksOver (asked s wanted) (acting now) result told told many many
 over_refused s now refusal read wanted (Ok bodies) told many is reads acts =
-    over_message s now (as_served wanted) (as_served (Err refusal)) (Ok bodies) told many
-    (ap as_served (reading_is refusal wanted (subst (λ (z : Result LspIn Refusal). IsReading z wanted) is reads) acts.0)) acts.1
+    over_message s now wanted (Err refusal) (Ok bodies) told many
+    (reading_is refusal wanted (subst (λ (z : Result LspIn Refusal). IsReading z wanted) is reads) acts.0) acts.1
 over_refused s now refusal read wanted (Err lost) told many is reads acts =
-    over_none (asked s (as_served wanted)) now (Err lost) told many (short_asked s (as_served wanted)) tt
+    over_none (asked s wanted) now (Err lost) told many (short_asked s wanted) tt
 
 -- memory ran out before anything was read
 pub over_lost : (event : Asking Effect) (now : State) (lost : OutOfMemory) (told : Option (List LibraryCall)) (many : ℕ) → AreShort event
     → AsksOver event (acting now) (Err lost) told told many many
 over_lost event now lost told many short = over_none event now (Err lost) told many short tt
+
+-- ---- answers behind what was received
+
+-- what a message does while the session goes on
+pub event_served : (s : State) (body : List ℕ) → is_ended s.stage ≡ false → event s body ≡ served s (reading body)
+unfolding event
+event_served s body goes = ap (λ b. cond b (answered (quiet s)) (served s (reading body))) goes
+
+-- and behind its end
+pub event_quiet : (s : State) (body : List ℕ) → is_ended s.stage ≡ true → event s body ≡ answered (quiet s)
+unfolding event
+event_quiet s body ended = ap (λ b. cond b (answered (quiet s)) (served s (reading body))) ended
+
+-- nothing came of it
+pub over_ended : (s : State) (body : List ℕ) (bodies : List (List ℕ)) (told : Option (List LibraryCall)) (many : ℕ) → is_ended s.stage ≡ true → bodies ≡ []
+    → AsksOver (event s body) (acting s) (Ok bodies) told told many many
+over_ended s body bodies told many ended none =
+    over_none (event s body) s (Ok bodies) told many (short_event s body)
+    (event_quiet s body ended ∙ ap (λ z. answered (acting s z)) (sym none))
+
+-- it was received, and then the requests that wait were answered, or memory ran out
+pub over_served : (s middle now : State) (body : List ℕ) (bodies : List (List ℕ)) (result : Result (List (List ℕ)) OutOfMemory)
+    (before after : Option (List LibraryCall)) (few many : ℕ) → is_ended s.stage ≡ false
+    → AsksOver (received s (reading body)) (acting middle) (Ok bodies) before after few many
+    → IfOk result (λ all. IsEffect (concluded (acting middle bodies)) now all)
+    → AsksOver (event s body) (acting now) result before after few many
+over_served s middle now body bodies result before after few many goes over is =
+    subst (λ (z : Asking Effect). AsksOver z (acting now) result before after few many) (sym (event_served s body goes))
+    (asks_made (received s (reading body)) concluded (acting middle) (acting now) bodies result before after few many over is)
+
+-- memory ran out while it was received
+pub over_cut : (s middle now : State) (body : List ℕ) (lost : OutOfMemory) (result : Result (List (List ℕ)) OutOfMemory)
+    (before after : Option (List LibraryCall)) (few many : ℕ) → is_ended s.stage ≡ false
+    → AsksOver (received s (reading body)) (acting middle) (Err lost) before after few many → IsErr result
+    → AsksOver (event s body) (acting now) result before after few many
+over_cut s middle now body lost result before after few many goes over failed =
+    subst (λ (z : Asking Effect). AsksOver z (acting now) result before after few many) (sym (event_served s body goes))
+    (asks_cut (received s (reading body)) (λ first. answered (concluded first)) (acting middle) (acting now) lost result before after few many over failed (λ first. tt))
 
 -- ---- a session
 

@@ -16,9 +16,8 @@ use Rattle.lsp_messages.specs.declared.incoming.ChangeKind.TheVariants.{Created,
 use Rattle.lsp_messages.specs.declared.incoming.FileChange.{FileChange}
 use Rattle.lsp_messages.specs.declared.incoming.Refusal.{Refusal}
 use Rattle.lsp_messages.specs.Messages.{is_response, message_of}
-use Rattle.session_core.specs.Message.{message, event, received, asked, effect, effect_of, is_passed_over, unless_refused, Watching, taking_of, after_reading, after_member, configured, member_changed, is_configuration, is_member_file, change_told, changes_told, after_watching, begun, unconcerned}
+use Rattle.session_core.specs.Message.{message, event, served, received, asked, effect, effect_of, concluded, is_passed_over, unless_refused, Watching, taking_of, after_reading, after_member, configured, member_changed, is_configuration, is_member_file, change_told, changes_told, after_watching, begun, unconcerned}
 use Rattle.session_core.specs.Refusals.{Refused, refusal, is_ended}
-use Rattle.session_core.specs.Served.{as_served}
 use Rattle.session_core.specs.State.{State, libraries}
 use Rattle.session_core.specs.Step.{Effect, quiet, MakesAll, step_of}
 
@@ -86,15 +85,18 @@ short_unless s (Some why) event short = tt
 
 pub short_asked : (s : State) (told : Result LspIn Refusal) → AreShort (asked s told)
 short_asked s told =
-    short_cond (is_passed_over s.stage told) (answered (quiet s)) _ tt (short_unless s (refusal s.stage s.store (Some told)) (effect_of s told) (short_told s told))
+    short_cond (is_passed_over s.stage told) (answered (quiet s)) _ tt (short_unless s (refusal s.stage s.store s.waiting (Some told)) (effect_of s told) (short_told s told))
 
-short_received : (s : State) (value : Option Data) → AreShort (received s value)
+pub short_received : (s : State) (value : Option Data) → AreShort (received s value)
 short_received s None = tt
-short_received s (Some value) = short_cond (is_response value) (answered (quiet s)) (asked s (as_served (message_of value))) tt (short_asked s (as_served (message_of value)))
+short_received s (Some value) = short_cond (is_response value) (answered (quiet s)) (asked s (message_of value)) tt (short_asked s (message_of value))
+
+pub short_served : (s : State) (value : Option Data) → AreShort (served s value)
+short_served s value = short_then (received s value) (λ first. answered (concluded first)) (short_received s value) (λ first. tt)
 
 pub short_event : (s : State) (body : List ℕ) → AreShort (event s body)
 unfolding event
-short_event s body = short_cond (is_ended s.stage) (answered (quiet s)) (received s (reading body)) tt (short_received s (reading body))
+short_event s body = short_cond (is_ended s.stage) (answered (quiet s)) (served s (reading body)) tt (short_served s (reading body))
 
 makes_all : (asked : Asked Effect) → IsShort asked → MakesAll (step_of asked)
 makes_all (Came effect []) short = refl

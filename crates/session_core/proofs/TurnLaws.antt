@@ -5,7 +5,11 @@ use Rattle.hl_base.specs.declared.place.PathId.{PathId}
 use Rattle.document_store.specs.Store.{OpenDocument}
 use Rattle.lsp_messages.specs.declared.outgoing.Diagnostic.{Diagnostic}
 use Rattle.session_core.specs.declared.state.LastList.{LastList}
+use Rattle.lsp_messages.specs.declared.incoming.Id.{Id}
+use Rattle.session_core.specs.declared.state.Stage.TheVariants.{Closing}
 use Rattle.session_core.specs.Diagnostics.{list_of}
+use Rattle.session_core.specs.Message.{concluded, shut}
+use Rattle.session_core.specs.Replies.{shutdown_reply}
 use Rattle.session_core.specs.State.{State, document_at, last_list}
 use Rattle.session_core.specs.Step.{Effect, quiet, says, and_then, IsEffect}
 use Rattle.session_core.specs.Turn.{assemble_first, turn_of, assemble_many, assemble_all, answer_waiting, turn, turn_at, publish, is_published, without_first}
@@ -99,8 +103,21 @@ turning_smaller now next bodies some step =
     omega arith
 
 -- one Turn: a list, and then what is answered
-pub turn_whole : (s now next : State) (bodies answers all : List (List ℕ)) → IsEffect (assemble_first s) now bodies → IsEffect (answer_waiting now) next answers → all ≡ bodies ++ answers → IsEffect (turn s) next all
-turn_whole s now next bodies answers all list waited is =
-    ap (λ (z : Effect). and_then z answer_waiting) list
-    ∙ ap (λ (z : Effect). record { state = z.state; bodies = bodies ++ z.bodies }) waited
-    ∙ ap (λ z. record { state = next; bodies = z }) (sym is)
+pub turn_whole : (s now next : State) (bodies all : List (List ℕ)) → IsEffect (assemble_first s) now bodies → IsEffect (concluded (record { state = now; bodies = bodies })) next all
+    → IsEffect (turn s) next all
+turn_whole s now next bodies all list waited = ap concluded list ∙ waited
+
+-- answers behind what is written for an event
+pub concluded_whole : (s now : State) (bodies answers all : List (List ℕ)) → IsEffect (answer_waiting s) now answers → all ≡ bodies ++ answers
+    → IsEffect (concluded (record { state = s; bodies = bodies })) now all
+concluded_whole s now bodies answers all waited is =
+    ap (λ (z : Effect). record { state = z.state; bodies = bodies ++ z.bodies }) waited
+    ∙ ap (λ z. record { state = now; bodies = z }) (sym is)
+
+-- the lists of all queued programs, then the answers, and then the reply
+pub shut_whole : (s now next : State) (id : Id) (bodies all : List (List ℕ)) → IsEffect (assemble_all s) now bodies
+    → IsEffect (concluded (record { state = now; bodies = bodies })) next all
+    → shut s id ≡ record { state = record next { stage = Closing }; bodies = all ++ shutdown_reply id ∷ [] }
+shut_whole s now next id bodies all lists waited =
+    ap (λ (z : Effect). and_then (concluded z) (λ t. says (record t { stage = Closing }) (shutdown_reply id))) lists
+    ∙ ap (λ (z : Effect). and_then z (λ t. says (record t { stage = Closing }) (shutdown_reply id))) waited

@@ -5,7 +5,6 @@ use Rattle.hl_base.specs.declared.memory.OutOfMemory.{OutOfMemory}
 use Rattle.io_edge.specs.LibraryCall.{LibraryCall}
 use Rattle.io_edge.specs.Told.{Gains}
 use Rattle.lsp_messages.specs.declared.incoming.Id.{Id}
-use Rattle.lsp_messages.specs.declared.incoming.Refusal.{Refusal}
 use Rattle.lsp_messages.specs.declared.incoming.Refusal.TheVariants.{UnknownMethod, BadParams}
 use Rattle.lsp_messages.specs.declared.outgoing.Diagnostic.{Diagnostic}
 use Rattle.lsp_messages.specs.declared.outgoing.LspOut.{LspOut}
@@ -21,15 +20,17 @@ use Rattle.document_store.specs.Store.{Store, OpenDocument, number_of}
 use Rattle.document_store.specs.Shown.{Shows}
 use Rattle.document_store.specs.declared.document.Document.{Document}
 use Rattle.document_store.specs.declared.fault.StoreFault.{StoreFault}
+use Rattle.waiting_requests.specs.Names.{Names}
+use Rattle.waiting_requests.specs.declared.request.Question.{Question}
 use Rattle.session_core.specs.declared.state.LastList.{LastList}
 use Rattle.session_core.specs.declared.watching.Watch.{Watch}
 use Rattle.session_core.specs.Debugging.{trace_of}
 use Rattle.session_core.specs.Diagnostics.{diagnostics_of}
 use Rattle.session_core.specs.Held.{Held}
-use Rattle.session_core.specs.Message.{after_change, after_closing, asked, farewell, unless_refused, Watching, configured}
-use Rattle.session_core.specs.Refusals.{first_of, log_fault}
+use Rattle.session_core.specs.Message.{after_change, after_closing, asked, asks_later, farewell, unless_refused, Watching, configured}
+use Rattle.session_core.specs.Names.{names_of}
+use Rattle.session_core.specs.Refusals.{Asks, too_early, out_of_place, repeats, first_of, log_fault}
 use Rattle.session_core.specs.State.{State, libraries, libraries_of, is_program, is_queued, number_at, document_at, last_list}
-use Rattle.session_core.specs.Served.{as_served}
 use Rattle.session_core.specs.Step.{Effect, written}
 use Rattle.session_core.specs.Turn.{is_published}
 
@@ -61,13 +62,15 @@ closing_asked s method n asked = unless_refused s (first_of (log_fault method as
 abbrev pub unknown_asked : State → Option Id → (method : List ℕ) → Asking Effect
 unknown_asked s id method = asked s (Err (UnknownMethod (record { id = id; method = method })))
 
--- what was read in place of a message, as far as it is served
-abbrev pub refusal_asked : State → Refusal → Asking Effect
-refusal_asked s refusal = asked s (as_served (Err refusal))
-
 -- a message with a parameter that is missing or of a wrong kind
 abbrev pub wrong_asked : State → Option Id → (method name : List ℕ) → Asking Effect
 wrong_asked s id method name = asked s (Err (BadParams (record { id = id; method = method }) name))
+
+-- a request on symbols: why it is refused, or it waits
+abbrev pub symbols_asked : State → Id → (uri : List ℕ) → Question → Asking Effect
+symbols_asked s id uri question =
+    unless_refused s (first_of (too_early (Asks id) s.stage ∷ out_of_place (Asks id) s.stage ∷ repeats (Asks id) s.waiting ∷ None ∷ None ∷ None ∷ []))
+    (answered (asks_later s id uri question))
 
 -- ---- which lists are of the documents as they are
 
@@ -127,6 +130,13 @@ watched_so_far s watch = record { state = s; bodies = watch.bodies; log = watch.
 abbrev pub configured_where : Option (List ℕ) → Watching → Asking Watching
 configured_where None w = answered w
 configured_where (Some root) w = configured root w
+
+-- ---- names
+
+-- this is what the program of the document of a number tells of names
+abbrev pub TellsNames : State → PathId → (shown : Document) → Names → Type 0
+TellsNames s n shown names = (document : OpenDocument) → document_at s.store n ≡ Some document → Shows s.store.paths document shown
+    → names ≡ names_of s.root s.configuration s.store s.budget n document
 
 -- ---- launches
 

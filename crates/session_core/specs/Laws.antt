@@ -1,5 +1,5 @@
 -- Words of the laws of a session (this project).
-use Rattle.std.specs.Prelude.{◌≡◌, ◌==◌, ℕ, ◌≤◌, ◌⊎◌, ◌&&◌, Bool, true, false, not, List, length, Option, Some, None, Result, Ok, Err, is_err}
+use Rattle.std.specs.Prelude.{◌==◌, ℕ, ◌≤◌, ◌⊎◌, ◌&&◌, ◌||◌, ◌≡◌, [], Bool, true, false, not, List, length, Option, Some, None, Result, Ok, Err, is_err}
 use Rattle.std.specs.Option.{option_map_or}
 use Rattle.serde_json.specs.Data.{Data}
 use Rattle.json_view.specs.Texts.{reading}
@@ -19,26 +19,26 @@ use Rattle.dap_messages.specs.Requests.{request_of}
 use Rattle.debug_sessions.specs.State.{session_of}
 use Rattle.debug_sessions.specs.Laws.{reads_disconnect, trace_in}
 use Rattle.session_core.specs.Refusals.{is_fresh, is_active, is_ended}
-use Rattle.session_core.specs.Served.{as_served}
+use Rattle.waiting_requests.specs.Requests.{waits, AreDistinct}
 use Rattle.session_core.specs.Diagnostics.{list_of}
-use Rattle.session_core.specs.State.{State, libraries, document_at, is_program, is_queued, last_list}
+use Rattle.session_core.specs.State.{State, is_idle, libraries, document_at, is_program, is_queued, last_list}
 use Rattle.session_core.specs.Step.{Step, Goes, Stopped, Other}
 use Rattle.session_core.specs.Turn.{is_published}
 
--- a message is refused: it is none, its method is not known, a parameter is bad, it may not stand here, or the store
--- refuses it
+-- a message is refused: it is none, its method is not known, a parameter is bad, it may not stand here, its id is that of a
+-- request that waits, or the store refuses it
 abbrev pub is_refused : State → Result LspIn Refusal → Bool
 is_refused s (Err refusal) = true
-is_refused s (Ok (Initialize id root)) = not (is_fresh s.stage)
-is_refused s (Ok (Shutdown id)) = not (is_active s.stage)
+is_refused s (Ok (Initialize id root)) = not (is_fresh s.stage) || waits s.waiting id
+is_refused s (Ok (Shutdown id)) = not (is_active s.stage) || waits s.waiting id
 is_refused s (Ok (DidOpen uri language version text)) = is_err (opened s.store uri language version text)
 is_refused s (Ok (DidChange uri version edits)) = is_err (changed s.store uri version edits)
 is_refused s (Ok (DidClose uri)) = is_err (closed s.store uri)
 is_refused s (Ok Initialized) = false
-is_refused s (Ok (Definition id uri at)) = false
-is_refused s (Ok (References id uri at declarations)) = false
-is_refused s (Ok (Hover id uri at)) = false
-is_refused s (Ok (DocumentSymbol id uri)) = false
+is_refused s (Ok (Definition id uri at)) = not (is_active s.stage) || waits s.waiting id
+is_refused s (Ok (References id uri at declarations)) = not (is_active s.stage) || waits s.waiting id
+is_refused s (Ok (Hover id uri at)) = not (is_active s.stage) || waits s.waiting id
+is_refused s (Ok (DocumentSymbol id uri)) = not (is_active s.stage) || waits s.waiting id
 is_refused s (Ok Exit) = false
 is_refused s (Ok DidSave) = false
 is_refused s (Ok DidChangeConfiguration) = false
@@ -49,7 +49,7 @@ is_refused s (Ok (Dap session message)) = false
 -- the body is refused: it is no JSON, or the message that it is is refused
 abbrev pub is_refused_value : State → Option Data → Bool
 is_refused_value s None = true
-is_refused_value s (Some value) = is_refused s (as_served (message_of value))
+is_refused_value s (Some value) = is_refused s (message_of value)
 
 abbrev pub is_refused_body : State → List ℕ → Bool
 is_refused_body s body = is_refused_value s (reading body)
@@ -76,7 +76,7 @@ is_on_files (Ok (Dap session message)) = false
 
 abbrev pub is_value_on_files : Option Data → Bool
 is_value_on_files None = false
-is_value_on_files (Some value) = is_on_files (as_served (message_of value))
+is_value_on_files (Some value) = is_on_files (message_of value)
 
 abbrev pub is_body_on_files : List ℕ → Bool
 is_body_on_files body = is_value_on_files (reading body)
@@ -122,7 +122,7 @@ debug_said (Ok (Dap session message)) = Some (record { number = session; read = 
 
 abbrev pub value_debug_said : Option Data → Option DebugSaid
 value_debug_said None = None
-value_debug_said (Some value) = debug_said (as_served (message_of value))
+value_debug_said (Some value) = debug_said (message_of value)
 
 -- what a body says to one
 abbrev pub body_debug_said : List ℕ → Option DebugSaid
@@ -190,3 +190,19 @@ abbrev pub KeepsOrQueues : State → Step → Type 0
 KeepsOrQueues s (Goes t bodies rest) = ((t.store ≡ s.store) × (t.configuration ≡ s.configuration)) ⊎ AllQueued t
 KeepsOrQueues s Stopped = Unit {0}
 KeepsOrQueues s Other = Unit {0}
+
+-- ---- requests that wait
+
+-- where no program is queued, no request waits
+abbrev pub AreAnswered : State → Type 0
+AreAnswered s = is_idle s.queue ≡ true → s.waiting ≡ []
+
+-- no two requests that wait have one id
+abbrev pub HaveTheirIds : State → Type 0
+HaveTheirIds s = AreDistinct s.waiting
+
+-- where the session goes on, that is so
+abbrev pub LeavesSo : (State → Type 0) → Step → Type 0
+LeavesSo IsSo (Goes t bodies rest) = IsSo t
+LeavesSo IsSo Stopped = Unit {0}
+LeavesSo IsSo Other = Unit {0}

@@ -5,9 +5,9 @@ pub mod Held
 pub mod Inside
 pub mod Laws
 pub mod Message
+pub mod Names
 pub mod Refusals
 pub mod Replies
-pub mod Served
 pub mod State
 pub mod Step
 pub mod Turn

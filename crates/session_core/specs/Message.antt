@@ -27,6 +27,10 @@ use Rattle.lsp_messages.specs.declared.incoming.Refusal.{Refusal}
 use Rattle.lsp_messages.specs.declared.incoming.Refusal.TheVariants.{NotRequest, UnknownMethod, BadParams, OutOfMemory}
 use Rattle.lsp_messages.specs.Messages.{is_response, message_of}
 use Rattle.dap_messages.specs.Requests.{request_of}
+use Rattle.waiting_requests.specs.Bodies.{cancel_reply}
+use Rattle.waiting_requests.specs.Requests as requests
+use Rattle.waiting_requests.specs.declared.request.Question.{Question}
+use Rattle.waiting_requests.specs.declared.request.Question.TheVariants as asks
 use Rattle.document_store.specs.Store.{Store, OpenDocument}
 use Rattle.document_store.specs.Changes.{opened, changed, closed}
 use Rattle.document_store.specs.declared.fault.StoreFault.{StoreFault}
@@ -36,10 +40,9 @@ use Rattle.session_core.specs.declared.state.Stage.TheVariants.{Active, Closing,
 use Rattle.session_core.specs.Refusals.{Kind, Opens, Asks, Ends, Tells, Neither, kind_of, Refused, reply, refusal, is_active, is_closing, is_ended}
 use Rattle.session_core.specs.Debugging.{debugged}
 use Rattle.session_core.specs.Replies.{initialize_reply, shutdown_reply, list_body, logged_line}
-use Rattle.session_core.specs.Served.{as_served}
 use Rattle.session_core.specs.State.{State, libraries, is_number, number_at, is_program, document_at, number_named, programs, with_programs, without, last_list, published_without, is_empty}
 use Rattle.session_core.specs.Step.{Effect, quiet, says, and_then, Step, step_of}
-use Rattle.session_core.specs.Turn.{assemble_all}
+use Rattle.session_core.specs.Turn.{assemble_all, answer_waiting}
 
 -- ---- programs
 
@@ -174,13 +177,13 @@ begun (Some root) s = configured root (unconcerned s) >>= (λ w. answered (after
 
 -- ---- what an accepted message does
 
--- the lists of all queued programs, and then the reply
+-- the lists of all queued programs, then the answers to the requests that wait, and then the reply
 abbrev pub shut : State → Id → Effect
-shut s id = and_then (assemble_all s) (λ t. says (record t { stage = Closing }) (shutdown_reply id))
+shut s id = and_then (and_then (assemble_all s) answer_waiting) (λ t. says (record t { stage = Closing }) (shutdown_reply id))
 
--- the session is at its end: after shutdown was answered, or before
+-- the session is at its end, after shutdown was answered, or before: no program is queued, and no request waits any more
 abbrev pub ended : State → State
-ended s = record s { stage = Ended (is_closing s.stage); queue = [] }
+ended s = record s { stage = Ended (is_closing s.stage); queue = []; waiting = [] }
 
 -- the path of the root that a URI names, without the slash at its end
 abbrev pub root_of : Option (List ℕ) → Option (List ℕ)
@@ -190,14 +193,27 @@ root_of uri = option_map without_slash (option_and_then path_of uri)
 abbrev pub opened_in : State → Option (List ℕ) → State
 opened_in s root = queue_all (record s { stage = Active; root = root_of root })
 
--- each message has its line; what is not served yet does nothing, and `as_served` lets none of it through
+-- a request on symbols waits behind the others
+abbrev pub asks_later : State → Id → (uri : List ℕ) → Question → Effect
+asks_later s id uri question = quiet (record s { waiting = s.waiting ++ record { id = id; uri = uri; question = question } ∷ [] })
+
+-- one body or none
+abbrev pub body_in : Option (List ℕ) → List (List ℕ)
+body_in None = []
+body_in (Some body) = body ∷ []
+
+-- the client cancels a request: where one of that id waits, it waits no more, and is answered by that
+abbrev pub cancels : State → Id → Effect
+cancels s id = record { state = record s { waiting = requests.without s.waiting id }; bodies = body_in (cancel_reply s.waiting id) }
+
+-- each message has its line
 abbrev pub effect : State → LspIn → Asking Effect
 effect s (Initialize id root) = answered (says (opened_in s root) (initialize_reply id))
 effect s (Shutdown id) = answered (shut s id)
-effect s (Definition id uri at) = answered (quiet s)
-effect s (References id uri at declarations) = answered (quiet s)
-effect s (Hover id uri at) = answered (quiet s)
-effect s (DocumentSymbol id uri) = answered (quiet s)
+effect s (Definition id uri at) = answered (asks_later s id uri (asks.Definition at))
+effect s (References id uri at declarations) = answered (asks_later s id uri (asks.References at declarations))
+effect s (Hover id uri at) = answered (asks_later s id uri (asks.Hover at))
+effect s (DocumentSymbol id uri) = answered (asks_later s id uri asks.Symbols)
 effect s Initialized = begun s.root s
 effect s Exit = answered (quiet (ended s))
 effect s (DidOpen uri language version text) = answered (after_change s (opened s.store uri language version text))
@@ -206,7 +222,7 @@ effect s (DidClose uri) = answered (after_closing s (number_named s.store uri) (
 effect s DidSave = answered (quiet s)
 effect s DidChangeConfiguration = answered (quiet s)
 effect s (DidChangeWatchedFiles changes) = changes_told changes (unconcerned s) >>= (λ w. answered (after_watching w))
-effect s (Cancel id) = answered (quiet s)
+effect s (Cancel id) = answered (cancels s id)
 effect s (Dap session message) = answered (debugged s session (request_of message))
 
 -- what was read in place of a message does nothing
@@ -250,23 +266,30 @@ unless_refused s None event = event
 -- a message at a stage: its refusal, or its effect
 abbrev pub asked_at : Stage → State → Result LspIn Refusal → Asking Effect
 asked_at stage s told =
-    if is_passed_over stage told then answered (quiet s) else unless_refused s (refusal stage s.store (Some told)) (effect_of s told)
+    if is_passed_over stage told then answered (quiet s) else unless_refused s (refusal stage s.store s.waiting (Some told)) (effect_of s told)
 
 abbrev pub asked : State → Result LspIn Refusal → Asking Effect
 asked s told = asked_at s.stage s told
 
 -- a value: the answers of a client are passed over, since nothing was asked of it
 abbrev pub heard : State → Data → Asking Effect
-heard s value = if is_response value then answered (quiet s) else asked s (as_served (message_of value))
+heard s value = if is_response value then answered (quiet s) else asked s (message_of value)
 
 -- a body: its refusal where it is no JSON, or that of the message that it is
 abbrev pub received : State → Option Data → Asking Effect
-received s None = unless_refused s (refusal s.stage s.store None) (answered (quiet s))
+received s None = unless_refused s (refusal s.stage s.store s.waiting None) (answered (quiet s))
 received s (Some value) = heard s value
+
+-- behind what a message does, the requests that wait are answered, where no program is queued
+abbrev pub concluded : Effect → Effect
+concluded first = and_then first answer_waiting
+
+abbrev pub served : State → Option Data → Asking Effect
+served s value = received s value >>= (λ first. answered (concluded first))
 
 -- what a message does; behind the end nothing changes
 unfoldable pub event : State → List ℕ → Asking Effect
-event s body = if is_ended s.stage then answered (quiet s) else received s (reading body)
+event s body = if is_ended s.stage then answered (quiet s) else served s (reading body)
 
 -- One message, where these are the calls of the library to come.
 abbrev pub message : State → List ℕ → List LibraryCall → Step

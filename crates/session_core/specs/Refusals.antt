@@ -10,6 +10,8 @@ use Rattle.lsp_messages.specs.declared.incoming.Refusal.TheVariants.{NotRequest,
 use Rattle.document_store.specs.Store.{Store}
 use Rattle.document_store.specs.Changes.{opened, changed, closed}
 use Rattle.document_store.specs.declared.fault.StoreFault.{StoreFault}
+use Rattle.waiting_requests.specs.Requests.{waits}
+use Rattle.waiting_requests.specs.declared.request.Request.{Request}
 use Rattle.session_core.specs.declared.state.Stage.{Stage}
 use Rattle.session_core.specs.declared.state.Stage.TheVariants.{Fresh, Active, Closing, Ended}
 use Rattle.session_core.specs.Replies.{parse_error, invalid_request, not_initialized, unknown_method, bad_parameter, log_line, bad_params, refusal_of}
@@ -147,6 +149,14 @@ out_of_place Ends stage = None
 out_of_place Tells stage = None
 out_of_place Neither stage = None
 
+-- a request with the id of one that waits
+abbrev pub repeats : Kind → List Request → Option Refused
+repeats (Opens id) waiting = where_so (waits waiting id) (OutOfPlace id)
+repeats (Asks id) waiting = where_so (waits waiting id) (OutOfPlace id)
+repeats Ends waiting = None
+repeats Tells waiting = None
+repeats Neither waiting = None
+
 -- a request of no known method
 abbrev pub not_known : Result LspIn Refusal → Option Refused
 not_known (Ok message) = None
@@ -203,13 +213,14 @@ first_of [] = None
 first_of (None ∷ others) = first_of others
 first_of (Some why ∷ others) = Some why
 
--- why a message is refused, if it is; a body that is no JSON is none
-abbrev pub refusal : Stage → Store → Option (Result LspIn Refusal) → Option Refused
-refusal stage store None = Some NoJson
-refusal stage store (Some told) = first_of (
+-- why a message is refused, if it is, where these requests wait; a body that is no JSON is none
+abbrev pub refusal : Stage → Store → List Request → Option (Result LspIn Refusal) → Option Refused
+refusal stage store waiting None = Some NoJson
+refusal stage store waiting (Some told) = first_of (
     no_request told
     ∷ too_early (kind_of told) stage
     ∷ out_of_place (kind_of told) stage
+    ∷ repeats (kind_of told) waiting
     ∷ not_known told
     ∷ wrong_parameter told
     ∷ logged store told

@@ -10,14 +10,15 @@ use Rattle.library_folders.specs.declared.folders.Folder.{Folder}
 use Rattle.library_folders.specs.Folders.{folders_of, is_member}
 use Rattle.lsp_messages.specs.declared.outgoing.Diagnostic.{Diagnostic}
 use Rattle.debug_sessions.specs.State.{Debuggers}
+use Rattle.waiting_requests.specs.declared.request.Request.{Request}
 use Rattle.session_core.specs.declared.state.Stage.{Stage}
 use Rattle.session_core.specs.declared.state.Stage.TheVariants.{Fresh}
 use Rattle.session_core.specs.declared.state.LastList.{LastList}
 
 -- How far the session has come, the path of the folder that the client works in, how many statements a program may be given,
 -- the configuration as it was last read, the documents and files, the programs whose list is still to be made, in order, what
--- was last published of each program since it was opened or became one, and the debug sessions that are in use. A program is
--- named by the number of its path.
+-- was last published of each program since it was opened or became one, the debug sessions that are in use, and the requests
+-- that wait until no program is queued, in order of arrival. A program is named by the number of its path.
 pub record State : Type 0 where
   pub stage : Stage
   pub root : Option (List ℕ)
@@ -27,6 +28,7 @@ pub record State : Type 0 where
   pub queue : List PathId
   pub published : List LastList
   pub debuggers : Debuggers
+  pub waiting : List Request
 
 -- where no configuration was read
 abbrev pub no_configuration : Configuration
@@ -34,7 +36,7 @@ no_configuration = record { groups = []; programs = [] }
 
 -- before the first message, where a program may be given so many statements
 abbrev pub start : (budget : ℕ) → State
-start budget = record { stage = Fresh; root = None; budget = budget; configuration = no_configuration; store = empty_store; queue = []; published = []; debuggers = [] }
+start budget = record { stage = Fresh; root = None; budget = budget; configuration = no_configuration; store = empty_store; queue = []; published = []; debuggers = []; waiting = [] }
 
 -- ---- library folders
 
@@ -73,6 +75,11 @@ abbrev pub programs : List Folder → Store → List PathId
 programs folders store = map (number_at store) (filter (is_program folders) store.documents)
 
 -- ---- the queue
+
+-- no program is queued
+abbrev pub is_idle : List PathId → Bool
+is_idle [] = true
+is_idle (n ∷ queue) = false
 
 -- a program is queued
 abbrev pub is_queued : List PathId → PathId → Bool

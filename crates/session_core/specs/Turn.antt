@@ -1,6 +1,7 @@
--- A Turn: the first queued program leaves the queue, and its list is published, of its text as it is now; then what waits
--- for an empty queue is answered (this project). Nothing is kept of earlier lists but what was last published.
-use Rattle.std.specs.Prelude.{ℕ, ℤ, zero, suc, Bool, false, ◌&&◌, List, Option, Some, None, length, drop, slice_get, if◌then◌else◌}
+-- A Turn: the first queued program leaves the queue, and its list is published, of its text as it is now; then, with an empty
+-- queue, the requests that wait are answered (this project). Nothing is kept of earlier lists but what was last published, and
+-- answers are of the texts as they are now.
+use Rattle.std.specs.Prelude.{ℕ, ℤ, zero, suc, Bool, false, ◌&&◌, List, [], Option, Some, None, length, drop, slice_get, if◌then◌else◌}
 use Rattle.std.specs.Ordering.{int_eq}
 use Rattle.hl_base.specs.declared.place.PathId.{PathId}
 use Rattle.document_store.specs.Store.{OpenDocument}
@@ -8,7 +9,9 @@ use Rattle.lsp_messages.specs.declared.outgoing.Diagnostic.{Diagnostic}
 use Rattle.session_core.specs.declared.state.LastList.{LastList}
 use Rattle.session_core.specs.Diagnostics.{list_of}
 use Rattle.answers_feed.specs.Same.{is_same_list}
-use Rattle.session_core.specs.State.{State, document_at, last_list, with_list}
+use Rattle.waiting_requests.specs.Bodies.{replies_to}
+use Rattle.session_core.specs.Names.{program_names}
+use Rattle.session_core.specs.State.{State, is_idle, document_at, last_list, with_list}
 use Rattle.session_core.specs.Step.{Effect, quiet, says, and_then}
 use Rattle.session_core.specs.Replies.{list_body}
 
@@ -47,13 +50,17 @@ abbrev pub assemble_many : ℕ → State → Effect
 assemble_many zero s = quiet s
 assemble_many (suc n) s = and_then (assemble_first s) (assemble_many n)
 
--- all queued programs; what waits is not answered between them
+-- all queued programs; the requests that wait are not answered between them
 abbrev pub assemble_all : State → Effect
 assemble_all s = assemble_many (length s.queue) s
 
--- what is answered where no program is queued: nothing waits for that yet
-abbrev pub answer_waiting : State → Effect
-answer_waiting s = quiet s
+-- the requests that wait are answered, in the order of arrival; then none waits
+abbrev pub answer_all : State → Effect
+answer_all s = record { state = record s { waiting = [] }; bodies = replies_to s.store (program_names s) s.waiting }
+
+-- so it is where no program is queued; where one is, they go on waiting
+unfoldable pub answer_waiting : State → Effect
+answer_waiting s = if is_idle s.queue then answer_all s else quiet s
 
 -- one Turn
 abbrev pub turn : State → Effect

@@ -1,5 +1,6 @@
 //! The bodies that an event writes.
-ghost use Rattle.std.specs.Prelude.{◌≡◌, [], ◌∷◌, ◌++◌, IfOk, OnOk, OnErr};
+ghost use Rattle.std.specs.Prelude.{◌≡◌, [], ◌∷◌, ◌++◌, map, option_map, IfOk, OnOk, OnErr};
+ghost use Rattle.session_core.specs.Message.{body_in};
 ghost use Rattle.session_core.specs.Step.{written};
 
 use hl_base::OutOfMemory;
@@ -38,6 +39,23 @@ impl Bodies {
         let mut bodies = Bodies::none(alloc);
         bodies.push(body)?;
         Ok(bodies)
+    }
+
+    /// One body or none.
+    pub(crate) fn of_option(alloc: Global, body: Option<Vec<u8>>) -> Result<Bodies, OutOfMemory>
+        ensures { IfOk result (λ bodies. bodies ≡ body_in (option_map (λ body. body.items) body)) }
+    {
+        match body {
+            Some(body) => Bodies::one(alloc, body),
+            None => Ok(Bodies::none(alloc)),
+        }
+    }
+
+    /// These bodies.
+    pub(crate) fn of(bodies: Vec<Vec<u8>>) -> Bodies
+        ensures { result ≡ map (λ body. body.items) bodies.items }
+    {
+        Bodies { bodies }
     }
 
     /// One body more.

@@ -5,16 +5,32 @@ ghost use Rattle.trace_values.specs.declared.item.TraceItem.{TraceItem};
 ghost use Rattle.trace_arena.specs.Points.{Point};
 ghost use Rattle.session_core.specs.declared.phase.Phase.TheVariants.{Exit};
 ghost use Rattle.session_core.specs.Held.{phase_of};
-ghost use Rattle.session_core.specs.Laws.{is_refused_body, is_body_on_files, is_body_debugging, is_body_disconnecting, Keeps, LeavesCalls, AreFresh, LeavesFresh, KeepsOrQueues, HasDebugger, KeepsDebugger, HasTrace, KeepsTrace};
+ghost use Rattle.session_core.specs.Laws.{is_refused_body, is_body_on_files, is_body_debugging, is_body_disconnecting, Keeps, LeavesCalls, AreFresh, LeavesFresh, KeepsOrQueues, HasDebugger, KeepsDebugger, HasTrace, KeepsTrace, AreAnswered, HaveTheirIds, LeavesSo};
 ghost use Rattle.session_core.specs.Message.{message};
 ghost use Rattle.session_core.specs.State.{State, start};
 ghost use Rattle.session_core.specs.Step.{Goes, MakesAll};
 ghost use Rattle.session_core.specs.Turn.{turn};
 
-/// A refused message leaves the documents, the queue, the phase and what was published as they were, adds at most one
-/// body, its reply or its line of the log, and asks the library nothing.
+/// A refused message leaves the documents, the queue, the requests that wait, the phase and what was published as they were, adds
+/// at most one body, its reply or its line of the log, and asks the library nothing. It is so in every state that a session comes
+/// to: there no request waits unless a program is queued (`requests_wait_for_programs`).
 pub fn refusals_change_nothing()
-    ensures { (s : State) (body : List ℕ) (calls : List LibraryCall) → is_refused_body s body ≡ true → Keeps (message s body calls) s calls }
+    ensures { (s : State) (body : List ℕ) (calls : List LibraryCall) → AreAnswered s → is_refused_body s body ≡ true → Keeps (message s body calls) s calls }
+{}
+
+/// Requests wait only while a program is queued: behind each message and each Turn that leaves none queued, every request was
+/// answered.
+pub fn requests_wait_for_programs()
+    ensures at_first { (budget : ℕ) → AreAnswered (start budget) }
+    ensures message { (s : State) (body : List ℕ) (calls : List LibraryCall) → AreAnswered s → LeavesSo AreAnswered (message s body calls) }
+    ensures turn { (s : State) → AreAnswered (turn s).state }
+{}
+
+/// No two requests that wait have one id: one that came with the id of another was refused.
+pub fn requests_have_their_ids()
+    ensures at_first { (budget : ℕ) → HaveTheirIds (start budget) }
+    ensures message { (s : State) (body : List ℕ) (calls : List LibraryCall) → HaveTheirIds s → LeavesSo HaveTheirIds (message s body calls) }
+    ensures turn { (s : State) → HaveTheirIds s → HaveTheirIds (turn s).state }
 {}
 
 /// Behind `exit` nothing changes, nothing is written, and the library is asked nothing.

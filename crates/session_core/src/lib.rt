@@ -10,8 +10,9 @@
 //!
 //! Within the crate, `receiving` goes from a body to what it does: `lifecycle` begins and ends the session, `requests`,
 //! `notifications` (documents) and `watching` (files) take the others, `settling` takes leave of documents that are no
-//! programs any more, `debugging` takes debug messages, and `replies` has the bodies written. `standing` has the state and its
-//! Turns, `programs` the queue, the documents by number and what was published, `lists` the list of a program and its trace.
+//! programs any more, `debugging` takes debug messages, `symbols` takes requests on symbols and answers them, and `replies` has
+//! the bodies written. `standing` has the state and its Turns, `programs` the queue, the documents by number and what was
+//! published, `lists` the list of a program, its trace and what it tells of names.
 #![tactic(auto)]
 
 mod bodies;
@@ -30,6 +31,7 @@ mod session;
 mod settling;
 mod standing;
 mod state;
+mod symbols;
 mod watching;
 
 pub use fault::SessionFault;

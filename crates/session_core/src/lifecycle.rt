@@ -20,6 +20,7 @@ use hl_base::{Ledger, OutOfMemory, Steps, Text};
 use library_folders::{Configuration, Folder, folders_of};
 use lsp_messages::Id;
 use std::alloc::Global;
+use waiting_requests::Waiting;
 
 /// A path without the slash at its end, if it has one.
 fn without_slash(path: &str) -> &str
@@ -82,7 +83,12 @@ impl Standing {
         ensures { IfOk result (λ bodies. Acts (messages.asked self.old (Ok (said.Initialize id root))) self.new bodies) }
     {
         match self.stage {
-            Stage::Fresh => self.begin(alloc, id, root),
+            Stage::Fresh => {
+                if self.waiting.waits(&id) {
+                    return out_of_place(alloc, id);
+                }
+                self.begin(alloc, id, root)
+            }
             Stage::Active => out_of_place(alloc, id),
             Stage::Closing => out_of_place(alloc, id),
             Stage::Ended { .. } => out_of_place(alloc, id),
@@ -105,7 +111,7 @@ impl Standing {
         Ok(bodies)
     }
 
-    /// `shutdown`: the lists of all queued programs, and then the reply.
+    /// `shutdown`: the lists of all queued programs, the answers to the requests that wait, and then the reply.
     pub(crate) fn shutdown<L: Ledger>(
         &mut self,
         alloc: Global,
@@ -116,13 +122,18 @@ impl Standing {
     {
         match self.stage {
             Stage::Fresh => too_early(alloc, id),
-            Stage::Active => self.shut(alloc, id, steps),
+            Stage::Active => {
+                if self.waiting.waits(&id) {
+                    return out_of_place(alloc, id);
+                }
+                self.shut(alloc, id, steps)
+            }
             Stage::Closing => out_of_place(alloc, id),
             Stage::Ended { .. } => out_of_place(alloc, id),
         }
     }
 
-    /// The lists, and then the reply.
+    /// The lists, then the answers, and then the reply.
     fn shut<L: Ledger>(
         &mut self,
         alloc: Global,
@@ -131,7 +142,8 @@ impl Standing {
     ) -> Result<Bodies, OutOfMemory>
         ensures { IfOk result (λ bodies. IsEffect (messages.shut self.old id) self.new bodies) }
     {
-        let mut bodies = self.assemble_all(alloc, steps)?;
+        let bodies = self.assemble_all(alloc, steps)?;
+        let mut bodies = self.conclude(alloc, bodies, steps)?;
         let reply = replies::shutdown_reply(alloc, id)?;
         bodies.push(reply)?;
         self.stage = Stage::Closing;
@@ -145,6 +157,7 @@ impl Standing {
         let closed = self.stage == Stage::Closing;
         self.stage = Stage::Ended { closed };
         self.queue.clear();
+        self.waiting = Waiting::new(alloc);
         Bodies::none(alloc)
     }
 }

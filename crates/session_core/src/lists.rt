@@ -1,4 +1,4 @@
-//! The list of a program, and its trace as it is launched.
+//! The list of a program, its trace as it is launched, and what it tells of names.
 ghost use Rattle.std.specs.Prelude.{◌≡◌, ◌<◌, length, Some, None, IfOk, IfSome, slice_get};
 ghost use Rattle.std.specs.Option.{option_copied};
 ghost use Rattle.std.specs.Rc.{rc_str_bytes};
@@ -9,9 +9,11 @@ ghost use Rattle.group_members.specs.Members.{Indexes};
 ghost use Rattle.library_folders.specs.Folders.{parm_for};
 ghost use Rattle.program_assembly.specs.Assembly.{assembly_notes};
 ghost use Rattle.program_launch.specs.Traces as launches;
+ghost use Rattle.program_names.specs.Names as assembled;
 ghost use Rattle.text_pool.specs.Pool.{IsLive, text_of};
 ghost use Rattle.session_core.specs.Debugging.{trace_in};
 ghost use Rattle.session_core.specs.Diagnostics.{diagnostics_of, members_of};
+ghost use Rattle.session_core.specs.Names.{names_of};
 ghost use Rattle.session_core.specs.State.{document_at, libraries_of};
 
 use crate::programs::text_at;
@@ -24,6 +26,7 @@ use library_folders::{Configuration, Folder, folders_for, parm_for};
 use lsp_messages::Diagnostics;
 use program_assembly::assembly_notes;
 use program_launch::launch;
+use program_names::{AssembledNames, assemble_names};
 use std::alloc::Global;
 use std::rc::RcStr;
 
@@ -140,6 +143,61 @@ impl Surroundings<'_> {
     {
         match self.store.present(path) {
             Some(MemberText::File(text)) => self.trace(alloc, path, text, steps),
+            Some(MemberText::Unreadable) => unreachable!(),
+            None => unreachable!(),
+        }
+    }
+
+    /// What the program of a path and a text tells of names.
+    fn names<L: Ledger>(
+        &self,
+        alloc: Global,
+        path: PathId,
+        text: TextId,
+        steps: &mut Steps<L>,
+    ) -> Result<AssembledNames, OutOfMemory>
+        requires given { path.0 < length self.now.store.now.store.paths }
+        requires index { Indexes self.now.store.now.store self.now.index.now }
+        requires live { IsLive self.now.store.now.pool text.0 }
+        ensures { IfOk result (λ names. (document : OpenDocument) → slice_get self.now.store.now.store.paths path.0 ≡ Some document.path
+            → text_of self.now.store.now.pool text.0 ≡ document.text
+            → names ≡ assembled.names_of self.now.store.now.store path.0 document.text (parm_for (option_copied self.now.root) self.now.configuration.now document.path)
+            (members_of (option_copied self.now.root) self.now.configuration.now self.now.store.now.store document) self.now.budget) }
+    {
+        let place = self.store.path_text(path);
+        let root = self.root.map(|root| root.as_str());
+        let folders = folders_for(alloc, root, self.configuration, place)?;
+        let parm = parm_for(root, self.configuration, place);
+        let members = GroupMembers::new(self.store, self.index, &folders);
+        assemble_names(
+            alloc,
+            path,
+            text,
+            parm,
+            self.store,
+            &members,
+            self.budget,
+            steps,
+        )
+    }
+
+    /// What the program of a document tells of names, as it is shown.
+    pub(crate) fn names_of<L: Ledger>(
+        &self,
+        alloc: Global,
+        path: PathId,
+        document: &Document<'_>,
+        steps: &mut Steps<L>,
+    ) -> Result<AssembledNames, OutOfMemory>
+        requires given { path.0 < length self.now.store.now.store.paths }
+        requires index { Indexes self.now.store.now.store self.now.index.now }
+        requires shown { IsShown self.now.store.now.store.paths (document_at self.now.store.now.store path) (Some document.now) }
+        ensures { IfOk result (λ names. (shown : OpenDocument) → document_at self.now.store.now.store path ≡ Some shown
+            → Shows self.now.store.now.store.paths shown document.now
+            → names ≡ names_of (option_copied self.now.root) self.now.configuration.now self.now.store.now.store self.now.budget path shown) }
+    {
+        match self.store.present(path) {
+            Some(MemberText::File(text)) => self.names(alloc, path, text, steps),
             Some(MemberText::Unreadable) => unreachable!(),
             None => unreachable!(),
         }

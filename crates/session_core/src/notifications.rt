@@ -70,14 +70,6 @@ fn forget_lists(listed: &mut Vec<PathId>, member: bool, path: Option<PathId>)
 }
 
 impl Standing {
-    /// A notification that is read and not served yet.
-    pub(crate) fn unserved(&mut self, alloc: Global, method: &str) -> Result<Bodies, OutOfMemory>
-        ensures { IfOk result (λ bodies. Acts (unknown_asked self.old None (chars method.now)) self.new bodies) }
-    {
-        let words = Text::of(alloc, method)?;
-        self.unknown_notification(alloc, &words)
-    }
-
     pub(crate) fn unknown_notification(
         &mut self,
         alloc: Global,

@@ -2,12 +2,12 @@
 //! to be used.
 ghost use Rattle.std.specs.Prelude.{◌≡◌, ◌≢◌, IfOk, Result, Ok, Err};
 ghost use Rattle.serde_json.specs.View.{view};
+ghost use Rattle.json_view.specs.Texts.{reading};
 ghost use Rattle.lsp_messages.specs.Messages.{IsReading};
 ghost use Rattle.lsp_messages.specs.declared.incoming.LspIn.{LspIn};
 ghost use Rattle.lsp_messages.specs.declared.incoming.Refusal.{Refusal};
 ghost use Rattle.session_core.specs.Message as messages;
 ghost use Rattle.session_core.specs.Refusals.{is_ended};
-ghost use Rattle.session_core.specs.Served.{as_served};
 ghost use Rattle.session_core.specs.Step.{Acts};
 ghost use Rattle.library_reading.specs.Asked.{AsksOver};
 
@@ -21,10 +21,10 @@ use json_view::{ParseFault, parse};
 use lsp_messages::{LspIn, Refusal, is_response, read_lsp};
 use serde_json::Value;
 use std::alloc::Global;
+use waiting_requests::Question;
 
 impl Standing {
-    /// Takes one message, and answers what is written for it.
-    #[tactic(auto, unfolding(crate::specs::Message::event))]
+    /// Takes one message, and answers what is written for it; then the requests that wait are answered, if no program is queued.
     pub(crate) fn message<B: Library, L: Ledger>(
         &mut self,
         alloc: Global,
@@ -38,6 +38,21 @@ impl Standing {
         if self.is_ended() {
             return Ok(Bodies::none(alloc));
         }
+        let bodies = self.receive(alloc, body, library, steps)?;
+        self.conclude(alloc, bodies, steps)
+    }
+
+    /// Takes one message while the session goes on.
+    fn receive<B: Library, L: Ledger>(
+        &mut self,
+        alloc: Global,
+        body: &[u8],
+        library: &mut B,
+        steps: &mut Steps<L>,
+    ) -> Result<Bodies, OutOfMemory>
+        ensures { AsksOver (messages.received self.old (reading body.now)) (λ bodies. record { state = self.new; bodies = bodies }) result
+            (B.calls library.old) (B.calls library.new) (B.faults library.old) (B.faults library.new) }
+    {
         match parse(alloc, body) {
             Ok(value) => self.take_value(alloc, &value, library, steps),
             Err(ParseFault::NotJson) => {
@@ -86,7 +101,7 @@ impl Standing {
         library: &mut B,
         steps: &mut Steps<L>,
     ) -> Result<Bodies, OutOfMemory>
-        ensures { (wanted : Result LspIn Refusal) → IsReading told wanted → AsksOver (messages.asked self.old (as_served wanted)) (λ bodies. record { state = self.new; bodies = bodies }) result
+        ensures { (wanted : Result LspIn Refusal) → IsReading told wanted → AsksOver (messages.asked self.old wanted) (λ bodies. record { state = self.new; bodies = bodies }) result
             (B.calls library.old) (B.calls library.new) (B.faults library.old) (B.faults library.new) }
     {
         match told {
@@ -95,7 +110,7 @@ impl Standing {
         }
     }
 
-    /// Takes a message of a known method with right parameters. What is not served yet is taken as one of no known method.
+    /// Takes a message of a known method with right parameters.
     fn take<B: Library, L: Ledger>(
         &mut self,
         alloc: Global,
@@ -103,29 +118,23 @@ impl Standing {
         library: &mut B,
         steps: &mut Steps<L>,
     ) -> Result<Bodies, OutOfMemory>
-        ensures { AsksOver (messages.asked self.old (as_served (Ok message))) (λ bodies. record { state = self.new; bodies = bodies }) result
+        ensures { AsksOver (messages.asked self.old (Ok message)) (λ bodies. record { state = self.new; bodies = bodies }) result
             (B.calls library.old) (B.calls library.new) (B.faults library.old) (B.faults library.new) }
     {
         match message {
             LspIn::Initialize { id, root } => self.initialize(alloc, id, root),
             LspIn::Shutdown { id } => self.shutdown(alloc, id, steps),
-            LspIn::Definition {
-                id,
-                uri: _uri,
-                at: _at,
-            } => self.unknown_request(alloc, id),
+            LspIn::Definition { id, uri, at } => {
+                self.ask(alloc, id, uri, Question::Definition { at })
+            }
             LspIn::References {
                 id,
-                uri: _uri,
-                at: _at,
-                declarations: _declarations,
-            } => self.unknown_request(alloc, id),
-            LspIn::Hover {
-                id,
-                uri: _uri,
-                at: _at,
-            } => self.unknown_request(alloc, id),
-            LspIn::DocumentSymbol { id, uri: _uri } => self.unknown_request(alloc, id),
+                uri,
+                at,
+                declarations,
+            } => self.ask(alloc, id, uri, Question::References { at, declarations }),
+            LspIn::Hover { id, uri, at } => self.ask(alloc, id, uri, Question::Hover { at }),
+            LspIn::DocumentSymbol { id, uri } => self.ask(alloc, id, uri, Question::Symbols),
             LspIn::Exit => Ok(self.exit(alloc)),
             LspIn::Initialized => self.initialized(alloc, library),
             LspIn::DidOpen {
@@ -145,14 +154,14 @@ impl Standing {
             LspIn::DidChangeWatchedFiles { changes } => {
                 self.watched(alloc, changes.as_slice(), library)
             }
-            LspIn::Cancel { id: _id } => self.unserved(alloc, "$/cancelRequest"),
+            LspIn::Cancel { id } => self.cancel(alloc, id),
             LspIn::Dap { session, message } => self.debugged(alloc, session, &message, steps),
         }
     }
 
     /// Takes what is no message that is understood.
     fn refuse(&mut self, alloc: Global, refusal: Refusal) -> Result<Bodies, OutOfMemory>
-        ensures { IfOk result (λ bodies. (refusal ≢ Refusal.OutOfMemory) × Acts (messages.asked self.old (as_served (Err refusal))) self.new bodies) }
+        ensures { IfOk result (λ bodies. (refusal ≢ Refusal.OutOfMemory) × Acts (messages.asked self.old (Err refusal)) self.new bodies) }
     {
         match refusal {
             Refusal::NotRequest => {
@@ -160,7 +169,7 @@ impl Standing {
                 Bodies::one(alloc, body)
             }
             Refusal::UnknownMethod(head) => self.unknown_method(alloc, head),
-            Refusal::BadParams(head, name) => self.bad_served(alloc, head, name),
+            Refusal::BadParams(head, name) => self.bad_params(alloc, head, name),
             Refusal::OutOfMemory => Err(OutOfMemory),
         }
     }

@@ -1,8 +1,6 @@
 //! Requests that are refused (JSON-RPC 2.0, "Error object"; LSP 3.17, `ErrorCodes`).
 ghost use Rattle.std.specs.Prelude.{◌≡◌, [], ◌∷◌, ℕ, List, true, false, Some, IfOk};
-ghost use Rattle.session_core.specs.Inside.{unknown_asked, wrong_asked, refusal_asked};
-ghost use Rattle.lsp_messages.specs.declared.incoming.Refusal.TheVariants.{BadParams};
-ghost use Rattle.session_core.specs.Served.{is_unserved};
+ghost use Rattle.session_core.specs.Inside.{unknown_asked, wrong_asked};
 ghost use Rattle.session_core.specs.Refusals.{TooEarly, OutOfPlace, is_initialize, reply};
 ghost use Rattle.session_core.specs.Step.{Acts};
 
@@ -21,18 +19,6 @@ fn is_initialize(method: &Text) -> bool
     "initialize" == method.as_str()
 }
 
-/// Whether a method is that of a message that is read and not served yet.
-fn is_unserved(method: &Text) -> bool
-    ensures { result ≡ is_unserved method.now }
-{
-    let method = method.as_str();
-    method == "textDocument/definition"
-        || method == "textDocument/references"
-        || method == "textDocument/hover"
-        || method == "textDocument/documentSymbol"
-        || method == "$/cancelRequest"
-}
-
 /// A request before `initialize`.
 pub(crate) fn too_early(alloc: Global, id: Id) -> Result<Bodies, OutOfMemory>
     ensures { IfOk result (λ bodies. bodies ≡ reply (TooEarly id) ∷ []) }
@@ -41,7 +27,7 @@ pub(crate) fn too_early(alloc: Global, id: Id) -> Result<Bodies, OutOfMemory>
     Bodies::one(alloc, refusal)
 }
 
-/// `initialize` once more, or a request after `shutdown`.
+/// `initialize` once more, a request after `shutdown`, or one with the id of a request that waits.
 pub(crate) fn out_of_place(alloc: Global, id: Id) -> Result<Bodies, OutOfMemory>
     ensures { IfOk result (λ bodies. bodies ≡ reply (OutOfPlace id) ∷ []) }
 {
@@ -65,12 +51,15 @@ impl Standing {
         }
     }
 
-    pub(crate) fn unknown_request(&mut self, alloc: Global, id: Id) -> Result<Bodies, OutOfMemory>
+    fn unknown_request(&mut self, alloc: Global, id: Id) -> Result<Bodies, OutOfMemory>
         ensures { IfOk result (λ bodies. (method : List ℕ) → Acts (unknown_asked self.old (Some id) method) self.new bodies) }
     {
         match self.stage {
             Stage::Fresh => too_early(alloc, id),
             Stage::Active => {
+                if self.waiting.waits(&id) {
+                    return out_of_place(alloc, id);
+                }
                 let refusal = replies::unknown_method(alloc, id)?;
                 Bodies::one(alloc, refusal)
             }
@@ -79,24 +68,13 @@ impl Standing {
         }
     }
 
-    /// The same; the parameters of what is not served yet are not looked at.
-    pub(crate) fn bad_served(
+    /// A request or a notification with a parameter that is missing or of a wrong kind.
+    pub(crate) fn bad_params(
         &mut self,
         alloc: Global,
         head: Head,
         name: Text,
     ) -> Result<Bodies, OutOfMemory>
-        ensures { IfOk result (λ bodies. Acts (refusal_asked self.old (BadParams head name)) self.new bodies) }
-    {
-        if is_unserved(&head.method) {
-            self.unknown_method(alloc, head)
-        } else {
-            self.bad_params(alloc, head, name)
-        }
-    }
-
-    /// A request or a notification with a parameter that is missing or of a wrong kind.
-    fn bad_params(&mut self, alloc: Global, head: Head, name: Text) -> Result<Bodies, OutOfMemory>
         ensures { IfOk result (λ bodies. Acts (wrong_asked self.old head.id head.method name) self.new bodies) }
     {
         let Head { id, method } = head;
@@ -129,6 +107,9 @@ impl Standing {
     {
         match self.stage {
             Stage::Fresh => {
+                if self.waiting.waits(&id) {
+                    return out_of_place(alloc, id);
+                }
                 let refusal = replies::bad_parameter(alloc, id, name)?;
                 Bodies::one(alloc, refusal)
             }
@@ -146,6 +127,9 @@ impl Standing {
         match self.stage {
             Stage::Fresh => too_early(alloc, id),
             Stage::Active => {
+                if self.waiting.waits(&id) {
+                    return out_of_place(alloc, id);
+                }
                 let refusal = replies::bad_parameter(alloc, id, name)?;
                 Bodies::one(alloc, refusal)
             }

@@ -34,7 +34,7 @@ fn keep_published(published: &mut Vec<LastList>, programs: &[PathId])
 }
 
 /// The open programs, in order of opening.
-fn open_programs(
+pub(crate) fn open_programs(
     alloc: Global,
     folders: &[Folder],
     store: &DocumentStore,

@@ -5,7 +5,7 @@ ghost use Rattle.session_core.specs.Replies.{list_body};
 ghost use Rattle.session_core.specs.Message.{farewell_at};
 ghost use Rattle.session_core.specs.State.{start, document_at, last_list};
 ghost use Rattle.session_core.specs.Step.{IsEffect};
-ghost use Rattle.session_core.specs.Turn.{turn, turn_at, assemble_first, assemble_all, answer_waiting, is_published};
+ghost use Rattle.session_core.specs.Turn.{turn, turn_at, assemble_first, assemble_all, is_published};
 
 use crate::bodies::Bodies;
 use crate::lists::{Surroundings, taken_index};
@@ -21,10 +21,11 @@ use library_folders::{Configuration, Folder};
 use lsp_messages::{Diagnostic, Diagnostics};
 use std::alloc::Global;
 use std::marker::Model;
+use waiting_requests::Waiting;
 
 /// How far the session has come, the folder of the client, the budget of a program, the configuration, the documents and
-/// files, the queue, what was published, of which programs that is the list as it is now, and the debug sessions. Contracts see
-/// the state.
+/// files, the queue, what was published, of which programs that is the list as it is now, the debug sessions, and the requests
+/// that wait. Contracts see the state.
 #[derive(Drop)]
 pub(crate) struct Standing {
     pub(crate) stage: Stage,
@@ -41,6 +42,7 @@ pub(crate) struct Standing {
     // Where each folder's members are found, unless it is to be made anew.
     pub(crate) index: Option<MemberIndex>,
     pub(crate) debuggers: DebugSessions,
+    pub(crate) waiting: Waiting,
 }
 
 impl Model for Standing {
@@ -61,6 +63,7 @@ impl Model for Standing {
       queue = s.queue.items;
       published = s.published.items;
       debuggers = s.debuggers;
+      waiting = s.waiting;
     } };
 
     ghost invariant = { λ s. IsWhole s.listed.items s.folders.items s.index
@@ -124,6 +127,7 @@ impl Standing {
             listed: Vec::new(alloc),
             index: None,
             debuggers: DebugSessions::new(alloc),
+            waiting: Waiting::new(alloc),
         }
     }
 
@@ -149,17 +153,8 @@ impl Standing {
     ) -> Result<Bodies, OutOfMemory>
         ensures { IfOk result (λ bodies. IsEffect (turn self.old) self.new bodies) }
     {
-        let mut bodies = self.assemble_first(alloc, steps)?;
-        let answers = self.answer_waiting(alloc);
-        bodies.append(answers)?;
-        Ok(bodies)
-    }
-
-    /// Answers what waits for an empty queue. Nothing does yet.
-    fn answer_waiting(&mut self, alloc: Global) -> Bodies
-        ensures { IsEffect (answer_waiting self.old) self.new result }
-    {
-        Bodies::none(alloc)
+        let bodies = self.assemble_first(alloc, steps)?;
+        self.conclude(alloc, bodies, steps)
     }
 
     /// Takes the first program from the queue, and publishes its list. After an `Err` the state is not to be used.

@@ -19,4 +19,4 @@ returns g c =
     let done = turn_first c.args.self.now c.publish.new.self c.in-Some.path _ (first ∙ c.in-Some.is) c.in_ok-bodies.ensures in
     let queue : c.remove.new.self.items ≡ drop 1 c.self-2.inside.queue.items = c.remove.ensures.items ∙ remove_first c.self-2.inside.queue.items in
     let fields = c.self-2.inside in
-    with_state _ _ _ _ (ap (λ q. record { stage = fields.stage; root = fields.root; budget = fields.budget; configuration = fields.configuration; store = fields.store.store; queue = q; published = fields.published.items; debuggers = fields.debuggers }) queue ∙ ap without_first c.self-2.view_is) done
+    with_state _ _ _ _ (ap (λ q. record { stage = fields.stage; root = fields.root; budget = fields.budget; configuration = fields.configuration; store = fields.store.store; queue = q; published = fields.published.items; debuggers = fields.debuggers; waiting = fields.waiting }) queue ∙ ap without_first c.self-2.view_is) done

@@ -9,7 +9,7 @@ use Rattle.session_core.proofs.standing.Standing.debug.Goals as goal
 pub returns : goal.returns
 returns g c =
     let fields = c.self.inside in
-    let s : State = record { stage = fields.stage; root = fields.root; budget = fields.budget; configuration = fields.configuration; store = fields.store.store; queue = fields.queue.items; published = fields.published.items; debuggers = fields.debuggers } in
+    let s : State = record { stage = fields.stage; root = fields.root; budget = fields.budget; configuration = fields.configuration; store = fields.store.store; queue = fields.queue.items; published = fields.published.items; debuggers = fields.debuggers; waiting = fields.waiting } in
     if_ok c.said_bodies.result (λ bodies told.
     subst (λ z. IsEffect (debugged z c.args.session c.args.read) (record s { debuggers = c.answer.new.self }) bodies) c.self.view_is
     (debug_outcome s c.args.session c.args.read c.in_ok-launched.launched c.answer.new.self c.in_ok-said.said bodies

@@ -10,7 +10,7 @@ use Rattle.session_core.proofs.standing.Standing.launched_at.Goals as goal
 pub returns-in_default : goal.returns-in_default
 returns-in_default g c =
     let fields = c.self.inside in
-    let s : State = record { stage = fields.stage; root = fields.root; budget = fields.budget; configuration = fields.configuration; store = fields.store.store; queue = fields.queue.items; published = fields.published.items; debuggers = fields.debuggers } in
+    let s : State = record { stage = fields.stage; root = fields.root; budget = fields.budget; configuration = fields.configuration; store = fields.store.store; queue = fields.queue.items; published = fields.published.items; debuggers = fields.debuggers; waiting = fields.waiting } in
     subst (λ (z : State). None ≡ launched_at z c.args.path) c.self.view_is (launched_none s c.args.path c.in_default.ensures)
 
 pub is_program_shown-requires : goal.is_program_shown-requires
@@ -19,7 +19,7 @@ is_program_shown-requires g c = record { shown = shown_of _ _ _ c.in-Some.ensure
 pub returns-then-not-is_program_shown : goal.returns-then-not-is_program_shown
 returns-then-not-is_program_shown g c =
     let fields = c.self.inside in
-    let s : State = record { stage = fields.stage; root = fields.root; budget = fields.budget; configuration = fields.configuration; store = fields.store.store; queue = fields.queue.items; published = fields.published.items; debuggers = fields.debuggers } in
+    let s : State = record { stage = fields.stage; root = fields.root; budget = fields.budget; configuration = fields.configuration; store = fields.store.store; queue = fields.queue.items; published = fields.published.items; debuggers = fields.debuggers; waiting = fields.waiting } in
     subst (λ (z : State). None ≡ launched_at z c.args.path) c.self.view_is
     (launched_other s c.args.path c.in-Some.document c.deref.result.now c.is_program_shown.result (c.deref.ensures.value ∙ c.self.invariant.folders_are)
     c.in-Some.ensures c.is_program_shown.ensures c.if-not-is_program_shown.true)
@@ -34,7 +34,7 @@ trace_at-requires g c = record {
 pub returns : goal.returns
 returns g c =
     let fields = c.self.inside in
-    let s : State = record { stage = fields.stage; root = fields.root; budget = fields.budget; configuration = fields.configuration; store = fields.store.store; queue = fields.queue.items; published = fields.published.items; debuggers = fields.debuggers } in
+    let s : State = record { stage = fields.stage; root = fields.root; budget = fields.budget; configuration = fields.configuration; store = fields.store.store; queue = fields.queue.items; published = fields.published.items; debuggers = fields.debuggers; waiting = fields.waiting } in
     subst (λ (z : State). Some c.in_ok-trace.trace ≡ launched_at z c.args.path) c.self.view_is
     (launched_made s c.args.path c.in-Some.document c.deref.result.now c.is_program_shown.result c.in_ok-trace.trace
     (c.deref.ensures.value ∙ c.self.invariant.folders_are) c.in-Some.ensures c.is_program_shown.ensures c.if-not-is_program_shown.false

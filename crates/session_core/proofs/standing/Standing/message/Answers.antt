@@ -1,6 +1,14 @@
-use Rattle.session_core.proofs.OverLaws.{over_lost}
-use Rattle.session_core.proofs.ShortLaws.{short_event}
+use Rattle.std.proofs.Common.{sym, ◌∙◌}
+use Rattle.library_reading.proofs.AskedLaws.{is_failure}
+use Rattle.session_core.proofs.OverLaws.{over_ended, over_cut, over_served}
 use Rattle.session_core.proofs.standing.Standing.message.Goals as goal
 
-pub returns-in-Err-OutOfMemory : goal.returns-in-Err-OutOfMemory
-returns-in-Err-OutOfMemory g c = over_lost _ _ _ _ _ (short_event c.args.self.now c.args.body.now)
+pub returns-then-is_ended : goal.returns-then-is_ended
+returns-then-is_ended g c = over_ended _ _ _ _ _ (sym c.is_ended.ensures ∙ c.if-is_ended.true) c.none.ensures
+
+pub returns-in_err-receive : goal.returns-in_err-receive
+returns-in_err-receive g c =
+    over_cut _ _ _ _ _ _ _ _ _ _ (sym c.is_ended.ensures ∙ c.if-is_ended.false) c.in_err-receive.ensures (is_failure _ _ c.from_residual.ensures.1)
+
+pub returns : goal.returns
+returns g c = over_served _ _ _ _ _ _ _ _ _ _ (sym c.is_ended.ensures ∙ c.if-is_ended.false) c.in_ok-bodies.ensures c.conclude.ensures

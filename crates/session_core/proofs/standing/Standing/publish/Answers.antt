@@ -15,7 +15,7 @@ list_of-requires-clause-given g c = number_within c.self.inside.store.store c.ar
 pub returns-then-is_queued : goal.returns-then-is_queued
 returns-then-is_queued g c =
     let fields = c.self.inside in
-    let s : State = record { stage = fields.stage; root = fields.root; budget = fields.budget; configuration = fields.configuration; store = fields.store.store; queue = fields.queue.items; published = fields.published.items; debuggers = fields.debuggers } in
+    let s : State = record { stage = fields.stage; root = fields.root; budget = fields.budget; configuration = fields.configuration; store = fields.store.store; queue = fields.queue.items; published = fields.published.items; debuggers = fields.debuggers; waiting = fields.waiting } in
     let n = c.args.path in
     let here : is_queued fields.listed.items n ≡ true = ap (λ q. is_queued q n) (sym c.deref.ensures.value) ∙ sym c.is_queued.ensures ∙ c.if-is_queued.true in
     with_bodies _ _ _ _ c.none-then-is_queued.ensures
@@ -24,7 +24,7 @@ returns-then-is_queued g c =
 pub returns-then-is_published : goal.returns-then-is_published
 returns-then-is_published g c =
     let fields = c.self.inside in
-    let s : State = record { stage = fields.stage; root = fields.root; budget = fields.budget; configuration = fields.configuration; store = fields.store.store; queue = fields.queue.items; published = fields.published.items; debuggers = fields.debuggers } in
+    let s : State = record { stage = fields.stage; root = fields.root; budget = fields.budget; configuration = fields.configuration; store = fields.store.store; queue = fields.queue.items; published = fields.published.items; debuggers = fields.debuggers; waiting = fields.waiting } in
     let n = c.args.path in
     let shown = c.in-Some.document in
     let list = c.in_ok-list.list in
@@ -41,7 +41,7 @@ returns-then-is_published g c =
 pub invariant_of-self-then-is_published : goal.invariant_of-self-then-is_published
 invariant_of-self-then-is_published g c =
     let fields = c.self.inside in
-    let s : State = record { stage = fields.stage; root = fields.root; budget = fields.budget; configuration = fields.configuration; store = fields.store.store; queue = fields.queue.items; published = fields.published.items; debuggers = fields.debuggers } in
+    let s : State = record { stage = fields.stage; root = fields.root; budget = fields.budget; configuration = fields.configuration; store = fields.store.store; queue = fields.queue.items; published = fields.published.items; debuggers = fields.debuggers; waiting = fields.waiting } in
     let n = c.args.path in
     let shown = c.in-Some.document in
     let list = c.in_ok-list.list in
@@ -62,7 +62,7 @@ invariant_of-self-then-is_published g c =
 pub invariant_of-self-2 : goal.invariant_of-self-2
 invariant_of-self-2 g c =
     let fields = c.self.inside in
-    let s : State = record { stage = fields.stage; root = fields.root; budget = fields.budget; configuration = fields.configuration; store = fields.store.store; queue = fields.queue.items; published = fields.published.items; debuggers = fields.debuggers } in
+    let s : State = record { stage = fields.stage; root = fields.root; budget = fields.budget; configuration = fields.configuration; store = fields.store.store; queue = fields.queue.items; published = fields.published.items; debuggers = fields.debuggers; waiting = fields.waiting } in
     let n = c.args.path in
     let shown = c.in-Some.document in
     let list = c.in_ok-list.list in
@@ -82,7 +82,7 @@ invariant_of-self-2 g c =
 pub returns : goal.returns
 returns g c =
     let fields = c.self.inside in
-    let s : State = record { stage = fields.stage; root = fields.root; budget = fields.budget; configuration = fields.configuration; store = fields.store.store; queue = fields.queue.items; published = fields.published.items; debuggers = fields.debuggers } in
+    let s : State = record { stage = fields.stage; root = fields.root; budget = fields.budget; configuration = fields.configuration; store = fields.store.store; queue = fields.queue.items; published = fields.published.items; debuggers = fields.debuggers; waiting = fields.waiting } in
     let n = c.args.path in
     let shown = c.in-Some.document in
     let list = c.in_ok-list.list in
