@@ -5,12 +5,12 @@
 //! nothing but the session's frames. What a run writes is the contract of `run`; here is only what it runs on.
 #![tactic(auto)]
 
-ghost use Rattle.std.specs.Prelude.{◌≡◌, [], None, Some, map, string_bytes, ◌⊎◌};
+ghost use Rattle.std.specs.Prelude.{◌≡◌, None, map, string_bytes, ◌⊎◌};
 ghost use Rattle.hlasm_server.specs.Words.{command_of};
 
 use hl_base::{Ledger, OutOfMemory, Steps};
 use hlasm_server::{Status, run};
-use io_edge::{Failed, FolderLibrary, Library, Source, StdSink, StdSource};
+use io_edge::{FolderLibrary, Library, StdSink, StdSource};
 use std::alloc::Global;
 use std::env;
 use std::io::{ErrorKind, Read, Write};
@@ -35,29 +35,6 @@ fn words_after_name(rt: &HostRuntime) -> Result<Vec<String>, Status> {
     Ok(after)
 }
 
-/// A source of which no Turn is held back: it says that nothing waits. As long as no request waits for a list, an editor
-/// gains nothing from lists that come later.
-#[derive(Drop)]
-struct AtOnce<S: Source> {
-    source: S,
-}
-
-impl<S: Source> Source for AtOnce<S> {
-    ghost left = { λ s. S.left s.source };
-
-    ghost waits = { λ _. Some [] };
-
-    ghost faults = { λ s. S.faults s.source };
-
-    fn take(&mut self, buf: &mut [u8]) -> Result<usize, Failed> {
-        self.source.take(buf)
-    }
-
-    fn waiting(&mut self) -> bool {
-        false
-    }
-}
-
 /// Runs the command over an input, an output and a library, in a ledger that nothing else uses.
 fn run_on_streams<I: Read + Drop, O: Write + Drop, B: Library + Drop, L: Ledger>(
     alloc: Global,
@@ -75,7 +52,7 @@ fn run_on_streams<I: Read + Drop, O: Write + Drop, B: Library + Drop, L: Ledger>
     ensures bad_words { result ≡ Status.BadWords → command_of (map string_bytes words.now) ≡ None }
 {
     let mut source = match StdSource::new(alloc, input) {
-        Ok(source) => AtOnce { source },
+        Ok(source) => source,
         Err(OutOfMemory) => return Status::OutOfMemory,
     };
     let mut sink = StdSink::new(output);

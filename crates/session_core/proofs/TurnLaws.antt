@@ -12,6 +12,7 @@ use Rattle.session_core.specs.Message.{concluded, shut}
 use Rattle.session_core.specs.Replies.{shutdown_reply}
 use Rattle.session_core.specs.State.{State, document_at, last_list}
 use Rattle.session_core.specs.Step.{Effect, quiet, says, and_then, IsEffect}
+use Rattle.session_core.proofs.AnswerLaws.{so_behind}
 use Rattle.session_core.specs.Turn.{assemble_first, turn_of, assemble_many, assemble_all, answer_waiting, turn, turn_at, publish, is_published, without_first}
 
 -- a step whose state has lost the first queued program
@@ -54,9 +55,9 @@ turn_at_queue s n None = refl
 turn_at_queue s n (Some document) = publish_queue s n document (list_of s n document)
 
 -- the first program has left the queue
-pub turn_queue : (s : State) → s.queue ≢ [] → (assemble_first s).state.queue ≡ drop 1 s.queue
+pub first_queue : (s : State) → s.queue ≢ [] → (assemble_first s).state.queue ≡ drop 1 s.queue
 unfolding assemble_first
-turn_queue s some = by_queue s.queue refl where
+first_queue s some = by_queue s.queue refl where
   by_queue : (queue : List PathId) → s.queue ≡ queue → (turn_of s (slice_get queue 0)).state.queue ≡ drop 1 s.queue
   by_queue [] e = absurd (some e)
   by_queue (n ∷ rest) e = turn_at_queue (without_first s) n (document_at s.store n)
@@ -71,7 +72,7 @@ turns_next : (s : State) (queue : List PathId) → s.queue ≡ queue → queue �
 turns_next s [] e some = absurd (some refl)
 turns_next s (n ∷ rest) e some =
     let here : length s.queue ≡ suc (length rest) = ap length e in
-    let behind : length (assemble_first s).state.queue ≡ length rest = ap length (turn_queue s (λ f. let g = sym e ∙ f in cc) ∙ ap (drop 1) e) in
+    let behind : length (assemble_first s).state.queue ≡ length rest = ap length (first_queue s (λ f. let g = sym e ∙ f in cc) ∙ ap (drop 1) e) in
     ap (λ k. assemble_many k s) here ∙ ap (λ k. and_then (assemble_first s) (assemble_many k)) (sym behind)
 
 -- These bodies were written so far, and with those that are left they are all.
@@ -98,7 +99,7 @@ turning_ends first now done turning none =
 pub turning_smaller : (now next : State) (bodies : List (List ℕ)) → now.queue ≢ [] → IsEffect (assemble_first now) next bodies → length next.queue < length now.queue
 turning_smaller now next bodies some step =
     let same : (assemble_first now).state ≡ next = ap (λ (z : Effect). z.state) step in
-    let queue : length next.queue ≡ length (drop 1 now.queue) = ap (λ (s : State). length s.queue) (sym same) ∙ ap length (turn_queue now some) in
+    let queue : length next.queue ≡ length (drop 1 now.queue) = ap (λ (s : State). length s.queue) (sym same) ∙ ap length (first_queue now some) in
     let fewer = fewer_queued now.queue some in
     omega arith
 
@@ -121,3 +122,7 @@ pub shut_whole : (s now next : State) (id : Id) (bodies all : List (List ℕ)) �
 shut_whole s now next id bodies all lists waited =
     ap (λ (z : Effect). and_then (concluded z) (λ t. says (record t { stage = Closing }) (shutdown_reply id))) lists
     ∙ ap (λ (z : Effect). and_then z (λ t. says (record t { stage = Closing }) (shutdown_reply id))) waited
+
+-- the first program has left the queue behind a Turn
+pub turn_queue : (s : State) → s.queue ≢ [] → (turn s).state.queue ≡ drop 1 s.queue
+turn_queue s some = so_behind (λ t. t.queue ≡ (assemble_first s).state.queue) (assemble_first s).state refl refl ∙ first_queue s some
