@@ -6,13 +6,23 @@ it has none), the bodies that are sent (`says`), the bodies that are written (`h
 `initialize` stands for a whole such request, and `offer`
 for its answer. Each was worked out by hand from LSP 3.17 and JSON-RPC 2.0.
 
+Each body is sent when the program has read the one before, so that nothing waits behind a message, and no Turn is held back. With
+`at_once` all are in a file, of 8 KiB at most, which the program reads ahead as a whole: so something waits behind each message but
+the last.
+
 Usage: check.py [--server PATH]
 """
 import argparse
+import array
+import fcntl
 import json
 import os
 import subprocess
 import sys
+import tempfile
+import termios
+import threading
+import time
 
 HERE = os.path.dirname(os.path.realpath(__file__))
 BUILT = os.path.normpath(os.path.join(HERE, "../../crates/hlasm_ls/out/hlasm_ls"))
@@ -33,15 +43,60 @@ def framed(bodies):
     return b"".join(parts)
 
 
+def wait_until_read(process):
+    """Waits until the program has read all that was sent, or has ended."""
+    left = array.array("i", [0])
+    while process.poll() is None:
+        fcntl.ioctl(process.stdin.fileno(), termios.FIONREAD, left)
+        if left[0] == 0:
+            return
+        time.sleep(0.0002)
+
+
+def run_in_turn(command, bodies):
+    """The output and the status where each body is sent when the one before was read."""
+    with subprocess.Popen(command, stdin=subprocess.PIPE, stdout=subprocess.PIPE, stderr=subprocess.DEVNULL, bufsize=0) as process:
+        pieces = []
+        reader = threading.Thread(target=lambda: pieces.append(process.stdout.read()), daemon=True)
+        watchdog = threading.Timer(60, process.kill)
+        reader.start()
+        watchdog.start()
+        try:
+            for body in bodies:
+                data = framed([body])
+                while data:
+                    data = data[process.stdin.write(data):]
+                wait_until_read(process)
+        except BrokenPipeError:
+            pass
+        finally:
+            process.stdin.close()
+            status = process.wait()
+            watchdog.cancel()
+            reader.join()
+    return b"".join(pieces), status
+
+
+def run_at_once(command, bodies):
+    """The same where all bodies can be read ahead."""
+    with tempfile.TemporaryFile() as file:
+        file.write(framed(bodies))
+        assert file.tell() <= 8192
+        file.seek(0)
+        run = subprocess.run(command, stdin=file, stdout=subprocess.PIPE, stderr=subprocess.DEVNULL, timeout=60)
+    return run.stdout, run.returncode
+
+
 def difference(server, row):
     """What is wrong with a conversation, if anything."""
-    says = framed(INITIALIZE if body == "initialize" else body for body in row["says"])
+    says = [INITIALIZE if body == "initialize" else body for body in row["says"]]
     hears = framed(OFFER if body == "offer" else body for body in row["hears"])
-    run = subprocess.run([server, *row.get("words", ["serve"])], input=says, capture_output=True, timeout=60)
-    if run.stdout != hears:
-        return f"wrote {run.stdout!r}, not {hears!r}"
-    if run.returncode != STATUSES[row["ends"]]:
-        return f"ended with status {run.returncode}, not {row['ends']}"
+    run = run_at_once if row.get("at_once") else run_in_turn
+    output, status = run([server, *row.get("words", ["serve"])], says)
+    if output != hears:
+        return f"wrote {output!r}, not {hears!r}"
+    if status != STATUSES[row["ends"]]:
+        return f"ended with status {status}, not {row['ends']}"
     return None
 
 
