@@ -33,21 +33,6 @@
 (defconst hlasm-ls--settings ".hlasmplugin"
   "The folder that makes the folder it stands in a workspace.")
 
-;; The server names these in its first reply and answers them with "unknown method" so far, so eglot is not to ask them.
-;; To be removed with the stage of the server that answers them.
-(defconst hlasm-ls--not-answered
-  '(:hoverProvider :definitionProvider :referencesProvider :documentSymbolProvider))
-
-;; The name was misspelt in early versions of eglot.
-(defun hlasm-ls--ask-nothing ()
-  "Let eglot ask nothing in this buffer that the server does not answer."
-  (set (make-local-variable (if (boundp 'eglot-ignored-server-capabilities)
-                                'eglot-ignored-server-capabilities
-                              'eglot-ignored-server-capabilites))
-       hlasm-ls--not-answered))
-
-(add-hook 'hlasm-mode-hook #'hlasm-ls--ask-nothing)
-
 (add-to-list 'eglot-server-programs '(hlasm-mode . (lambda (&rest _) hlasm-ls-command)))
 
 ;;; The workspace

@@ -5,15 +5,6 @@ const path = require('path');
 const vscode = require('vscode');
 const { LanguageClient } = require('vscode-languageclient/node');
 
-// The server names these in its first reply and answers them with 'unknown method' so far: not asked, so that no user is
-// shown that error. To be removed with the stage of the server that answers them.
-const notAnswered = {
-  provideHover: () => undefined,
-  provideDefinition: () => undefined,
-  provideReferences: () => undefined,
-  provideDocumentSymbols: () => undefined,
-};
-
 // Columns count from 0 in VS Code: operations begin in column 10 of a listing, operands in column 16.
 const nextStop = (column) => (column < 9 ? 9 : column < 15 ? 15 : column - (column % 8) + 8);
 
@@ -98,7 +89,7 @@ exports.activate = (context) => {
     'hlasm-ls',
     'HLASM',
     { command, args: ['serve'] },
-    { documentSelector: [{ scheme: 'file', language: 'hlasm' }], middleware: notAnswered, synchronize: { fileEvents: watchers } },
+    { documentSelector: [{ scheme: 'file', language: 'hlasm' }], synchronize: { fileEvents: watchers } },
   );
   return client.start();
 };

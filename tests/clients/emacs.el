@@ -24,7 +24,7 @@
         (lambda (a b) (< (aref a 0) (aref b 0)))))
 
 (defun offered ()
-  "What Emacs would ask of the server although it does not answer."
+  "What Emacs can ask of the server besides lists."
   (vconcat (seq-filter #'eglot--server-capable
                        '(:hoverProvider :definitionProvider :referencesProvider :documentSymbolProvider))))
 

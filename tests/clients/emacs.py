@@ -1,7 +1,7 @@
 #!/usr/bin/env python3
 """Emacs with the mode, eglot and the built program: it opens a file and shows the list of the server, and shows what is left when
-the fault that the last report names is mended; what changes in a library shows in the list of the program that calls it; it asks
-for nothing that is not answered; and the mode types HLASM as its columns want. If there is no Emacs with eglot it says so and ends
+the fault that the last report names is mended; what changes in a library shows in the list of the program that calls it; it can
+ask of names and symbols; and the mode types HLASM as its columns want. If there is no Emacs with eglot it says so and ends
 with 77: skipped.
 
 Usage: emacs.py [--server PATH]
@@ -30,7 +30,7 @@ WANTED = {
     "commented": "*         USING *,12",
     "uncommented": "         USING *,12",
     "typed": " " * 9 + "LR" + " " * 4,
-    "asked": [],
+    "asked": [":hoverProvider", ":definitionProvider", ":referencesProvider", ":documentSymbolProvider"],
     "wrapped": False,
     "tabs": False,
     "ruler": 71,

@@ -218,8 +218,8 @@ local function offers()
   for _, client in ipairs(clients()) do
     table.insert(record.roots, client.config.root_dir or '')
     for _, method in ipairs({ 'hover', 'definition', 'references', 'documentSymbol' }) do
-      if client.supports_method('textDocument/' .. method) then
-        error('offered without an answer: ' .. method)
+      if not client.supports_method('textDocument/' .. method) then
+        error('not offered: ' .. method)
       end
     end
   end

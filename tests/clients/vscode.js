@@ -19,8 +19,8 @@ function languageOf(name) {
 }
 
 class LanguageClient {
-  constructor(id, name, { command, args }, { documentSelector, middleware, synchronize }) {
-    Object.assign(this, { command, args, documentSelector, middleware, waiting: new Map(), input: Buffer.alloc(0), requests: 0 });
+  constructor(id, name, { command, args }, { documentSelector, synchronize }) {
+    Object.assign(this, { command, args, documentSelector, waiting: new Map(), input: Buffer.alloc(0), requests: 0 });
     found.client = { id, name };
     for (const watcher of synchronize.fileEvents) {
       for (const [event, type] of [['onDidCreate', 1], ['onDidChange', 2], ['onDidDelete', 3]]) {
@@ -35,10 +35,9 @@ class LanguageClient {
     this.process.stdout.on('data', (piece) => this.read(piece));
     const rootUri = workspace ? pathToFileURL(workspace).href : null;
     const { capabilities } = await this.ask('initialize', { processId: process.pid, rootUri, capabilities: {} });
-    // The generic client puts each of these before the user unless the middleware answers in its place.
-    for (const [offer, hook] of [['hoverProvider', 'provideHover'], ['definitionProvider', 'provideDefinition'],
-      ['referencesProvider', 'provideReferences'], ['documentSymbolProvider', 'provideDocumentSymbols']]) {
-      if (capabilities[offer] && (!this.middleware[hook] || this.middleware[hook]() !== undefined)) found.asked.push(offer);
+    // The generic client puts each of these before the user.
+    for (const offer of ['hoverProvider', 'definitionProvider', 'referencesProvider', 'documentSymbolProvider']) {
+      if (capabilities[offer]) found.asked.push(offer);
     }
     this.tell('initialized', {});
   }

@@ -1,7 +1,7 @@
 #!/usr/bin/env python3
 """The extension for VS Code, started by node with a stand-in for the calls of VS Code and of its generic client: it starts the
 program, an opened file gets the list that hlasm-lint prints, what changes in a library shows in the list of the program that calls
-it, nothing is asked that is not answered, and it ends in good order; the tab key goes to the columns where fields begin; and what
+it, names and symbols can be asked of, and it ends in good order; the tab key goes to the columns where fields begin; and what
 the manifest names is there. If there is no node it says so and
 ends with 77: skipped.
 
@@ -51,7 +51,8 @@ class Extension(unittest.TestCase):
         self.assertEqual(listed(), shown)
         self.assertEqual(["H001", "H001", "H003"], [code for _, _, code, _ in shown])
         self.assertIsNone(found["lists"]["first.hlasm.txt"], "a file of another language is opened")
-        self.assertEqual([], found["asked"], "asked without an answer")
+        offers = ["hoverProvider", "definitionProvider", "referencesProvider", "documentSymbolProvider"]
+        self.assertEqual(offers, found["asked"])
         self.assertEqual((0, 2), (found["status"], found["disposables"]))
         adapters = [(it["command"], it["args"]) for it in found["adapters"]]
         self.assertEqual([("hlasm-debug", []), ("hlasm-debug", ["--root", "/w"])], adapters)

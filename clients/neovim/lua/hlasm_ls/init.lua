@@ -6,25 +6,7 @@ local workspace = require('hlasm_ls.workspace')
 
 local M = {}
 
--- The server names these in its first reply and answers them with 'unknown method' so far: switched off, so that no user is
--- shown that error. Remove `without_answers` with the stage of the server that answers them.
-local NOT_ANSWERED = {
-  server_capabilities = { 'hoverProvider', 'definitionProvider', 'referencesProvider', 'documentSymbolProvider' },
-  resolved_capabilities = { 'hover', 'goto_definition', 'find_references', 'document_symbol' }, -- of Neovim 0.7
-}
-
-local function without_answers(client)
-  for place, names in pairs(NOT_ANSWERED) do
-    for _, name in ipairs(names) do
-      if client[place] then
-        client[place][name] = false
-      end
-    end
-  end
-end
-
 local function begin(client)
-  without_answers(client)
   if client.config.root_dir then
     watching.start(client.id, client.config.root_dir)
   end
