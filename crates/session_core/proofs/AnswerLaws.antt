@@ -27,7 +27,7 @@ use Rattle.session_core.specs.Refusals.{Refused, OutOfPlace, TooEarly, where_so,
 use Rattle.session_core.specs.State.{State, start, is_idle, number_named}
 use Rattle.session_core.specs.Step.{Effect, quiet, says, and_then, IsEffect, Step, Goes, step_of}
 use Rattle.session_core.specs.Turn.{answer_waiting, answer_all, assemble_first, assemble_all, turn}
-use Rattle.session_core.proofs.AskingLaws.{Whenever, whenever_any, whenever_behind, whenever_cond}
+use Rattle.session_core.proofs.AskingLaws.{Whenever, whenever_any, whenever_behind, whenever_cond, whenever_event}
 use Rattle.session_core.proofs.AsideLaws.{AreKept, kept_first, kept_all, kept_change, kept_closing, kept_begun, kept_watched}
 
 -- ---- one step
@@ -99,11 +99,11 @@ answered_message s body calls are = leaves_so AreAnswered (event s body calls) (
 -- ---- requests have their ids
 
 -- what was not refused has none of these reasons
-first_none : (one : Option Refused) (others : List (Option Refused)) → first_of (one ∷ others) ≡ None → (one ≡ None) × (first_of others ≡ None)
+pub first_none : (one : Option Refused) (others : List (Option Refused)) → first_of (one ∷ others) ≡ None → (one ≡ None) × (first_of others ≡ None)
 first_none None others none = (refl, none)
 first_none (Some why) others none = cc
 
-where_none : (b : Bool) (why : Refused) → where_so b why ≡ None → b ≡ false
+pub where_none : (b : Bool) (why : Refused) → where_so b why ≡ None → b ≡ false
 where_none true why none = cc
 where_none false why none = refl
 
@@ -122,7 +122,7 @@ with_its_id s id uri question have new = distinct_added s.waiting (record { id =
 
 -- requests are as they were
 same_ids : (s : State) (effect : Effect) → HaveTheirIds s → AreKept s effect → HaveTheirIds effect.state
-same_ids s effect have kept = subst AreDistinct (sym kept.1) have
+same_ids s effect have kept = subst AreDistinct (sym kept.1.0) have
 
 ids_asked : (s : State) (asked : Asked Effect) → HaveTheirIds s → Whenever (AreKept s) asked → Whenever (λ effect. HaveTheirIds effect.state) asked
 ids_asked s (Came effect rest) have kept = same_ids s effect have kept
@@ -159,32 +159,13 @@ ids_effect s (DidChangeWatchedFiles changes) calls have none = ids_asked s (effe
 ids_effect s (Cancel id) calls have none = distinct_cancelled s.waiting id have
 ids_effect s (Dap session message) calls have none = ids_debugged s session (request_of message) have
 
-ids_told : (s : State) (told : Result LspIn Refusal) (calls : List LibraryCall) → HaveTheirIds s → refusal s.stage s.store s.waiting (Some told) ≡ None
-    → Whenever (λ effect. HaveTheirIds effect.state) (effect_of s told calls)
-ids_told s (Ok message) calls have none = ids_effect s message calls have none
-ids_told s (Err refusal) calls have none = have
-
-ids_unless : (s : State) (why : Option Refused) (event : Asking Effect) (calls : List LibraryCall) → HaveTheirIds s
-    → (why ≡ None → Whenever (λ effect. HaveTheirIds effect.state) (event calls)) → Whenever (λ effect. HaveTheirIds effect.state) (unless_refused s why event calls)
-ids_unless s None event calls have so = so refl
-ids_unless s (Some why) event calls have so = have
-
-ids_heard : (s : State) (told : Result LspIn Refusal) (calls : List LibraryCall) → HaveTheirIds s → Whenever (λ effect. HaveTheirIds effect.state) (asked s told calls)
-ids_heard s told calls have =
-    whenever_cond (λ effect. HaveTheirIds effect.state) (is_passed_over s.stage told) (answered (quiet s)) _ calls have
-    (ids_unless s (refusal s.stage s.store s.waiting (Some told)) (effect_of s told) calls have (ids_told s told calls have))
-
-ids_received : (s : State) (value : Option Data) (calls : List LibraryCall) → HaveTheirIds s → Whenever (λ effect. HaveTheirIds effect.state) (received s value calls)
-ids_received s None calls have = have
-ids_received s (Some value) calls have =
-    whenever_cond (λ effect. HaveTheirIds effect.state) (is_response value) (answered (quiet s)) (asked s (message_of value)) calls have (ids_heard s (message_of value) calls have)
-
 ids_event : (s : State) (body : List ℕ) (calls : List LibraryCall) → HaveTheirIds s → Whenever (λ effect. HaveTheirIds effect.state) (event s body calls)
-unfolding event
-ids_event s body calls have =
-    whenever_cond (λ effect. HaveTheirIds effect.state) (is_ended s.stage) (answered (quiet s)) (served s (reading body)) calls have
-    (whenever_behind (λ effect. HaveTheirIds effect.state) (λ effect. HaveTheirIds effect.state) (received s (reading body) calls) (λ first. answered (concluded first))
-    (ids_received s (reading body) calls have) (λ first rest still. ids_behind first.state still))
+ids_event s body calls have = whenever_event (λ effect. HaveTheirIds effect.state) s body calls (record {
+  nothing = have;
+  refused = λ line. have;
+  taken = λ told more none. ids_effect s told more have none;
+  behind = λ first still. ids_behind first.state still;
+})
 
 pub ids_message : (s : State) (body : List ℕ) (calls : List LibraryCall) → HaveTheirIds s → LeavesSo HaveTheirIds (message s body calls)
 ids_message s body calls have = leaves_so HaveTheirIds (event s body calls) (ids_event s body calls have)

@@ -1,4 +1,4 @@
--- What leaves the debug sessions and the requests that wait as they were.
+-- What leaves the debug sessions, the requests that wait and the stage of a session as they were.
 use Rattle.std.proofs.Common.{◌≡◌, ℕ, zero, suc, Bool, true, false, cond, List, [], ◌∷◌, length, Option, Some, None, Result, Ok, Err, refl, ◌∙◌, slice_get}
 use Rattle.io_edge.specs.LibraryCall.{LibraryCall}
 use Rattle.file_uri.specs.Paths.{path_of}
@@ -19,8 +19,8 @@ use Rattle.session_core.specs.Turn.{is_published, assemble_first, assemble_many,
 use Rattle.session_core.proofs.AskingLaws.{Whenever, whenever_any, whenever_behind, whenever_cond}
 
 -- they are as they were
-abbrev IsAside : State → State → Type 0
-IsAside s t = (t.debuggers ≡ s.debuggers) × (t.waiting ≡ s.waiting)
+abbrev pub IsAside : State → State → Type 0
+IsAside s t = (t.debuggers ≡ s.debuggers) × ((t.waiting ≡ s.waiting) × (t.stage ≡ s.stage))
 
 abbrev pub AreKept : State → Effect → Type 0
 AreKept s effect = IsAside s effect.state
@@ -30,37 +30,37 @@ abbrev AreIn : State → Watching → Type 0
 AreIn s w = IsAside s w.state
 
 kept_cond : (b : Bool) (s t : State) (body : List ℕ) → IsAside s t → AreKept s (cond b (quiet s) (says t body))
-kept_cond true s t body same = (refl, refl)
+kept_cond true s t body same = (refl, (refl, refl))
 kept_cond false s t body same = same
 
 kept_turn_at : (s : State) (n : PathId) (document : Option OpenDocument) → AreKept s (turn_at s n document)
-kept_turn_at s n None = (refl, refl)
-kept_turn_at s n (Some document) = kept_cond (is_published (last_list s.published n) document.version (list_of s n document)) s _ _ (refl, refl)
+kept_turn_at s n None = (refl, (refl, refl))
+kept_turn_at s n (Some document) = kept_cond (is_published (last_list s.published n) document.version (list_of s n document)) s _ _ (refl, (refl, refl))
 
 pub kept_first : (s : State) → AreKept s (assemble_first s)
 unfolding assemble_first
 kept_first s = by_queue (slice_get s.queue 0) where
   by_queue : (first : Option PathId) → AreKept s (turn_of s first)
-  by_queue None = (refl, refl)
+  by_queue None = (refl, (refl, refl))
   by_queue (Some n) = kept_turn_at (without_first s) n (document_at s.store n)
 
 kept_many : (n : ℕ) (s : State) → AreKept s (assemble_many n s)
-kept_many zero s = (refl, refl)
+kept_many zero s = (refl, (refl, refl))
 kept_many (suc n) s =
     let first = kept_first s in
     let others = kept_many n (assemble_first s).state in
-    (others.0 ∙ first.0, others.1 ∙ first.1)
+    (others.0 ∙ first.0, (others.1.0 ∙ first.1.0, others.1.1 ∙ first.1.1))
 
 pub kept_all : (s : State) → AreKept s (assemble_all s)
 kept_all s = kept_many (length s.queue) s
 
 pub kept_change : (s : State) (asked : Result Store StoreFault) → AreKept s (after_change s asked)
-kept_change s (Ok store) = (refl, refl)
-kept_change s (Err fault) = (refl, refl)
+kept_change s (Ok store) = (refl, (refl, refl))
+kept_change s (Err fault) = (refl, (refl, refl))
 
 pub kept_closing : (s : State) (n : Option PathId) (asked : Result Store StoreFault) → AreKept s (after_closing s n asked)
-kept_closing s n (Ok store) = (refl, refl)
-kept_closing s n (Err fault) = (refl, refl)
+kept_closing s n (Ok store) = (refl, (refl, refl))
+kept_closing s n (Err fault) = (refl, (refl, refl))
 
 -- ---- messages on files
 
@@ -101,13 +101,13 @@ kept_after s w same = by_concerned w.concerned where
   by_concerned false = same
 
 pub kept_begun : (s : State) (root : Option (List ℕ)) (calls : List LibraryCall) → Whenever (AreKept s) (begun root s calls)
-kept_begun s None calls = (refl, refl)
+kept_begun s None calls = (refl, (refl, refl))
 kept_begun s (Some root) calls =
-    whenever_behind (AreIn s) (AreKept s) (configured root (unconcerned s) calls) (λ w. answered (after_watching w)) (in_configured s root (unconcerned s) calls (refl, refl))
+    whenever_behind (AreIn s) (AreKept s) (configured root (unconcerned s) calls) (λ w. answered (after_watching w)) (in_configured s root (unconcerned s) calls (refl, (refl, refl)))
     (λ w rest same. kept_after s w same)
 
 pub kept_watched : (s : State) (changes : List FileChange) (calls : List LibraryCall)
     → Whenever (AreKept s) (behind (changes_told changes (unconcerned s) calls) (λ w. answered (after_watching w)))
 kept_watched s changes calls =
     whenever_behind (AreIn s) (AreKept s) (changes_told changes (unconcerned s) calls) (λ w. answered (after_watching w))
-    (in_changes s changes (unconcerned s) calls (refl, refl)) (λ w rest same. kept_after s w same)
+    (in_changes s changes (unconcerned s) calls (refl, (refl, refl))) (λ w rest same. kept_after s w same)

@@ -45,21 +45,22 @@ whenever_cond Holds false one other calls so also = also
 -- ---- events
 
 pub whenever_unless : (Holds : Effect → Type 0) (s : State) (why : Option Refused) (event : Asking Effect) (calls : List LibraryCall) → ((body : List ℕ) → Holds (says s body))
-    → Whenever Holds (event calls) → Whenever Holds (unless_refused s why event calls)
-whenever_unless Holds s None event calls said so = so
+    → (why ≡ None → Whenever Holds (event calls)) → Whenever Holds (unless_refused s why event calls)
+whenever_unless Holds s None event calls said so = so refl
 whenever_unless Holds s (Some why) event calls said so = said (reply why)
 
--- What is so where nothing changes, whatever one body is written, and of each message that is taken, and stays so behind answers, is
--- so of each event.
+-- What is so where nothing changes, whatever one body is written, and of each message that is not refused, and stays so behind
+-- answers, is so of each event.
 pub record HoldsOfEach (Holds : Effect → Type 0) (s : State) : Type 0 where
   pub nothing : Holds (quiet s)
   pub refused : (body : List ℕ) → Holds (says s body)
-  pub taken : (message : LspIn) (calls : List LibraryCall) → Whenever Holds (effect s message calls)
+  pub taken : (message : LspIn) (calls : List LibraryCall) → refusal s.stage s.store s.waiting (Some (Ok message)) ≡ None → Whenever Holds (effect s message calls)
   pub behind : (first : Effect) → Holds first → Holds (concluded first)
 
-whenever_told : (Holds : Effect → Type 0) (s : State) (told : Result LspIn Refusal) (calls : List LibraryCall) → HoldsOfEach Holds s → Whenever Holds (effect_of s told calls)
-whenever_told Holds s (Ok message) calls each = each.taken message calls
-whenever_told Holds s (Err refusal) calls each = each.nothing
+whenever_told : (Holds : Effect → Type 0) (s : State) (told : Result LspIn Refusal) (calls : List LibraryCall) → HoldsOfEach Holds s
+    → refusal s.stage s.store s.waiting (Some told) ≡ None → Whenever Holds (effect_of s told calls)
+whenever_told Holds s (Ok message) calls each none = each.taken message calls none
+whenever_told Holds s (Err refusal) calls each none = each.nothing
 
 whenever_asked : (Holds : Effect → Type 0) (s : State) (told : Result LspIn Refusal) (calls : List LibraryCall) → HoldsOfEach Holds s → Whenever Holds (asked s told calls)
 whenever_asked Holds s told calls each =

@@ -82,7 +82,7 @@ module _ (s : State) (Stands : Effect → Type 0) (changes : DebugSaid → Bool)
   stands_heard : (heard : Result LspIn Refusal) (calls : List LibraryCall) → option_map_or changes (debug_said heard) false ≡ false → Whenever Stands (asked s heard calls)
   stands_heard heard calls other =
       whenever_cond Stands (is_passed_over s.stage heard) (answered (quiet s)) _ calls (kept _ refl)
-      (whenever_unless Stands s (refusal s.stage s.store s.waiting (Some heard)) (effect_of s heard) calls (λ body. kept _ refl) (stands_told heard calls other))
+      (whenever_unless Stands s (refusal s.stage s.store s.waiting (Some heard)) (effect_of s heard) calls (λ body. kept _ refl) (λ _. stands_told heard calls other))
 
   stands_received : (value : Option Data) (calls : List LibraryCall) → option_map_or changes (value_debug_said value) false ≡ false → Whenever Stands (received s value calls)
   stands_received None calls other = kept _ refl

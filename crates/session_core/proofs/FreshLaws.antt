@@ -345,7 +345,7 @@ fresh_message s body calls fresh =
     (whenever_event IsGood s body calls (record {
       nothing = λ alive. fresh;
       refused = λ line alive. fresh;
-      taken = λ told more. good_effect s told more fresh;
+      taken = λ told more none. good_effect s told more fresh;
       behind = good_behind;
     }))
 
@@ -434,6 +434,6 @@ change_queues s body calls =
     (whenever_event (KeepsThemOrQueues s) s body calls (record {
       nothing = inl (refl, refl);
       refused = λ line. inl (refl, refl);
-      taken = keeps_effect s;
+      taken = λ told more none. keeps_effect s told more;
       behind = keeps_behind s;
     }))
