@@ -35,9 +35,40 @@ const NEXT_LIST_A: &str =
 const LIST_B: &str =
     r#"{"jsonrpc":"2.0","method":"textDocument/publishDiagnostics","params":{"diagnostics":[],"uri":"file:///w/b.hlasm","version":4}}"#;
 
+const OPEN_S: &str =
+    r#"{"jsonrpc":"2.0","method":"textDocument/didOpen","params":{"textDocument":{"languageId":"hlasm","text":"A EQU 1\n END","uri":"file:///w/a.hlasm","version":1}}}"#;
+
+const INSERT_2: &str =
+    r#"{"jsonrpc":"2.0","method":"textDocument/didChange","params":{"contentChanges":[{"range":{"end":{"character":0,"line":0},"start":{"character":0,"line":0}},"text":" ANOP\n"}],"textDocument":{"uri":"file:///w/a.hlasm","version":2}}}"#;
+
+const INSERT_3: &str =
+    r#"{"jsonrpc":"2.0","method":"textDocument/didChange","params":{"contentChanges":[{"range":{"end":{"character":0,"line":0},"start":{"character":0,"line":0}},"text":" ANOP\n"}],"textDocument":{"uri":"file:///w/a.hlasm","version":3}}}"#;
+
+const INSERT_4: &str =
+    r#"{"jsonrpc":"2.0","method":"textDocument/didChange","params":{"contentChanges":[{"range":{"end":{"character":0,"line":0},"start":{"character":0,"line":0}},"text":" ANOP\n"}],"textDocument":{"uri":"file:///w/a.hlasm","version":4}}}"#;
+
+const LIST_4: &str =
+    r#"{"jsonrpc":"2.0","method":"textDocument/publishDiagnostics","params":{"diagnostics":[],"uri":"file:///w/a.hlasm","version":4}}"#;
+
+const ASK_5: &str =
+    r#"{"id":5,"jsonrpc":"2.0","method":"textDocument/definition","params":{"position":{"character":0,"line":3},"textDocument":{"uri":"file:///w/a.hlasm"}}}"#;
+
+const ANSWER_5: &str =
+    r#"{"id":5,"jsonrpc":"2.0","result":{"range":{"end":{"character":1,"line":3},"start":{"character":0,"line":3}},"uri":"file:///w/a.hlasm"}}"#;
+
+const CANCEL_5: &str = r#"{"jsonrpc":"2.0","method":"$/cancelRequest","params":{"id":5}}"#;
+
+const CANCEL_99: &str = r#"{"jsonrpc":"2.0","method":"$/cancelRequest","params":{"id":99}}"#;
+
+const CANCELLED_5: &str =
+    r#"{"error":{"code":-32800,"message":"cancelled"},"id":5,"jsonrpc":"2.0"}"#;
+
+const KNOWN_5: &str =
+    r#"{"error":{"code":-32600,"message":"invalid request"},"id":5,"jsonrpc":"2.0"}"#;
+
 /// Sessions whose Turns are held back: the answers of `waiting`, the bodies that come in, those that go out, and the
 /// status.
-const HELD: [(&[bool], &[&str], &[&str], Status); 9] = [
+const HELD: [(&[bool], &[&str], &[&str], Status); 11] = [
     // one Turn for two messages
     (
         &[true],
@@ -93,6 +124,24 @@ const HELD: [(&[bool], &[&str], &[&str], Status); 9] = [
         &[INITIALIZE, OPEN_A],
         &[INITIALIZED],
         Status::InputEnded,
+    ),
+    // one Turn for three changes, and then the answer to what waited
+    (
+        &[false, true, true, true, false],
+        &[
+            INITIALIZE, OPEN_S, INSERT_2, INSERT_3, INSERT_4, ASK_5, SHUTDOWN, EXIT,
+        ],
+        &[INITIALIZED, LIST_A, LIST_4, ANSWER_5, SHUT],
+        Status::Done,
+    ),
+    // a request that waits is cancelled once, and no other has its id
+    (
+        &[true, true, true, true, true, true],
+        &[
+            INITIALIZE, OPEN_S, ASK_5, ASK_5, CANCEL_99, CANCEL_5, CANCEL_5, SHUTDOWN, EXIT,
+        ],
+        &[INITIALIZED, KNOWN_5, CANCELLED_5, LIST_A, SHUT],
+        Status::Done,
     ),
     // a Turn is made behind the thirty-second message, and then it is counted anew
     (
