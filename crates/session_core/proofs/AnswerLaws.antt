@@ -21,7 +21,7 @@ use Rattle.waiting_requests.specs.declared.request.Request.{Request}
 use Rattle.waiting_requests.proofs.WaitLaws.{distinct_added, distinct_cancelled}
 use Rattle.session_core.specs.Debugging.{debugged}
 use Rattle.session_core.specs.Laws.{AreAnswered, HaveTheirIds, LeavesSo}
-use Rattle.session_core.specs.Message.{message, event, served, received, asked, effect, effect_of, concluded, is_passed_over, unless_refused, asks_later}
+use Rattle.session_core.specs.Message.{message, event, served, received, asked, effect, effect_of, concluded, is_passed_over, unless_refused, asks_later, after_change, after_closing}
 use Rattle.session_core.specs.Names.{program_names}
 use Rattle.session_core.specs.Refusals.{Refused, OutOfPlace, TooEarly, where_so, first_of, refusal, is_fresh, is_closed, is_ended}
 use Rattle.session_core.specs.State.{State, start, is_idle, number_named}
@@ -150,9 +150,9 @@ ids_effect s (DocumentSymbol id uri) calls have none =
     with_its_id s id uri asks.Symbols have (id_is_new (is_fresh s.stage) (is_closed s.stage) (waits s.waiting id) (TooEarly id) (OutOfPlace id) (OutOfPlace id) _ none)
 ids_effect s Initialized calls have none = ids_asked s (effect s Initialized calls) have (kept_begun s s.root calls)
 ids_effect s Exit calls have none = tt
-ids_effect s (DidOpen uri language version text) calls have none = same_ids s _ have (kept_change s (opened s.store uri language version text))
-ids_effect s (DidChange uri version edits) calls have none = same_ids s _ have (kept_change s (changed s.store uri version edits))
-ids_effect s (DidClose uri) calls have none = same_ids s _ have (kept_closing s (number_named s.store uri) (closed s.store uri))
+ids_effect s (DidOpen uri language version text) calls have none = same_ids s (after_change s (opened s.store uri language version text)) have (kept_change s (opened s.store uri language version text))
+ids_effect s (DidChange uri version edits) calls have none = same_ids s (after_change s (changed s.store uri version edits)) have (kept_change s (changed s.store uri version edits))
+ids_effect s (DidClose uri) calls have none = same_ids s (after_closing s (number_named s.store uri) (closed s.store uri)) have (kept_closing s (number_named s.store uri) (closed s.store uri))
 ids_effect s DidSave calls have none = have
 ids_effect s DidChangeConfiguration calls have none = have
 ids_effect s (DidChangeWatchedFiles changes) calls have none = ids_asked s (effect s (DidChangeWatchedFiles changes) calls) have (kept_watched s changes calls)
