@@ -50,9 +50,10 @@ pub distinct_added : (waiting : List Request) (request : Request) → AreDistinc
 distinct_added [] request distinct none = (refl, tt)
 distinct_added (first ∷ others) request (here, behind) none =
     let parts = or_split (has_id request.id first) (waits others request.id) none in
-    let last : is_same_id request.id first.id ≡ false = id_back first.id request.id parts.0 in
-    (list_any-append (has_id first.id) others (request ∷ []) ∙ neither (waits others first.id) (is_same_id request.id first.id || false) here (neither (is_same_id request.id first.id) false last refl),
-    distinct_added others request behind parts.1)
+    let last : is_same_id request.id first.id ≡ false = id_back first.id request.id parts.0 in (
+      list_any-append (has_id first.id) others (request ∷ []) ∙ neither (waits others first.id) (is_same_id request.id first.id || false) here (neither (is_same_id request.id first.id) false last refl),
+      distinct_added others request behind parts.1,
+    )
 
 pub distinct_cancelled : (waiting : List Request) (id : Id) → AreDistinct waiting → AreDistinct (without waiting id)
 distinct_cancelled [] id distinct = tt
