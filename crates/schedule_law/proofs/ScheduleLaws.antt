@@ -16,7 +16,7 @@ use Rattle.schedule_law.proofs.ListedLaws.{listed_now}
 -- ---- what is known
 
 -- what messages leave of what is known, and of the calls to come
-reached : List (List ℕ) → State → Asking State
+abbrev reached : List (List ℕ) → State → Asking State
 reached [] s = answered s
 reached (body ∷ bodies) s = λ calls. behind (known_behind (message s body calls)) (reached bodies)
 
