@@ -30,6 +30,13 @@ impl Model for Waiting {
     ghost view = { λ s. s.requests.items };
 }
 
+/// Drops what has this id.
+fn remove(waiting: &mut Vec<Request>, id: &Id)
+    ensures { waiting.new.items ≡ requests.without waiting.old.items id.now }
+{
+    waiting.retain(|request| !is_same_id(&request.id, id));
+}
+
 /// The replies to requests in order.
 fn replies(
     alloc: Global,
@@ -89,13 +96,6 @@ impl Waiting {
         Ok(())
     }
 
-    /// Removes what waits of this id.
-    fn remove(&mut self, id: &Id)
-        ensures { self.new ≡ requests.without self.old id.now }
-    {
-        self.requests.retain(|request| !is_same_id(&request.id, id));
-    }
-
     /// The client cancels the request of this id: where it waits, it is removed and refused; else nothing is done. An `Err`
     /// changes nothing.
     pub fn cancel(&mut self, alloc: Global, id: Id) -> Result<Option<Vec<u8>>, OutOfMemory>
@@ -108,7 +108,7 @@ impl Waiting {
         }
         let copy = id.copy(alloc)?;
         let body = cancelled(alloc, copy)?;
-        self.remove(&id);
+        remove(&mut self.requests, &id);
         Ok(Some(body))
     }
 
