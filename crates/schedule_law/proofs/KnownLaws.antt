@@ -1,5 +1,6 @@
--- What a message and a Turn do to what a session knows does not depend on its queue and on what it has published.
-use Rattle.std.proofs.Common.{◌≡◌, ℕ, zero, suc, Bool, true, false, cond, List, [], ◌∷◌, length, Option, Some, None, Result, Ok, Err, slice_get, refl, sym, ap, ◌∙◌}
+-- What a message and a Turn do to what a session knows does not depend on its queue, on what it has published and on which
+-- requests wait.
+use Rattle.std.proofs.Common.{◌≡◌, ◌&&◌, ℕ, zero, suc, Bool, true, false, cond, List, [], ◌∷◌, length, Option, Some, None, Result, Ok, Err, slice_get, refl, sym, ap, ◌∙◌}
 use Rattle.serde_json.specs.Data.{Data}
 use Rattle.json_view.specs.Texts.{reading}
 use Rattle.io_edge.specs.LibraryCall.{LibraryCall}
@@ -11,6 +12,7 @@ use Rattle.document_store.specs.declared.fault.StoreFault.{StoreFault}
 use Rattle.library_reading.specs.Asked.{Asked, Came, Lacks, Differs, Asking, answered, behind}
 use Rattle.library_reading.specs.Taking.{member_read}
 use Rattle.library_reading.specs.Reading.{configuration_read}
+use Rattle.lsp_messages.specs.declared.incoming.Id.{Id}
 use Rattle.lsp_messages.specs.declared.incoming.LspIn.{LspIn}
 use Rattle.lsp_messages.specs.declared.incoming.LspIn.TheVariants.{Initialize, Shutdown, Definition, References, Hover, DocumentSymbol, Initialized, Exit, DidOpen, DidChange, DidClose, DidSave, DidChangeConfiguration, DidChangeWatchedFiles, Cancel, Dap}
 use Rattle.lsp_messages.specs.declared.incoming.ChangeKind.{ChangeKind}
@@ -18,15 +20,22 @@ use Rattle.lsp_messages.specs.declared.incoming.ChangeKind.TheVariants.{Created,
 use Rattle.lsp_messages.specs.declared.incoming.FileChange.{FileChange}
 use Rattle.lsp_messages.specs.declared.incoming.Refusal.{Refusal}
 use Rattle.lsp_messages.specs.Messages.{is_response, message_of}
-use Rattle.session_core.specs.declared.state.Stage.TheVariants.{Closing}
+use Rattle.dap_messages.specs.Requests.{request_of}
+use Rattle.dap_messages.specs.declared.requests.DapIn.{DapIn}
+use Rattle.dap_messages.specs.declared.requests.DapRefusal.{DapRefusal}
+use Rattle.waiting_requests.specs.Requests.{waits}
+use Rattle.waiting_requests.specs.declared.request.Request.{Request}
+use Rattle.session_core.specs.declared.state.Stage.{Stage}
+use Rattle.session_core.specs.declared.state.Stage.TheVariants.{Fresh, Active, Closing, Ended}
+use Rattle.session_core.specs.Debugging.{debugged}
 use Rattle.session_core.specs.Diagnostics.{list_of}
-use Rattle.session_core.specs.Message.{message, event, received, asked, effect, effect_of, is_passed_over, unless_refused, after_change, after_closing, Watching, taking_of, after_reading, after_member, configured, member_changed, is_configuration, is_member_file, change_told, changes_told, queue_all, after_watching, begun, unconcerned}
-use Rattle.session_core.specs.Refusals.{Refused, refusal, is_ended}
-use Rattle.session_core.specs.Served.{as_served}
-use Rattle.session_core.specs.State.{State, libraries, document_at, last_list, number_named}
+use Rattle.session_core.specs.Message.{message, event, served, received, asked, effect, effect_of, concluded, is_passed_over, unless_refused, after_change, after_closing, Watching, taking_of, after_reading, after_member, configured, member_changed, is_configuration, is_member_file, change_told, changes_told, queue_all, after_watching, begun, unconcerned}
+use Rattle.session_core.specs.Refusals.{Refused, TooEarly, OutOfPlace, where_so, first_of, refusal, is_fresh, is_active, is_ended}
+use Rattle.session_core.specs.State.{State, is_idle, libraries, document_at, last_list, number_named}
 use Rattle.session_core.specs.Step.{Effect, quiet, says, Step, Goes, Stopped, Other, step_of}
-use Rattle.session_core.specs.Turn.{is_published, publish, turn_at, turn_of, without_first, assemble_first, assemble_many, assemble_all, turn}
-use Rattle.schedule_law.specs.Schedules.{known}
+use Rattle.session_core.specs.Turn.{is_published, publish, turn_at, turn_of, without_first, assemble_first, assemble_many, assemble_all, answer_all, answer_waiting, turn}
+use Rattle.schedule_law.specs.Schedules.{known, is_held_up, is_value_held_up, is_body_held_up}
+use Rattle.schedule_law.proofs.QuietLaws.{IsQuiet}
 
 -- ---- questions, with something left out of what they come to
 
@@ -64,7 +73,7 @@ cond_same : {A : Type 0} (q : A → A) (b : Bool) (one other first second : Aski
 cond_same q true one other first second calls so also = so
 cond_same q false one other first second calls so also = also
 
--- ---- Turns
+-- ---- Turns leave what is known
 
 known_cond : (b : Bool) (s t : State) (body : List ℕ) → known t ≡ known s → known (cond b (quiet s) (says t body)).state ≡ known s
 known_cond true s t body same = refl
@@ -81,8 +90,16 @@ known_first s = by_queue (slice_get s.queue 0) where
   by_queue None = refl
   by_queue (Some n) = known_turn_at (without_first s) n (document_at s.store n)
 
+-- so do answers to the requests that wait
+known_answers : (s : State) → known (answer_waiting s).state ≡ known s
+unfolding answer_waiting
+known_answers s = by_idle (is_idle s.queue) where
+  by_idle : (b : Bool) → known (cond b (answer_all s) (quiet s)).state ≡ known s
+  by_idle true = refl
+  by_idle false = refl
+
 pub known_turn : (s : State) → known (turn s).state ≡ known s
-known_turn s = known_first s
+known_turn s = known_answers (assemble_first s).state ∙ known_first s
 
 known_many : (n : ℕ) (s : State) → known (assemble_many n s).state ≡ known s
 known_many zero s = refl
@@ -168,10 +185,19 @@ closing_same : (s : State) (n : Option PathId) (asked : Result Store StoreFault)
 closing_same s n (Ok store) calls = refl
 closing_same s n (Err fault) calls = refl
 
+debugged_same : (s : State) (number : ℕ) (read : Result DapIn DapRefusal) (calls : List LibraryCall)
+    → mapped kept (answered (debugged s number read) calls) ≡ mapped kept (answered (debugged (known s) number read) calls)
+unfolding debugged
+debugged_same s number read calls = refl
+
+-- the programs and the answers of a shutdown
+shut_same : (s : State) → known (answer_waiting (assemble_all s).state).state ≡ known (answer_waiting (assemble_all (known s)).state).state
+shut_same s =
+    known_answers (assemble_all s).state ∙ known_all s ∙ sym (known_answers (assemble_all (known s)).state ∙ known_all (known s))
+
 effect_same : (s : State) (message : LspIn) (calls : List LibraryCall) → mapped kept (effect s message calls) ≡ mapped kept (effect (known s) message calls)
 effect_same s (Initialize id root) calls = refl
-effect_same s (Shutdown id) calls =
-    ap (λ (z : State). Came (record { state = record z { stage = Closing }; bodies = [] }) calls) (known_all s ∙ sym (known_all (known s)))
+effect_same s (Shutdown id) calls = ap (λ (z : State). Came (record { state = record z { stage = Closing }; bodies = [] }) calls) (shut_same s)
 effect_same s (Definition id uri at) calls = refl
 effect_same s (References id uri at declarations) calls = refl
 effect_same s (Hover id uri at) calls = refl
@@ -185,33 +211,115 @@ effect_same s DidSave calls = refl
 effect_same s DidChangeConfiguration calls = refl
 effect_same s (DidChangeWatchedFiles changes) calls = watched_same changes s calls
 effect_same s (Cancel id) calls = refl
-effect_same s (Dap session message) calls = refl
+effect_same s (Dap session message) calls = debugged_same s session (request_of message) calls
 
-told_same : (s : State) (told : Result LspIn Refusal) (calls : List LibraryCall) → mapped kept (effect_of s told calls) ≡ mapped kept (effect_of (known s) told calls)
-told_same s (Ok message) calls = effect_same s message calls
-told_same s (Err refusal) calls = refl
+-- ---- refusals
 
-unless_same : (s : State) (why : Option Refused) (event other : Asking Effect) (calls : List LibraryCall) → mapped kept (event calls) ≡ mapped kept (other calls)
-    → mapped kept (unless_refused s why event calls) ≡ mapped kept (unless_refused (known s) why other calls)
-unless_same s None event other calls same = same
-unless_same s (Some why) event other calls same = refl
+-- why a message is refused, where these requests wait
+abbrev why : State → List Request → LspIn → Option Refused
+why s waiting message = refusal s.stage s.store waiting (Some (Ok message))
 
-asked_same : (s : State) (told : Result LspIn Refusal) (calls : List LibraryCall) → mapped kept (asked s told calls) ≡ mapped kept (asked (known s) told calls)
-asked_same s told calls =
-    cond_same kept (is_passed_over s.stage told) (answered (quiet s)) _ (answered (quiet (known s))) _ calls refl
-    (unless_same s (refusal s.stage s.store (Some told)) (effect_of s told) (effect_of (known s) told) calls (told_same s told calls))
+-- nothing waits where the session may begin
+opening_same : (s : State) (id : Id) (root : Option (List ℕ)) → IsQuiet s → why s s.waiting (Initialize id root) ≡ why s [] (Initialize id root)
+opening_same s id root so = by_stage s.stage so where
+  by_stage : (stage : Stage) → (is_fresh stage ≡ true → s.waiting ≡ [])
+      → refusal stage s.store s.waiting (Some (Ok (Initialize id root))) ≡ refusal stage s.store [] (Some (Ok (Initialize id root)))
+  by_stage Fresh none = ap (λ (w : List Request). refusal Fresh s.store w (Some (Ok (Initialize id root)))) (none refl)
+  by_stage Active none = refl
+  by_stage Closing none = refl
+  by_stage (Ended closed) none = refl
 
-received_same : (s : State) (value : Option Data) (calls : List LibraryCall) → mapped kept (received s value calls) ≡ mapped kept (received (known s) value calls)
-received_same s None calls = refl
-received_same s (Some value) calls =
-    cond_same kept (is_response value) (answered (quiet s)) (asked s (as_served (message_of value))) (answered (quiet (known s))) (asked (known s) (as_served (message_of value))) calls
-    refl (asked_same s (as_served (message_of value)) calls)
+-- a shutdown that is not held up is refused by its stage alone
+closing_why : (s : State) (id : Id) → (is_active s.stage && waits s.waiting id) ≡ false → why s s.waiting (Shutdown id) ≡ why s [] (Shutdown id)
+closing_why s id free = by_stage s.stage free where
+  by_stage : (stage : Stage) → (is_active stage && waits s.waiting id) ≡ false
+      → refusal stage s.store s.waiting (Some (Ok (Shutdown id))) ≡ refusal stage s.store [] (Some (Ok (Shutdown id)))
+  by_stage Fresh none = refl
+  by_stage Active none = ap (λ (b : Bool). first_of (None ∷ None ∷ None ∷ where_so b (OutOfPlace id) ∷ None ∷ None ∷ None ∷ [])) none
+  by_stage Closing none = refl
+  by_stage (Ended closed) none = refl
 
-event_same : (s : State) (body : List ℕ) (calls : List LibraryCall) → mapped kept (event s body calls) ≡ mapped kept (event (known s) body calls)
+-- a message that is taken or refused alike
+unless_same : (s : State) (why also : Option Refused) (event other : Asking Effect) (calls : List LibraryCall) → why ≡ also
+    → mapped kept (event calls) ≡ mapped kept (other calls) → mapped kept (unless_refused s why event calls) ≡ mapped kept (unless_refused (known s) also other calls)
+unless_same s why also event other calls is same =
+    ap (λ (z : Option Refused). mapped kept (unless_refused s z event calls)) is ∙ by_reason also where
+      by_reason : (also : Option Refused) → mapped kept (unless_refused s also event calls) ≡ mapped kept (unless_refused (known s) also other calls)
+      by_reason None = same
+      by_reason (Some reason) = refl
+
+-- what leaves what is known makes no difference, also where it is refused
+aside : (s : State) (why : Option Refused) (event : Asking Effect) (calls : List LibraryCall) → mapped kept (event calls) ≡ Came (kept (quiet s)) calls
+    → mapped kept (unless_refused s why event calls) ≡ Came (kept (quiet s)) calls
+aside s None event calls same = same
+aside s (Some reason) event calls same = refl
+
+aside_same : (s : State) (why also : Option Refused) (event other : Asking Effect) (calls : List LibraryCall)
+    → mapped kept (event calls) ≡ Came (kept (quiet s)) calls → mapped kept (other calls) ≡ Came (kept (quiet s)) calls
+    → mapped kept (unless_refused s why event calls) ≡ mapped kept (unless_refused (known s) also other calls)
+aside_same s why also event other calls one two = aside s why event calls one ∙ sym (aside (known s) also other calls two)
+
+-- ---- each message
+
+message_heard : (s : State) (message : LspIn) (calls : List LibraryCall) → IsQuiet s → is_held_up s (Ok message) ≡ false
+    → mapped kept (unless_refused s (why s s.waiting message) (effect s message) calls)
+    ≡ mapped kept (unless_refused (known s) (why s [] message) (effect (known s) message) calls)
+message_heard s (Initialize id root) calls so free = unless_same s _ _ (effect s (Initialize id root)) _ calls (opening_same s id root so) refl
+message_heard s (Shutdown id) calls so free = unless_same s _ _ (effect s (Shutdown id)) _ calls (closing_why s id free) (effect_same s (Shutdown id) calls)
+message_heard s (Definition id uri at) calls so free = aside_same s _ _ (effect s (Definition id uri at)) _ calls refl refl
+message_heard s (References id uri at declarations) calls so free = aside_same s _ _ (effect s (References id uri at declarations)) _ calls refl refl
+message_heard s (Hover id uri at) calls so free = aside_same s _ _ (effect s (Hover id uri at)) _ calls refl refl
+message_heard s (DocumentSymbol id uri) calls so free = aside_same s _ _ (effect s (DocumentSymbol id uri)) _ calls refl refl
+message_heard s Initialized calls so free = unless_same s _ _ (effect s Initialized) _ calls refl (effect_same s Initialized calls)
+message_heard s Exit calls so free = unless_same s _ _ (effect s Exit) _ calls refl refl
+message_heard s (DidOpen uri language version text) calls so free =
+    unless_same s _ _ (effect s (DidOpen uri language version text)) _ calls refl (effect_same s (DidOpen uri language version text) calls)
+message_heard s (DidChange uri version edits) calls so free =
+    unless_same s _ _ (effect s (DidChange uri version edits)) _ calls refl (effect_same s (DidChange uri version edits) calls)
+message_heard s (DidClose uri) calls so free = unless_same s _ _ (effect s (DidClose uri)) _ calls refl (effect_same s (DidClose uri) calls)
+message_heard s DidSave calls so free = aside_same s _ _ (effect s DidSave) _ calls refl refl
+message_heard s DidChangeConfiguration calls so free = aside_same s _ _ (effect s DidChangeConfiguration) _ calls refl refl
+message_heard s (DidChangeWatchedFiles changes) calls so free =
+    unless_same s _ _ (effect s (DidChangeWatchedFiles changes)) _ calls refl (effect_same s (DidChangeWatchedFiles changes) calls)
+message_heard s (Cancel id) calls so free = aside_same s _ _ (effect s (Cancel id)) _ calls refl refl
+message_heard s (Dap session message) calls so free =
+    unless_same s _ _ (effect s (Dap session message)) _ calls refl (effect_same s (Dap session message) calls)
+
+told_heard : (s : State) (told : Result LspIn Refusal) (calls : List LibraryCall) → IsQuiet s → is_held_up s told ≡ false
+    → mapped kept (unless_refused s (refusal s.stage s.store s.waiting (Some told)) (effect_of s told) calls)
+    ≡ mapped kept (unless_refused (known s) (refusal s.stage s.store [] (Some told)) (effect_of (known s) told) calls)
+told_heard s (Ok message) calls so free = message_heard s message calls so free
+told_heard s (Err fault) calls so free = aside_same s _ _ (answered (quiet s)) (answered (quiet (known s))) calls refl refl
+
+asked_same : (s : State) (told : Result LspIn Refusal) (calls : List LibraryCall) → IsQuiet s → is_held_up s told ≡ false
+    → mapped kept (asked s told calls) ≡ mapped kept (asked (known s) told calls)
+asked_same s told calls so free =
+    cond_same kept (is_passed_over s.stage told) (answered (quiet s)) _ (answered (quiet (known s))) _ calls refl (told_heard s told calls so free)
+
+received_same : (s : State) (value : Option Data) (calls : List LibraryCall) → IsQuiet s → is_value_held_up s value ≡ false
+    → mapped kept (received s value calls) ≡ mapped kept (received (known s) value calls)
+received_same s None calls so free = refl
+received_same s (Some value) calls so free =
+    cond_same kept (is_response value) (answered (quiet s)) (asked s (message_of value)) (answered (quiet (known s))) (asked (known s) (message_of value)) calls
+    refl (asked_same s (message_of value) calls so free)
+
+-- the answers behind it leave what is known
+concluded_same : (first : Effect) → kept (concluded first) ≡ kept (concluded (kept first))
+concluded_same first =
+    ap (λ (z : State). record { state = z; bodies = [] }) (known_answers first.state ∙ sym (known_answers (known first.state)))
+
+served_same : (s : State) (value : Option Data) (calls : List LibraryCall) → IsQuiet s → is_value_held_up s value ≡ false
+    → mapped kept (served s value calls) ≡ mapped kept (served (known s) value calls)
+served_same s value calls so free =
+    behind_same kept kept (received s value calls) (received (known s) value calls) (λ first. answered (concluded first)) (received_same s value calls so free)
+    (λ first rest. ap (λ (z : Effect). Came z rest) (concluded_same first))
+
+event_same : (s : State) (body : List ℕ) (calls : List LibraryCall) → IsQuiet s → is_body_held_up s body ≡ false
+    → mapped kept (event s body calls) ≡ mapped kept (event (known s) body calls)
 unfolding event
-event_same s body calls =
-    cond_same kept (is_ended s.stage) (answered (quiet s)) (received s (reading body)) (answered (quiet (known s))) (received (known s) (reading body)) calls
-    refl (received_same s (reading body) calls)
+event_same s body calls so free =
+    cond_same kept (is_ended s.stage) (answered (quiet s)) (served s (reading body)) (answered (quiet (known s))) (served (known s) (reading body)) calls
+    refl (served_same s (reading body) calls so free)
 
 -- what is known behind a step, with the calls that are left
 abbrev pub known_behind : Step → Asked State
@@ -224,6 +332,7 @@ behind_event (Came effect rest) = refl
 behind_event Lacks = refl
 behind_event Differs = refl
 
-pub message_same : (s : State) (body : List ℕ) (calls : List LibraryCall) → known_behind (message s body calls) ≡ known_behind (message (known s) body calls)
-message_same s body calls =
-    behind_event (event s body calls) ∙ ap (mapped (λ (e : Effect). e.state)) (event_same s body calls) ∙ sym (behind_event (event (known s) body calls))
+pub message_same : (s : State) (body : List ℕ) (calls : List LibraryCall) → IsQuiet s → is_body_held_up s body ≡ false
+    → known_behind (message s body calls) ≡ known_behind (message (known s) body calls)
+message_same s body calls so free =
+    behind_event (event s body calls) ∙ ap (mapped (λ (e : Effect). e.state)) (event_same s body calls so free) ∙ sym (behind_event (event (known s) body calls))
