@@ -12,11 +12,11 @@ use Rattle.waiting_requests.specs.Requests as requests
 use Rattle.waiting_requests.specs.declared.request.Request.{Request}
 use Rattle.session_core.specs.Debugging.{debugged}
 use Rattle.session_core.specs.Message.{message, event, effect}
-use Rattle.session_core.specs.Refusals.{Refused, TooEarly, where_so, first_of, refusal, is_fresh}
+use Rattle.session_core.specs.Refusals.{TooEarly, refusal, is_fresh}
 use Rattle.session_core.specs.State.{State, start, number_named}
 use Rattle.session_core.specs.Step.{Effect, step_of, Goes}
 use Rattle.session_core.specs.Turn.{assemble_first, answer_waiting, turn}
-use Rattle.session_core.proofs.AnswerLaws.{so_behind}
+use Rattle.session_core.proofs.AnswerLaws.{so_behind, first_none, where_none}
 use Rattle.session_core.proofs.AsideLaws.{AreKept, kept_first, kept_change, kept_closing, kept_begun, kept_watched}
 use Rattle.session_core.proofs.AskingLaws.{Whenever, HoldsOfEach, whenever_event}
 use Rattle.session_core.proofs.FreshLaws.{not_both}
@@ -44,11 +44,6 @@ quiet_behind s so = so_behind IsQuiet s so (λ fresh. refl)
 
 -- ---- requests come later
 
--- a request that was not refused came after the session had begun
-has_begun : (early : Bool) (why : Refused) (others : List (Option Refused)) → first_of (where_so early why ∷ others) ≡ None → early ≡ false
-has_begun true why others none = cc
-has_begun false why others none = refl
-
 quiet_later : (s : State) (waiting : List Request) → is_fresh s.stage ≡ false → IsQuiet (record s { waiting = waiting })
 quiet_later s waiting begun fresh = absurd (not_both (is_fresh s.stage) fresh begun)
 
@@ -62,10 +57,10 @@ quiet_effect : (s : State) (message : LspIn) (calls : List LibraryCall) → IsQu
     → Whenever (λ effect. IsQuiet effect.state) (effect s message calls)
 quiet_effect s (Initialize id root) calls so none = λ fresh. cc
 quiet_effect s (Shutdown id) calls so none = λ fresh. cc
-quiet_effect s (Definition id uri at) calls so none = quiet_later s _ (has_begun (is_fresh s.stage) (TooEarly id) _ none)
-quiet_effect s (References id uri at declarations) calls so none = quiet_later s _ (has_begun (is_fresh s.stage) (TooEarly id) _ none)
-quiet_effect s (Hover id uri at) calls so none = quiet_later s _ (has_begun (is_fresh s.stage) (TooEarly id) _ none)
-quiet_effect s (DocumentSymbol id uri) calls so none = quiet_later s _ (has_begun (is_fresh s.stage) (TooEarly id) _ none)
+quiet_effect s (Definition id uri at) calls so none = quiet_later s _ (where_none (is_fresh s.stage) (TooEarly id) (first_none _ _ none).0)
+quiet_effect s (References id uri at declarations) calls so none = quiet_later s _ (where_none (is_fresh s.stage) (TooEarly id) (first_none _ _ none).0)
+quiet_effect s (Hover id uri at) calls so none = quiet_later s _ (where_none (is_fresh s.stage) (TooEarly id) (first_none _ _ none).0)
+quiet_effect s (DocumentSymbol id uri) calls so none = quiet_later s _ (where_none (is_fresh s.stage) (TooEarly id) (first_none _ _ none).0)
 quiet_effect s Initialized calls so none = quiet_asked s (effect s Initialized calls) so (kept_begun s s.root calls)
 quiet_effect s Exit calls so none = λ fresh. refl
 quiet_effect s (DidOpen uri language version text) calls so none = quiet_kept s _ so (kept_change s (opened s.store uri language version text))
