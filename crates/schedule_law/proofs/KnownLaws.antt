@@ -261,35 +261,48 @@ aside_same s why also event other calls one two = aside s why event calls one �
 
 -- ---- each message
 
-message_heard : (s : State) (message : LspIn) (calls : List LibraryCall) → IsQuiet s → is_held_up s (Ok message) ≡ false
-    → mapped kept (unless_refused s (why s s.waiting message) (effect s message) calls)
+-- a message does the same to what is known, whichever requests wait
+abbrev IsHeard : State → LspIn → List LibraryCall → Type 0
+IsHeard s message calls =
+    mapped kept (unless_refused s (why s s.waiting message) (effect s message) calls)
     ≡ mapped kept (unless_refused (known s) (why s [] message) (effect (known s) message) calls)
-message_heard s (Initialize id root) calls so free = unless_same s _ _ (effect s (Initialize id root)) _ calls (opening_same s id root so) refl
-message_heard s (Shutdown id) calls so free = unless_same s _ _ (effect s (Shutdown id)) _ calls (closing_why s id free) (effect_same s (Shutdown id) calls)
-message_heard s (Definition id uri at) calls so free = aside_same s _ _ (effect s (Definition id uri at)) _ calls refl refl
-message_heard s (References id uri at declarations) calls so free = aside_same s _ _ (effect s (References id uri at declarations)) _ calls refl refl
-message_heard s (Hover id uri at) calls so free = aside_same s _ _ (effect s (Hover id uri at)) _ calls refl refl
-message_heard s (DocumentSymbol id uri) calls so free = aside_same s _ _ (effect s (DocumentSymbol id uri)) _ calls refl refl
-message_heard s Initialized calls so free = unless_same s _ _ (effect s Initialized) _ calls refl (effect_same s Initialized calls)
-message_heard s Exit calls so free = unless_same s _ _ (effect s Exit) _ calls refl refl
+
+taken_alike : (s : State) (message : LspIn) (calls : List LibraryCall) → why s s.waiting message ≡ why s [] message
+    → mapped kept (effect s message calls) ≡ mapped kept (effect (known s) message calls) → IsHeard s message calls
+taken_alike s message calls is same = unless_same s (why s s.waiting message) (why s [] message) (effect s message) (effect (known s) message) calls is same
+
+left_alone : (s : State) (message : LspIn) (calls : List LibraryCall) → mapped kept (effect s message calls) ≡ Came (kept (quiet s)) calls
+    → mapped kept (effect (known s) message calls) ≡ Came (kept (quiet s)) calls → IsHeard s message calls
+left_alone s message calls one two = aside_same s (why s s.waiting message) (why s [] message) (effect s message) (effect (known s) message) calls one two
+
+message_heard : (s : State) (message : LspIn) (calls : List LibraryCall) → IsQuiet s → is_held_up s (Ok message) ≡ false → IsHeard s message calls
+message_heard s (Initialize id root) calls so free = taken_alike s (Initialize id root) calls (opening_same s id root so) refl
+message_heard s (Shutdown id) calls so free = taken_alike s (Shutdown id) calls (closing_why s id free) (effect_same s (Shutdown id) calls)
+message_heard s (Definition id uri at) calls so free = left_alone s (Definition id uri at) calls refl refl
+message_heard s (References id uri at declarations) calls so free = left_alone s (References id uri at declarations) calls refl refl
+message_heard s (Hover id uri at) calls so free = left_alone s (Hover id uri at) calls refl refl
+message_heard s (DocumentSymbol id uri) calls so free = left_alone s (DocumentSymbol id uri) calls refl refl
+message_heard s Initialized calls so free = taken_alike s Initialized calls refl (effect_same s Initialized calls)
+message_heard s Exit calls so free = taken_alike s Exit calls refl refl
 message_heard s (DidOpen uri language version text) calls so free =
-    unless_same s _ _ (effect s (DidOpen uri language version text)) _ calls refl (effect_same s (DidOpen uri language version text) calls)
+    taken_alike s (DidOpen uri language version text) calls refl (effect_same s (DidOpen uri language version text) calls)
 message_heard s (DidChange uri version edits) calls so free =
-    unless_same s _ _ (effect s (DidChange uri version edits)) _ calls refl (effect_same s (DidChange uri version edits) calls)
-message_heard s (DidClose uri) calls so free = unless_same s _ _ (effect s (DidClose uri)) _ calls refl (effect_same s (DidClose uri) calls)
-message_heard s DidSave calls so free = aside_same s _ _ (effect s DidSave) _ calls refl refl
-message_heard s DidChangeConfiguration calls so free = aside_same s _ _ (effect s DidChangeConfiguration) _ calls refl refl
+    taken_alike s (DidChange uri version edits) calls refl (effect_same s (DidChange uri version edits) calls)
+message_heard s (DidClose uri) calls so free = taken_alike s (DidClose uri) calls refl (effect_same s (DidClose uri) calls)
+message_heard s DidSave calls so free = left_alone s DidSave calls refl refl
+message_heard s DidChangeConfiguration calls so free = left_alone s DidChangeConfiguration calls refl refl
 message_heard s (DidChangeWatchedFiles changes) calls so free =
-    unless_same s _ _ (effect s (DidChangeWatchedFiles changes)) _ calls refl (effect_same s (DidChangeWatchedFiles changes) calls)
-message_heard s (Cancel id) calls so free = aside_same s _ _ (effect s (Cancel id)) _ calls refl refl
-message_heard s (Dap session message) calls so free =
-    unless_same s _ _ (effect s (Dap session message)) _ calls refl (effect_same s (Dap session message) calls)
+    taken_alike s (DidChangeWatchedFiles changes) calls refl (effect_same s (DidChangeWatchedFiles changes) calls)
+message_heard s (Cancel id) calls so free = left_alone s (Cancel id) calls refl refl
+message_heard s (Dap session message) calls so free = taken_alike s (Dap session message) calls refl (effect_same s (Dap session message) calls)
 
 told_heard : (s : State) (told : Result LspIn Refusal) (calls : List LibraryCall) → IsQuiet s → is_held_up s told ≡ false
     → mapped kept (unless_refused s (refusal s.stage s.store s.waiting (Some told)) (effect_of s told) calls)
     ≡ mapped kept (unless_refused (known s) (refusal s.stage s.store [] (Some told)) (effect_of (known s) told) calls)
 told_heard s (Ok message) calls so free = message_heard s message calls so free
-told_heard s (Err fault) calls so free = aside_same s _ _ (answered (quiet s)) (answered (quiet (known s))) calls refl refl
+told_heard s (Err fault) calls so free =
+    aside_same s (refusal s.stage s.store s.waiting (Some (Err fault))) (refusal s.stage s.store [] (Some (Err fault))) (answered (quiet s)) (answered (quiet (known s)))
+    calls refl refl
 
 asked_same : (s : State) (told : Result LspIn Refusal) (calls : List LibraryCall) → IsQuiet s → is_held_up s told ≡ false
     → mapped kept (asked s told calls) ≡ mapped kept (asked (known s) told calls)

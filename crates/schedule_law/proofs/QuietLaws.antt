@@ -11,7 +11,7 @@ use Rattle.document_store.specs.Changes.{opened, changed, closed}
 use Rattle.waiting_requests.specs.Requests as requests
 use Rattle.waiting_requests.specs.declared.request.Request.{Request}
 use Rattle.session_core.specs.Debugging.{debugged}
-use Rattle.session_core.specs.Message.{message, event, effect}
+use Rattle.session_core.specs.Message.{message, event, effect, after_change, after_closing}
 use Rattle.session_core.specs.Refusals.{TooEarly, refusal, is_fresh}
 use Rattle.session_core.specs.State.{State, start, number_named}
 use Rattle.session_core.specs.Step.{Effect, step_of, Goes}
@@ -63,9 +63,12 @@ quiet_effect s (Hover id uri at) calls so none = quiet_later s _ (where_none (is
 quiet_effect s (DocumentSymbol id uri) calls so none = quiet_later s _ (where_none (is_fresh s.stage) (TooEarly id) (first_none _ _ none).0)
 quiet_effect s Initialized calls so none = quiet_asked s (effect s Initialized calls) so (kept_begun s s.root calls)
 quiet_effect s Exit calls so none = λ fresh. refl
-quiet_effect s (DidOpen uri language version text) calls so none = quiet_kept s _ so (kept_change s (opened s.store uri language version text))
-quiet_effect s (DidChange uri version edits) calls so none = quiet_kept s _ so (kept_change s (changed s.store uri version edits))
-quiet_effect s (DidClose uri) calls so none = quiet_kept s _ so (kept_closing s (number_named s.store uri) (closed s.store uri))
+quiet_effect s (DidOpen uri language version text) calls so none =
+    quiet_kept s (after_change s (opened s.store uri language version text)) so (kept_change s (opened s.store uri language version text))
+quiet_effect s (DidChange uri version edits) calls so none =
+    quiet_kept s (after_change s (changed s.store uri version edits)) so (kept_change s (changed s.store uri version edits))
+quiet_effect s (DidClose uri) calls so none =
+    quiet_kept s (after_closing s (number_named s.store uri) (closed s.store uri)) so (kept_closing s (number_named s.store uri) (closed s.store uri))
 quiet_effect s DidSave calls so none = so
 quiet_effect s DidChangeConfiguration calls so none = so
 quiet_effect s (DidChangeWatchedFiles changes) calls so none = quiet_asked s (effect s (DidChangeWatchedFiles changes) calls) so (kept_watched s changes calls)

@@ -1,6 +1,6 @@
 -- The bodies that are written for requests that waited (JSON-RPC 2.0, "Response object"; Language Server Protocol 3.17,
 -- `ErrorCodes`, "Cancellation Support").
-use Rattle.std.specs.Prelude.{ℕ, ℤ, pos, neg_ℤ, List, map, codes, Option, Some, None, if◌then◌else◌}
+use Rattle.std.specs.Prelude.{ℕ, pos, neg_ℤ, List, map, codes, Option, Some, None, if◌then◌else◌}
 use Rattle.std.specs.Str.{chars}
 use Rattle.serde_json.specs.Written.{compact_text}
 use Rattle.document_store.specs.Store.{Store}

@@ -1,6 +1,6 @@
 -- The requests that wait, in the order of arrival (Language Server Protocol 3.17, "Cancellation Support"; JSON-RPC 2.0, "Request
 -- object": a request is known by its id).
-use Rattle.std.specs.Prelude.{ℕ, Bool, false, not, List, [], ◌∷◌, ◌≡◌, filter}
+use Rattle.std.specs.Prelude.{Bool, false, not, List, [], ◌∷◌, ◌≡◌, filter}
 use Rattle.std.specs.List.{list_any}
 use Rattle.std.specs.Ordering.{int_eq}
 use Rattle.std.specs.Str.{bytes_eq}

@@ -41,24 +41,30 @@ fn document_asked(
 }
 
 /// The program at a path.
-fn program_at<'a>(programs: &'a [ProgramNames<'a>], path: PathId) -> Option<&'a ProgramNames<'a>>
+fn program_at<'s, 'a>(
+    programs: &'s [ProgramNames<'a>],
+    path: PathId,
+) -> Option<&'s ProgramNames<'a>>
     ensures { option_copied result ≡ answers.program_at programs.now path.0 }
 {
     programs.iter().find(|names| names.path().0 == path.0)
 }
 
 /// The first program that touches a path.
-fn program_touching<'a>(
-    programs: &'a [ProgramNames<'a>],
+fn program_touching<'s, 'a>(
+    programs: &'s [ProgramNames<'a>],
     path: PathId,
-) -> Option<&'a ProgramNames<'a>>
+) -> Option<&'s ProgramNames<'a>>
     ensures { option_copied result ≡ answers.program_touching programs.now path.0 }
 {
     programs.iter().find(|names| names.touches(path))
 }
 
 /// The program from whose assembly a question in the document of a path is answered.
-fn program_for<'a>(programs: &'a [ProgramNames<'a>], path: PathId) -> Option<&'a ProgramNames<'a>>
+fn program_for<'s, 'a>(
+    programs: &'s [ProgramNames<'a>],
+    path: PathId,
+) -> Option<&'s ProgramNames<'a>>
     ensures { option_copied result ≡ answers.program_for programs.now path.0 }
 {
     match program_at(programs, path) {
