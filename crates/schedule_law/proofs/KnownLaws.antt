@@ -30,10 +30,10 @@ use Rattle.session_core.specs.declared.state.Stage.TheVariants.{Fresh, Active, C
 use Rattle.session_core.specs.Debugging.{debugged}
 use Rattle.session_core.specs.Diagnostics.{list_of}
 use Rattle.session_core.specs.Message.{message, event, served, received, asked, effect, effect_of, concluded, is_passed_over, unless_refused, after_change, after_closing, Watching, taking_of, after_reading, after_member, configured, member_changed, is_configuration, is_member_file, change_told, changes_told, queue_all, after_watching, begun, unconcerned}
-use Rattle.session_core.specs.Refusals.{Refused, TooEarly, OutOfPlace, where_so, first_of, refusal, is_fresh, is_active, is_ended}
+use Rattle.session_core.specs.Refusals.{Refused, OutOfPlace, where_so, first_of, refusal, is_fresh, is_active, is_ended}
 use Rattle.session_core.specs.State.{State, is_idle, libraries, document_at, last_list, number_named}
 use Rattle.session_core.specs.Step.{Effect, quiet, says, Step, Goes, Stopped, Other, step_of}
-use Rattle.session_core.specs.Turn.{is_published, publish, turn_at, turn_of, without_first, assemble_first, assemble_many, assemble_all, answer_all, answer_waiting, turn}
+use Rattle.session_core.specs.Turn.{is_published, turn_at, turn_of, without_first, assemble_first, assemble_many, assemble_all, answer_all, answer_waiting, turn}
 use Rattle.schedule_law.specs.Schedules.{known, is_held_up, is_value_held_up, is_body_held_up}
 use Rattle.schedule_law.proofs.QuietLaws.{IsQuiet}
 

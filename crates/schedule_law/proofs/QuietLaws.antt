@@ -1,5 +1,5 @@
 -- Before a session has begun no request waits.
-use Rattle.std.proofs.Common.{◌≡◌, ℕ, Bool, true, false, List, [], ◌∷◌, Option, Some, None, Result, Ok, refl, sym, ap, ◌∙◌, subst}
+use Rattle.std.proofs.Common.{◌≡◌, ℕ, true, false, List, [], Some, None, Result, Ok, refl, sym, ap, ◌∙◌, subst}
 use Rattle.io_edge.specs.LibraryCall.{LibraryCall}
 use Rattle.library_reading.specs.Asked.{Asked, Came, Lacks, Differs}
 use Rattle.lsp_messages.specs.declared.incoming.LspIn.{LspIn}

@@ -1,15 +1,15 @@
 -- Sessions that hear the same messages.
-use Rattle.std.proofs.Common.{◌≡◌, ℕ, Bool, true, false, List, [], ◌∷◌, Option, Some, None, refl, sym, ap, ◌∙◌, subst}
+use Rattle.std.proofs.Common.{◌≡◌, ℕ, true, false, List, [], ◌∷◌, Some, sym, ap, ◌∙◌, subst}
 use Rattle.document_store.specs.Store.{OpenDocument}
 use Rattle.hl_base.specs.declared.place.PathId.{PathId}
 use Rattle.io_edge.specs.LibraryCall.{LibraryCall}
-use Rattle.library_reading.specs.Asked.{Asked, Came, Asking, answered, behind}
-use Rattle.session_core.specs.Laws.{is_listed, AreFresh, LeavesFresh}
+use Rattle.library_reading.specs.Asked.{Came, Asking, answered, behind}
+use Rattle.session_core.specs.Laws.{AreFresh, LeavesFresh}
 use Rattle.session_core.specs.Message.{message}
 use Rattle.session_core.specs.State.{State, start, document_at, is_program, is_queued, libraries, last_list}
 use Rattle.session_core.specs.Turn.{turn}
 use Rattle.session_core.proofs.FreshLaws.{fresh_start, fresh_message, fresh_turn}
-use Rattle.schedule_law.specs.Schedules.{Event, Message, Turn, messages, GoesOn, Leads, NoneIsHeldUp, known, list_now}
+use Rattle.schedule_law.specs.Schedules.{Event, Message, Turn, messages, Leads, NoneIsHeldUp, known, list_now}
 use Rattle.schedule_law.proofs.KnownLaws.{known_turn, known_behind, message_same}
 use Rattle.schedule_law.proofs.ListedLaws.{listed_now}
 use Rattle.schedule_law.proofs.QuietLaws.{IsQuiet, quiet_start, quiet_message, quiet_turn}
