@@ -1,0 +1,117 @@
+//! The occurrences of a point.
+ghost use Rattle.std.specs.Prelude.{◌≡◌, OnOk};
+ghost use Rattle.std.specs.List.{fold};
+ghost use Rattle.standing_occurrences.specs.Standing.{with_first};
+ghost use Rattle.running_calls.specs.Calls.{held};
+ghost use Rattle.text_lists.specs.Lists.{IsWhole};
+ghost use Rattle.program_occurrences.specs.Occurrences as occurrences;
+
+use crate::known::{Known, running};
+use crate::label::push_call_label;
+use crate::operation::{is_entered, member_taken, used_by};
+use crate::prototype::push_prototype_at;
+use hl_base::{Name, OutOfMemory, PathId};
+use hlasm_statements::Statement;
+use running_calls::RunningCalls;
+use standing_occurrences::Standing;
+use statement_names::names_in;
+use statement_occurrences::{Surroundings, push_occurrences};
+use std::alloc::Global;
+use text_lists::TextLists;
+use text_pool::Present;
+use trace_values::{Entity, Occurrence, Role, TraceItem};
+use variable_meanings::CallVariables;
+
+/// What a point is, besides its item: how many calls stand round it, and the symbol that its label defines first of all.
+pub(crate) struct Met<'a> {
+    pub(crate) level: u32,
+    pub(crate) calls: &'a RunningCalls,
+    pub(crate) variables: &'a CallVariables,
+    pub(crate) first: Option<Name>,
+}
+
+/// The place at the start of a member.
+fn start_of(path: PathId) -> Occurrence
+    ensures { result ≡ occurrences.start_of path }
+{
+    Occurrence {
+        path,
+        line: 0,
+        from: 1,
+        to: 1,
+        entity: Entity::Member(path),
+        defines: true,
+        role: Role::Plain,
+    }
+}
+
+/// Adds the start of a member that was taken, if one was.
+fn push_start(member: Option<PathId>, kept: &mut Standing) -> Result<(), OutOfMemory>
+    ensures { OnOk result (kept.new ≡ fold with_first kept.old (occurrences.start_in member)) }
+{
+    match member {
+        Some(path) => kept.push(start_of(path)),
+        None => Ok(()),
+    }
+}
+
+/// Adds the names of the prototype of the macro that was called, if one was entered.
+fn push_called(
+    alloc: Global,
+    texts: &TextLists,
+    item: &TraceItem,
+    kept: &mut Standing,
+) -> Result<(), OutOfMemory>
+    ensures { OnOk result (kept.new ≡ fold with_first kept.old (occurrences.of_called texts.now item.now)) }
+{
+    match item.called {
+        Some(origin) => {
+            if is_entered(item) {
+                return push_prototype_at(alloc, texts, origin, kept);
+            }
+            Ok(())
+        }
+        None => Ok(()),
+    }
+}
+
+/// Adds the occurrences of the statement of a point.
+fn push_statement<P: Present>(
+    alloc: Global,
+    known: &Known<'_, P>,
+    met: Met<'_>,
+    item: &TraceItem,
+    statement: &Statement,
+    kept: &mut Standing,
+) -> Result<(), OutOfMemory> {
+    let texts = known.texts;
+    push_call_label(texts, met.calls, met.level, statement, &met.first, kept)?;
+    let used = used_by(item, statement);
+    let names = names_in(alloc, statement, used)?;
+    let member = member_taken(known.present, used, item, statement);
+    let surroundings = Surroundings {
+        list: running(texts, known.definitions, item),
+        call: met.variables,
+        item,
+        first: met.first,
+        member,
+    };
+    let path = item.frames.origin().path;
+    push_occurrences(&surroundings, path, statement, names.as_slice(), kept)?;
+    push_called(alloc, texts, item, kept)?;
+    push_start(member, kept)
+}
+
+/// Adds the occurrences of a point.
+pub(crate) fn push_point<P: Present>(
+    alloc: Global,
+    known: &Known<'_, P>,
+    met: Met<'_>,
+    item: &TraceItem,
+    kept: &mut Standing,
+) -> Result<(), OutOfMemory> {
+    match known.texts.line_at(item.frames.origin()) {
+        Some(line) => push_statement(alloc, known, met, item, line.statement(), kept),
+        None => Ok(()),
+    }
+}
