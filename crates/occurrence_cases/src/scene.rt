@@ -9,7 +9,7 @@ use group_members::{GroupMembers, MemberIndex};
 use hl_base::{Ledger, OutOfMemory, PathId, Steps, Text};
 use macro_expand::{Expander, HlasmLanguage};
 use program_assembly::assemble;
-use program_occurrences::{Known, occurrences};
+use program_occurrences::occurrences;
 use standing_occurrences::Standing;
 use std::alloc::Global;
 use std::marker::Brand;
@@ -103,12 +103,7 @@ fn standing_in<L: Ledger>(
     )?;
     let texts = texts_at(alloc, store, &made.touched)?;
     let definitions = definitions_of(alloc, &arena, made.root, &texts, &members)?;
-    let known = Known {
-        texts: &texts,
-        definitions: &definitions,
-        present: &members,
-    };
-    occurrences(alloc, &arena, made.root, &known)
+    occurrences(alloc, &arena, made.root, &texts, &definitions, &members)
 }
 
 /// The scene of texts, of the path of a program and of the folder that has its members.

@@ -9,18 +9,6 @@ use text_lists::{DefinitionLists, TextLists};
 use text_pool::Present;
 use trace_values::TraceItem;
 
-/// What is known of a program besides its points.
-pub struct Known<'a, P: Present> {
-    /// The texts in which its statements stand.
-    pub texts: &'a TextLists,
-
-    /// The statements of the definitions of its macros.
-    pub definitions: &'a DefinitionLists,
-
-    /// What is found under the names of members.
-    pub present: &'a P,
-}
-
 /// The file of a member that is found so.
 fn file_in(answer: Answer) -> Option<PathId>
     ensures { result ≡ known.file_in answer }

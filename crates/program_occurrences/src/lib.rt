@@ -17,5 +17,4 @@ mod point;
 mod prototype;
 mod walk;
 
-pub use known::Known;
 pub use walk::occurrences;

@@ -6,7 +6,7 @@ ghost use Rattle.running_calls.specs.Calls.{held};
 ghost use Rattle.text_lists.specs.Lists.{IsWhole};
 ghost use Rattle.program_occurrences.specs.Occurrences as occurrences;
 
-use crate::known::{Known, running};
+use crate::known::running;
 use crate::label::push_call_label;
 use crate::operation::{is_entered, member_taken, used_by};
 use crate::prototype::push_prototype_at;
@@ -17,12 +17,13 @@ use standing_occurrences::Standing;
 use statement_names::names_in;
 use statement_occurrences::{Surroundings, push_occurrences};
 use std::alloc::Global;
-use text_lists::TextLists;
+use text_lists::{DefinitionLists, TextLists};
 use text_pool::Present;
 use trace_values::{Entity, Occurrence, Role, TraceItem};
 use variable_meanings::CallVariables;
 
 /// What a point is, besides its item: how many calls stand round it, and the symbol that its label defines first of all.
+#[derive(Drop)]
 pub(crate) struct Met<'a> {
     pub(crate) level: u32,
     pub(crate) calls: &'a RunningCalls,
@@ -78,19 +79,20 @@ fn push_called(
 /// Adds the occurrences of the statement of a point.
 fn push_statement<P: Present>(
     alloc: Global,
-    known: &Known<'_, P>,
+    texts: &TextLists,
+    definitions: &DefinitionLists,
+    present: &P,
     met: Met<'_>,
     item: &TraceItem,
     statement: &Statement,
     kept: &mut Standing,
 ) -> Result<(), OutOfMemory> {
-    let texts = known.texts;
     push_call_label(texts, met.calls, met.level, statement, &met.first, kept)?;
     let used = used_by(item, statement);
     let names = names_in(alloc, statement, used)?;
-    let member = member_taken(known.present, used, item, statement);
+    let member = member_taken(present, used, item, statement);
     let surroundings = Surroundings {
-        list: running(texts, known.definitions, item),
+        list: running(texts, definitions, item),
         call: met.variables,
         item,
         first: met.first,
@@ -105,13 +107,24 @@ fn push_statement<P: Present>(
 /// Adds the occurrences of a point.
 pub(crate) fn push_point<P: Present>(
     alloc: Global,
-    known: &Known<'_, P>,
+    texts: &TextLists,
+    definitions: &DefinitionLists,
+    present: &P,
     met: Met<'_>,
     item: &TraceItem,
     kept: &mut Standing,
 ) -> Result<(), OutOfMemory> {
-    match known.texts.line_at(item.frames.origin()) {
-        Some(line) => push_statement(alloc, known, met, item, line.statement(), kept),
+    match texts.line_at(item.frames.origin()) {
+        Some(line) => push_statement(
+            alloc,
+            texts,
+            definitions,
+            present,
+            met,
+            item,
+            line.statement(),
+            kept,
+        ),
         None => Ok(()),
     }
 }

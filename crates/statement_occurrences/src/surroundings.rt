@@ -5,6 +5,7 @@ use trace_values::TraceItem;
 use variable_meanings::CallVariables;
 
 /// What is known where a statement is met.
+#[derive(Drop)]
 pub struct Surroundings<'a> {
     /// The list that is run there: open code, the statements of a definition, or a member that is copied.
     pub list: Option<&'a Listing>,
