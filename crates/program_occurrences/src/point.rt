@@ -2,9 +2,9 @@
 ghost use Rattle.std.specs.Prelude.{◌≡◌, OnOk};
 ghost use Rattle.std.specs.List.{fold};
 ghost use Rattle.standing_occurrences.specs.Standing.{with_first};
-ghost use Rattle.running_calls.specs.Calls.{held};
 ghost use Rattle.text_lists.specs.Lists.{IsWhole};
 ghost use Rattle.program_occurrences.specs.Occurrences as occurrences;
+ghost use Rattle.program_occurrences.specs.Views.{situation_of};
 
 use crate::known::running;
 use crate::label::push_call_label;
@@ -76,30 +76,60 @@ fn push_called(
     }
 }
 
+/// Adds the occurrences of the names of the statement of a point, which took this member.
+fn push_names(
+    alloc: Global,
+    texts: &TextLists,
+    definitions: &DefinitionLists,
+    met: &Met<'_>,
+    item: &TraceItem,
+    statement: &Statement,
+    member: Option<PathId>,
+    kept: &mut Standing,
+) -> Result<(), OutOfMemory>
+    requires { IsWhole statement.now }
+    ensures { OnOk result (kept.new ≡ fold with_first kept.old
+        (occurrences.of_names_in texts.now definitions.now (situation_of met.now) item.now statement.now member)) }
+{
+    let names = names_in(alloc, statement, used_by(item, statement))?;
+    let surroundings = Surroundings {
+        list: running(texts, definitions, item),
+        call: met.variables,
+        item,
+        first: &met.first,
+        member,
+    };
+    let path = item.frames.origin().path;
+    push_occurrences(&surroundings, path, statement, names.as_slice(), kept)
+}
+
 /// Adds the occurrences of the statement of a point.
 fn push_statement<P: Present>(
     alloc: Global,
     texts: &TextLists,
     definitions: &DefinitionLists,
     present: &P,
-    met: Met<'_>,
+    met: &Met<'_>,
     item: &TraceItem,
     statement: &Statement,
     kept: &mut Standing,
-) -> Result<(), OutOfMemory> {
+) -> Result<(), OutOfMemory>
+    requires { IsWhole statement.now }
+    ensures { OnOk result (kept.new ≡ fold with_first kept.old
+        (occurrences.of_statement texts.now definitions.now (P.members present.now) (situation_of met.now) item.now statement.now)) }
+{
+    let member = member_taken(present, used_by(item, statement), item, statement);
     push_call_label(texts, met.calls, met.level, statement, &met.first, kept)?;
-    let used = used_by(item, statement);
-    let names = names_in(alloc, statement, used)?;
-    let member = member_taken(present, used, item, statement);
-    let surroundings = Surroundings {
-        list: running(texts, definitions, item),
-        call: met.variables,
+    push_names(
+        alloc,
+        texts,
+        definitions,
+        met,
         item,
-        first: met.first,
+        statement,
         member,
-    };
-    let path = item.frames.origin().path;
-    push_occurrences(&surroundings, path, statement, names.as_slice(), kept)?;
+        kept,
+    )?;
     push_called(alloc, texts, item, kept)?;
     push_start(member, kept)
 }
@@ -110,10 +140,13 @@ pub(crate) fn push_point<P: Present>(
     texts: &TextLists,
     definitions: &DefinitionLists,
     present: &P,
-    met: Met<'_>,
+    met: &Met<'_>,
     item: &TraceItem,
     kept: &mut Standing,
-) -> Result<(), OutOfMemory> {
+) -> Result<(), OutOfMemory>
+    ensures { OnOk result (kept.new ≡ fold with_first kept.old
+        (occurrences.of_point texts.now definitions.now (P.members present.now) (situation_of met.now) item.now)) }
+{
     match texts.line_at(item.frames.origin()) {
         Some(line) => push_statement(
             alloc,

@@ -1,7 +1,14 @@
 //! Going through the points.
-ghost use Rattle.std.specs.Prelude.{◌≡◌, IfOk};
+ghost use Rattle.std.specs.Prelude.{◌≡◌, [], IfOk, OnOk};
+ghost use Rattle.std.specs.List.{fold};
+ghost use Rattle.defined_symbols.specs.Symbols.{defined_by, with_symbols};
+ghost use Rattle.running_calls.specs.Calls.{passed};
+ghost use Rattle.standing_occurrences.specs.Standing.{with_first};
 ghost use Rattle.trace_arena.specs.Nodes.{IsLive};
 ghost use Rattle.trace_arena.specs.Points.{points};
+ghost use Rattle.program_occurrences.specs.Met.{met_with};
+ghost use Rattle.program_occurrences.specs.Occurrences.{of_point};
+ghost use Rattle.program_occurrences.specs.Programs.{occurrences_of};
 
 use crate::point::{Met, push_point};
 use defined_symbols::DefinedSymbols;
@@ -25,7 +32,11 @@ struct Walk {
 
 impl Walk {
     /// Before the first point.
-    fn new(alloc: Global) -> Walk {
+    fn new(alloc: Global) -> Walk
+        ensures calls { result.calls ≡ [] }
+        ensures symbols { result.symbols ≡ [] }
+        ensures kept { result.kept ≡ [] }
+    {
         Walk {
             calls: RunningCalls::new(alloc),
             symbols: DefinedSymbols::new(alloc),
@@ -42,7 +53,12 @@ impl Walk {
         present: &P,
         level: u32,
         item: &TraceItem,
-    ) -> Result<(), OutOfMemory> {
+    ) -> Result<(), OutOfMemory>
+        ensures calls { OnOk result (self.new.calls ≡ passed self.old.calls level item.now) }
+        ensures symbols { OnOk result (self.new.symbols ≡ with_symbols self.old.symbols (defined_by item.now.line)) }
+        ensures kept { OnOk result (self.new.kept ≡ fold with_first self.old.kept
+            (of_point texts.now definitions.now (P.members present.now) (met_with self.old.calls self.old.symbols level item.now) item.now)) }
+    {
         self.calls.meet(alloc, level, item)?;
         let Some(call) = self.calls.at(level) else {
             return Ok(());
@@ -58,7 +74,7 @@ impl Walk {
             texts,
             definitions,
             present,
-            met,
+            &met,
             item,
             &mut self.kept,
         )?;
@@ -78,6 +94,7 @@ pub fn occurrences<P: Present>(
     present: &P,
 ) -> Result<Standing, OutOfMemory>
     requires live { IsLive arena.now.nodes root.0 }
+    ensures { IfOk result (λ kept. kept ≡ occurrences_of texts.now definitions.now (P.members present.now) (points arena.now.nodes root.0)) }
 {
     let mut walk = Walk::new(alloc);
     let Some(mut cursor) = Cursor::at(arena, root, 0) else {

@@ -4,6 +4,7 @@ ghost use Rattle.std.specs.List.{All, fold};
 ghost use Rattle.hlasm_statements.specs.Statements.{places};
 ghost use Rattle.standing_occurrences.specs.Standing.{with_first};
 ghost use Rattle.statement_occurrences.specs.Named as named;
+ghost use Rattle.statement_occurrences.specs.Views.{circumstances_of};
 
 use crate::naming::{Naming, naming};
 use crate::surroundings::Surroundings;
@@ -45,7 +46,7 @@ fn push_occurrence(
     kept: &mut Standing,
 ) -> Result<(), OutOfMemory>
     requires { name.now.at < length (places statement.now name.now.field) }
-    ensures { OnOk result (kept.new ≡ fold with_first kept.old (named.of_name s.now path statement.now earlier.now name.now)) }
+    ensures { OnOk result (kept.new ≡ fold with_first kept.old (named.of_name (circumstances_of s.now) path statement.now earlier.now name.now)) }
 {
     match naming(s, earlier, name) {
         Some(naming) => kept.push(occurrence_of(path, statement, name, naming)),
@@ -62,7 +63,7 @@ pub fn push_occurrences(
     kept: &mut Standing,
 ) -> Result<(), OutOfMemory>
     requires { All (λ name. name.at < length (places statement.now name.field)) names.now }
-    ensures { OnOk result (kept.new ≡ fold with_first kept.old (named.of_names s.now path statement.now [] names.now)) }
+    ensures { OnOk result (kept.new ≡ fold with_first kept.old (named.of_names (circumstances_of s.now) path statement.now [] names.now)) }
 {
     for (at, name) in names.iter().enumerate() {
         push_occurrence(s, path, statement, &names[..at], name, kept)?;

@@ -3,6 +3,7 @@ ghost use Rattle.std.specs.Prelude.{◌≡◌};
 ghost use Rattle.std.specs.Option.{option_copied};
 ghost use Rattle.variable_meanings.specs.Meanings.{own_scope};
 ghost use Rattle.statement_occurrences.specs.Named as named;
+ghost use Rattle.statement_occurrences.specs.Views.{circumstances_of};
 
 use crate::surroundings::Surroundings;
 use crate::variable::variable;
@@ -52,7 +53,7 @@ fn is_found(list: Option<&Listing>, name: &Name) -> bool
 
 /// An ordinary symbol in the operands.
 fn symbol(s: &Surroundings<'_>, name: &Name) -> Option<Naming>
-    ensures { result ≡ named.symbol s.now name.now }
+    ensures { result ≡ named.symbol (circumstances_of s.now) name.now }
 {
     match s.item.line {
         Some(_) => plainly(Entity::Symbol(name.copy()), false),
@@ -72,9 +73,9 @@ fn is_this(name: &Name, other: &Option<Name>) -> bool
 
 /// A label that is an ordinary symbol.
 fn label(s: &Surroundings<'_>, name: &Name) -> Option<Naming>
-    ensures { result ≡ named.label s.now name.now }
+    ensures { result ≡ named.label (circumstances_of s.now) name.now }
 {
-    if is_this(name, &s.first) {
+    if is_this(name, s.first) {
         return plainly(Entity::Symbol(name.copy()), true);
     }
     None
@@ -82,7 +83,7 @@ fn label(s: &Surroundings<'_>, name: &Name) -> Option<Naming>
 
 /// A sequence symbol that is the label.
 fn sequence_label(s: &Surroundings<'_>, name: &Name) -> Option<Naming>
-    ensures { result ≡ named.sequence_label s.now name.now }
+    ensures { result ≡ named.sequence_label (circumstances_of s.now) name.now }
 {
     plainly(
         Entity::Sequence(own_scope(s.item.definition), name.copy()),
@@ -92,7 +93,7 @@ fn sequence_label(s: &Surroundings<'_>, name: &Name) -> Option<Naming>
 
 /// A sequence symbol that is branched to.
 fn sequence_reference(s: &Surroundings<'_>, name: &Name) -> Option<Naming>
-    ensures { result ≡ named.sequence_reference s.now name.now }
+    ensures { result ≡ named.sequence_reference (circumstances_of s.now) name.now }
 {
     if is_found(s.list, name) {
         return plainly(
@@ -129,7 +130,7 @@ pub(crate) fn naming(
     earlier: &[WrittenName],
     name: &WrittenName,
 ) -> Option<Naming>
-    ensures { result ≡ named.naming name.now.kind s.now earlier.now name.now }
+    ensures { result ≡ named.naming name.now.kind (circumstances_of s.now) earlier.now name.now }
 {
     match name.kind {
         NameKind::Variable => variable(s, earlier, name),

@@ -17,7 +17,7 @@ pub struct Surroundings<'a> {
     pub item: &'a TraceItem,
 
     /// The symbol that its label defines first of all.
-    pub first: Option<Name>,
+    pub first: &'a Option<Name>,
 
     /// The file of the member that it copies.
     pub member: Option<PathId>,

@@ -2,6 +2,7 @@
 ghost use Rattle.std.specs.Prelude.{◌≡◌};
 ghost use Rattle.std.specs.List.{list_any};
 ghost use Rattle.statement_occurrences.specs.Named as named;
+ghost use Rattle.statement_occurrences.specs.Views.{circumstances_of};
 
 use crate::naming::Naming;
 use crate::surroundings::Surroundings;
@@ -56,7 +57,7 @@ pub(crate) fn variable(
     earlier: &[WrittenName],
     name: &WrittenName,
 ) -> Option<Naming>
-    ensures { result ≡ named.variable s.now earlier.now name.now }
+    ensures { result ≡ named.variable (circumstances_of s.now) earlier.now name.now }
 {
     match s.call.meaning_at(name.field, name.at, s.item, &name.name) {
         Some(meaning) => Some(Naming {
