@@ -2,7 +2,7 @@
 -- what is found under the names of members (this project).
 use Rattle.std.specs.Prelude.{ℕ, List, [], ◌∷◌, ◌++◌, length}
 use Rattle.std.specs.List.{flat_map}
-use Rattle.defined_symbols.specs.Symbols.{defined_by, first_in}
+use Rattle.defined_symbols.specs.Symbols.{defined_by, first_in, with_symbols}
 use Rattle.running_calls.specs.Calls.{running, variables_at}
 use Rattle.standing_occurrences.specs.Standing.{standing}
 use Rattle.text_lists.specs.Definitions.{Defined}
@@ -14,9 +14,9 @@ use Rattle.trace_values.specs.declared.occurrence.Occurrence.{Occurrence}
 use Rattle.trace_variables.specs.Calls.{done_before}
 use Rattle.program_occurrences.specs.Occurrences.{Situation, of_point}
 
--- the symbols that the statements of these points define
+-- the symbols that the statements of these points define, each once
 abbrev pub symbols_of : List (Point TraceItem) → List (List ℕ)
-symbols_of points = flat_map (λ point. defined_by point.item.line) points
+symbols_of points = with_symbols [] (flat_map (λ point. defined_by point.item.line) points)
 
 -- what is known where a point is met behind these points
 abbrev pub situation : (before : List (Point TraceItem)) → Point TraceItem → Situation

@@ -42,9 +42,13 @@ parameter origin name = record { entity = entity.Variable (Definition origin) na
 abbrev pub operation : Origin → List ℕ → Naming
 operation origin name = record { entity = entity.Macro origin name; defines = true; role = role.Plain }
 
+-- what a variable symbol defines there, if it defines something
+abbrev pub variable : Origin → List (List ℕ) → WrittenName → Option Naming
+variable origin operands name = if begins_entry operands name then Some (parameter origin name.name) else None
+
 -- what a name of a kind defines there, if it defines something
 abbrev pub naming_as : NameKind → Origin → List (List ℕ) → WrittenName → Option Naming
-naming_as kind.Variable origin operands name = if begins_entry operands name then Some (parameter origin name.name) else None
+naming_as kind.Variable origin operands name = variable origin operands name
 naming_as kind.Operation origin operands name = Some (operation origin name.name)
 naming_as other origin operands name = None
 

@@ -17,28 +17,44 @@ use std::alloc::Global;
 use text_lists::TextLists;
 use trace_values::{Entity, Role, Scope};
 
+/// Where the operand behind one and a comma begins.
+fn next_place(at: u32, text: &str) -> Result<u32, OutOfMemory>
+    ensures { IfOk result (λ next. next ≡ at + (length (chars text.now) + 1)) }
+{
+    let Ok(count) = u32::try_from(text.chars().count()) else {
+        return Err(OutOfMemory);
+    };
+    let Some(end) = at.checked_add(count) else {
+        return Err(OutOfMemory);
+    };
+    match end.checked_add(1) {
+        Some(next) => Ok(next),
+        None => Err(OutOfMemory),
+    }
+}
+
 /// Whether one of some operands, of which the first begins a field and a comma stands between each two, begins behind so many
 /// characters of the field.
-fn begins_operand(operands: &[Text], at: u32) -> bool
-    ensures { result ≡ prototypes.begins_operand 0 operands.now at }
+fn begins_operand(operands: &[Text], at: u32) -> Result<bool, OutOfMemory>
+    ensures { IfOk result (λ begins. begins ≡ prototypes.begins_operand 0 operands.now at) }
 {
-    let mut place: u64 = 0;
+    let mut place: u32 = 0;
     for operand in operands {
-        if place == u64::from(at) {
-            return true;
+        if place == at {
+            return Ok(true);
         }
-        place = place.saturating_add(operand.as_str().chars().count() as u64 + 1);
+        place = next_place(place, operand.as_str())?;
     }
-    false
+    Ok(false)
 }
 
 /// Whether a name begins the name entry or an operand of a prototype.
-fn begins_entry(operands: &[Text], name: &WrittenName) -> bool
-    ensures { result ≡ prototypes.begins_entry operands.now name.now }
+fn begins_entry(operands: &[Text], name: &WrittenName) -> Result<bool, OutOfMemory>
+    ensures { IfOk result (λ begins. begins ≡ prototypes.begins_entry operands.now name.now) }
 {
     match name.field {
-        Field::Label => name.at == 0,
-        Field::Op => false,
+        Field::Label => Ok(name.at == 0),
+        Field::Op => Ok(false),
         Field::Operands => begins_operand(operands, name.at),
     }
 }
@@ -65,19 +81,36 @@ fn operation(origin: Origin, name: &Name) -> Naming
     }
 }
 
+/// What a variable symbol of a prototype defines, if it defines something.
+fn variable(
+    origin: Origin,
+    operands: &[Text],
+    name: &WrittenName,
+) -> Result<Option<Naming>, OutOfMemory>
+    ensures { IfOk result (λ naming. naming ≡ prototypes.variable origin operands.now name.now) }
+{
+    if begins_entry(operands, name)? {
+        return Ok(Some(parameter(origin, &name.name)));
+    }
+    Ok(None)
+}
+
 /// What a name of a prototype defines, if it defines something.
-fn naming(origin: Origin, operands: &[Text], name: &WrittenName) -> Option<Naming>
-    ensures { result ≡ prototypes.naming origin operands.now name.now }
+fn naming(
+    origin: Origin,
+    operands: &[Text],
+    name: &WrittenName,
+) -> Result<Option<Naming>, OutOfMemory>
+    ensures { IfOk result (λ naming. naming ≡ prototypes.naming origin operands.now name.now) }
 {
     match name.kind {
-        NameKind::Variable => {
-            if begins_entry(operands, name) {
-                return Some(parameter(origin, &name.name));
-            }
-            None
-        }
-        NameKind::Operation => Some(operation(origin, &name.name)),
-        _ => None,
+        NameKind::Variable => variable(origin, operands, name),
+        NameKind::Operation => Ok(Some(operation(origin, &name.name))),
+        NameKind::Symbol => Ok(None),
+        NameKind::Label => Ok(None),
+        NameKind::SequenceLabel => Ok(None),
+        NameKind::SequenceReference => Ok(None),
+        NameKind::Member => Ok(None),
     }
 }
 
@@ -92,7 +125,7 @@ fn push_name(
     requires { name.now.at < length (places statement.now name.now.field) }
     ensures { OnOk result (kept.new ≡ fold with_first kept.old (prototypes.of_name origin statement.now operands.now name.now)) }
 {
-    match naming(origin, operands, name) {
+    match naming(origin, operands, name)? {
         Some(naming) => kept.push(occurrence_of(origin.path, statement, name, naming)),
         None => Ok(()),
     }
