@@ -26,7 +26,10 @@ held-within calls (suc n) zero x above = absurd (omega arith)
 held-within [] (suc n) (suc level) x above = held-within [] n level x (omega arith)
 held-within (c ∷ cs) (suc n) (suc level) x above = held-within cs n level x (omega arith)
 
-nones : (n : ℕ) → replicate n (None {A = RunningCall}) ≡ outside [] n
+abbrev nothing : Option RunningCall
+nothing = None
+
+nones : (n : ℕ) → replicate n nothing ≡ outside [] n
 nones zero = refl
 nones (suc n) = ap (λ (rest : List (Option RunningCall)). None ∷ rest) (nones n)
 
@@ -34,7 +37,7 @@ padded-none : (n : ℕ) → padded n (take n []) ≡ outside [] n
 padded-none zero = refl
 padded-none (suc n) =
     let all : suc n - 0 ≡ suc n = omega arith in
-    ap (λ (k : ℕ). replicate k (None {A = RunningCall})) all ∙ nones (suc n)
+    ap (λ (k : ℕ). replicate k nothing) all ∙ nones (suc n)
 
 -- the front of the calls with none for each level that has none
 pub padded-take : (calls : List (Option RunningCall)) (n : ℕ) → padded n (take n calls) ≡ outside calls n
@@ -42,7 +45,7 @@ padded-take [] n = padded-none n
 padded-take (c ∷ cs) zero = refl
 padded-take (c ∷ cs) (suc n) =
     let left : suc n - suc (length (take n cs)) ≡ n - length (take n cs) = omega arith in
-    ap (λ (k : ℕ). c ∷ (take n cs ++ replicate k None)) left ∙ ap (λ (rest : List (Option RunningCall)). c ∷ rest) (padded-take cs n)
+    ap (λ (k : ℕ). c ∷ (take n cs ++ replicate k nothing)) left ∙ ap (λ (rest : List (Option RunningCall)). c ∷ rest) (padded-take cs n)
 
 -- ---- the call of a level, where the calls were cut behind it
 

@@ -30,7 +30,7 @@ with_list texts path list = if is_some (list_of texts path) then texts else text
 
 -- whether a statement begins in a line
 abbrev pub begins_in : (line : ℕ) → Listed → Bool
-begins_in line one = one.origin.line == line
+begins_in line one = line == one.origin.line
 
 -- the number of the first statement that begins in a line, from 0
 abbrev pub number_in : (line : ℕ) → List Listed → Option ℕ
