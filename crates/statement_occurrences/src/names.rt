@@ -6,7 +6,7 @@ ghost use Rattle.standing_occurrences.specs.Standing.{with_first};
 ghost use Rattle.statement_occurrences.specs.Named as named;
 ghost use Rattle.statement_occurrences.specs.Views.{circumstances_of};
 
-use crate::naming::{Naming, naming};
+use crate::naming::{Naming, naming_of};
 use crate::surroundings::Surroundings;
 use hl_base::{OutOfMemory, PathId};
 use hlasm_statements::Statement;
@@ -48,7 +48,7 @@ fn push_occurrence(
     requires { name.now.at < length (places statement.now name.now.field) }
     ensures { OnOk result (kept.new ≡ fold with_first kept.old (named.of_name (circumstances_of s.now) path statement.now earlier.now name.now)) }
 {
-    match naming(s, earlier, name) {
+    match naming_of(s, earlier, name) {
         Some(naming) => kept.push(occurrence_of(path, statement, name, naming)),
         None => Ok(()),
     }

@@ -125,7 +125,7 @@ fn member(file: Option<PathId>) -> Option<Naming>
 }
 
 /// What a name names in a statement in which these names stand before it, if it names something.
-pub(crate) fn naming(
+pub(crate) fn naming_of(
     s: &Surroundings<'_>,
     earlier: &[WrittenName],
     name: &WrittenName,
