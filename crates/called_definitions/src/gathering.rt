@@ -25,7 +25,7 @@ fn add_definition<P: Present>(
     known: &mut DefinitionLists,
 ) -> Result<(), OutOfMemory>
     requires { AreFound (P.members present.now) members.old }
-    ensures found { AreFound (P.members present.now) members.new }
+    ensures found { OnOk result (AreFound (P.members present.now) members.new) }
     ensures known { OnOk result (known.new ≡ called.with_definition texts.now (P.members present.now) known.old definition) }
 {
     let Some(origin) = definition else {

@@ -1,7 +1,7 @@
 //! Members as definitions are told of them.
-ghost use Rattle.std.specs.Prelude.{◌≡◌, List, ℕ, IfOk, OnOk};
+ghost use Rattle.std.specs.Prelude.{◌≡◌, IfOk, OnOk};
 ghost use Rattle.text_pool.specs.Members as found;
-ghost use Rattle.macro_library.specs.Members as library;
+ghost use Rattle.text_pool.specs.Pool.{IsLive, text_of};
 ghost use Rattle.called_definitions.specs.Readings.{told_as};
 ghost use Rattle.called_definitions.specs.Told.{AreFound};
 
@@ -43,7 +43,7 @@ pub(crate) fn tell<P: Present>(
     members: &mut Members,
 ) -> Result<(), OutOfMemory>
     requires { AreFound (P.members present.now) members.old }
-    ensures found { AreFound (P.members present.now) members.new }
+    ensures { OnOk result (AreFound (P.members present.now) members.new) }
 {
     let member = member_of(alloc, present, name)?;
     members.add(alloc, name, member)

@@ -1,5 +1,5 @@
 //! Reading a definition by the place of its prototype.
-ghost use Rattle.std.specs.Prelude.{◌≡◌, IfOk};
+ghost use Rattle.std.specs.Prelude.{◌≡◌, ◌+◌, [], drop, IfOk, OnOk};
 ghost use Rattle.called_definitions.specs.Readings as readings;
 ghost use Rattle.called_definitions.specs.Told.{AreFound};
 
@@ -11,6 +11,13 @@ use std::alloc::Global;
 use text_lists::TextLists;
 use text_pool::Present;
 
+/// No statement.
+fn nothing(alloc: Global) -> Result<Listing, OutOfMemory>
+    ensures { IfOk result (λ made. made ≡ []) }
+{
+    Listing::of_lines(alloc, Vec::new(alloc))
+}
+
 /// The statements of the definition whose prototype is behind the line of a number in a list; none where it is refused. `members`
 /// takes what is told of members, also for definitions that are read later.
 fn read_list<P: Present>(
@@ -21,25 +28,18 @@ fn read_list<P: Present>(
     members: &mut Members,
 ) -> Result<Listing, OutOfMemory>
     requires { AreFound (P.members present.now) members.old }
-    ensures found { AreFound (P.members present.now) members.new }
-    ensures list { IfOk result (λ made. made ≡ readings.list_from (readings.told_by (P.members present.now)) list.now (before + 1)) }
+    ensures found { OnOk result (AreFound (P.members present.now) members.new) }
+    ensures list { IfOk result (λ made. made ≡ readings.list_in (readings.told_by (P.members present.now)) (drop (before + 1) list.now)) }
 {
     for _ in 0..u64::MAX {
         match read_definition(alloc, list, before, members) {
             Ok(definition) => return definition.list().share(),
             Err(DefFault::Asks(name)) => tell(alloc, present, &name, members)?,
             Err(DefFault::OutOfMemory) => return Err(OutOfMemory),
-            Err(_) => return Listing::of_lines(alloc, Vec::new(alloc)),
+            Err(_) => return nothing(alloc),
         }
     }
     Err(OutOfMemory)
-}
-
-/// No statement.
-fn nothing(alloc: Global) -> Result<Listing, OutOfMemory>
-    ensures { IfOk result (λ made. made ≡ []) }
-{
-    Listing::of_lines(alloc, Vec::new(alloc))
 }
 
 /// The statements of the definition whose prototype stands at a place, and none where it is refused.
@@ -51,7 +51,7 @@ pub(crate) fn list_at<P: Present>(
     members: &mut Members,
 ) -> Result<Listing, OutOfMemory>
     requires { AreFound (P.members present.now) members.old }
-    ensures found { AreFound (P.members present.now) members.new }
+    ensures found { OnOk result (AreFound (P.members present.now) members.new) }
     ensures list { IfOk result (λ made. made ≡ readings.list_at texts.now (P.members present.now) origin) }
 {
     let (Some(list), Some(number)) = (texts.list_of(origin.path), texts.number_at(origin)) else {
