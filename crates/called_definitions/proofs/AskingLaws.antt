@@ -1,8 +1,8 @@
 -- What a definition comes to where more is told of members: all that it came to without a question.
-use Rattle.std.proofs.Common.{◌≡◌, ◌∙◌, ℕ, zero, suc, Bool, true, false, cond, List, [], ◌∷◌, ◌++◌, Option, Some, None, Result, Ok, Err, refl, sym, ap, subst, absurd, is_some}
-use Rattle.std.specs.Prelude.{drop}
+use Rattle.std.proofs.Common.{◌≡◌, ◌∙◌, ◌+◌, ℕ, zero, suc, Bool, true, false, cond, List, [], ◌∷◌, ◌++◌, Option, Some, None, Result, Ok, Err, refl, sym, ap, subst, is_some}
+use Rattle.std.specs.Prelude.{drop, IfOk, OnOk}
 use Rattle.macro_binding.specs.Prototypes.{Prototype}
-use Rattle.macro_library.specs.Definitions.{Definition, Met, stays, replaced, fails, and_behind, and_line, behind_met, begun_with, copied_at, deepest, defined, definition_of, ending, is_open, lines_met, met_at, met_behind, met_in, met_in_member, met_in_told, most_statements, prototype_at, with_lines, with_prototype}
+use Rattle.macro_library.specs.Definitions.{Definition, IsFault, Met, stays, replaced, fails, and_behind, and_line, behind_met, begun_with, copied_at, deepest, defined, definition_of, ending, is_open, lines_met, met_at, met_behind, met_in, met_in_member, met_in_told, most_statements, prototype_at, with_lines, with_prototype}
 use Rattle.macro_library.specs.Extents.{Headed, behind, extent, headed, line_count}
 use Rattle.macro_library.specs.Members.{Told, lines_of, member_of}
 use Rattle.macro_library.specs.declared.fault.DefFault.{DefFault}
@@ -81,8 +81,8 @@ told_lead here there name (Some Unreadable) more tells inside =
 told_lead here there name (Some (File file)) more tells inside =
     subst (λ (m : Option Member). Leads (here (lines_of (File file))) (met_in_told there name m)) (sym (tells (File file) refl)) (inside (lines_of (File file)))
 
-cycle_lead : (open : Bool) (name : List ℕ) (here there : List Met) → Leads here there →
-    Leads (cond open (fails (CopyCycle name) ∷ []) here) (cond open (fails (CopyCycle name) ∷ []) there)
+cycle_lead : (nests : Bool) (name : List ℕ) (here there : List Met) → Leads here there →
+    Leads (cond nests (fails (CopyCycle name) ∷ []) here) (cond nests (fails (CopyCycle name) ∷ []) there)
 cycle_lead true name here there lead = same_lead _
 cycle_lead false name here there lead = lead
 
@@ -139,3 +139,29 @@ pub definition_said : (members : List Told) (more : List ℕ → Option Member) 
 definition_said members more tells list before is =
     let rest : List Listed = drop (before + 1) list in
     begun_said members more tells (is_some (line_count 0 rest)) (headed (extent rest)) is
+
+-- a fault that is no question, and no want of memory
+pub refused_said : (wanted : Result Definition DefFault) (fault : DefFault) → IsFault wanted fault → ((name : List ℕ) → fault ≡ Asks name → ⊥) → (fault ≡ OutOfMemory → ⊥) →
+    IsRead wanted × (said wanted ≡ [])
+refused_said wanted NoMend is asked full = (subst IsRead (sym is) tt, ap said is)
+refused_said wanted BadPrototype is asked full = (subst IsRead (sym is) tt, ap said is)
+refused_said wanted (CopyAbsent name) is asked full = (subst IsRead (sym is) tt, ap said is)
+refused_said wanted (CopyUnreadable name) is asked full = (subst IsRead (sym is) tt, ap said is)
+refused_said wanted (CopyCycle name) is asked full = (subst IsRead (sym is) tt, ap said is)
+refused_said wanted (TooLong name) is asked full = (subst IsRead (sym is) tt, ap said is)
+refused_said wanted (Asks name) is asked full = absurd (asked name refl)
+refused_said wanted OutOfMemory is asked full = absurd (full refl)
+
+-- ---- answers
+
+pub on_ok : {V E : Type 0} (r : Result V E) (P Q : Type 0) → (P → Q) → OnOk r P → OnOk r Q
+on_ok (Ok v) P Q f h = f h
+on_ok (Err e) P Q f h = tt
+
+pub if_ok : {V E : Type 0} (r : Result V E) (P Q : V → Type 0) → ((v : V) → P v → Q v) → IfOk r P → IfOk r Q
+if_ok (Ok v) P Q f h = f v h
+if_ok (Err e) P Q f h = tt
+
+pub always_ok : {V E : Type 0} (r : Result V E) (P : Type 0) → P → OnOk r P
+always_ok (Ok v) P h = h
+always_ok (Err e) P h = tt

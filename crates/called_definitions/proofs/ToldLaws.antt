@@ -4,10 +4,17 @@ use Rattle.std.specs.List.{find}
 use Rattle.std.specs.Option.{option_map}
 use Rattle.std.specs.Str.{bytes_eq}
 use Rattle.std.proofs.lemmas.Slice.Eq.{bytes_eq-Decides}
+use Rattle.hl_base.specs.declared.place.PathId.{PathId}
+use Rattle.hl_base.specs.declared.place.TextId.{TextId}
+use Rattle.hl_base.specs.declared.set.Answer.{Answer}
+use Rattle.hl_base.specs.declared.set.Answer.TheVariants as answer
+use Rattle.macro_library.specs.Files as files
 use Rattle.macro_library.specs.Members.{Told, member_in, member_of, with_member}
 use Rattle.macro_library.specs.declared.member.Member.{Member}
+use Rattle.macro_library.specs.declared.member.Member.TheVariants.{Absent, Unreadable, File}
 use Rattle.statement_listing.specs.Listings.{Listed}
 use Rattle.text_pool.specs.Members as members
+use Rattle.text_pool.specs.Pool.{Pool, IsLive, text_of}
 use Rattle.called_definitions.specs.Readings.{list_from, list_in, told_as, told_by}
 use Rattle.called_definitions.specs.Told.{AreFound}
 use Rattle.called_definitions.proofs.AskingLaws.{TellsMore}
@@ -76,3 +83,48 @@ pub list_before : (told : List ℕ → Option Member) (list : List Listed) (numb
     list_in told (drop ((number - 1) + 1) list) ≡ list_from told list number
 list_before told list zero some = absurd (some refl)
 list_before told list (suc before) some = let same : (suc before - 1) + 1 ≡ suc before = omega arith in ap (λ (n : ℕ). list_in told (drop n list)) same
+
+-- ---- what an answer tells
+
+-- a file as it is told
+pub file_told : (file : files.File) (path : PathId) (text : List ℕ) → file.path ≡ path → file.text ≡ text → File file ≡ told_as (members.File path.0 text)
+file_told file path text same_path same_text = λ i. File (record { path = same_path i; text = same_text i })
+
+-- a file is answered: its text is live, and it is what is found
+pub answered_live : (pool : Pool) (m : members.Member) (path : PathId) (text : TextId) → members.Tells pool m (answer.File path text) → IsLive pool text.0
+answered_live pool members.Absent path text told = absurd told
+answered_live pool members.Unreadable path text told = absurd told
+answered_live pool (members.File at characters) path text told = told.1.live
+
+pub answered_file : (pool : Pool) (m : members.Member) (path : PathId) (text : TextId) → members.Tells pool m (answer.File path text) →
+    told_as (members.File path.0 (text_of pool text.0)) ≡ told_as m
+answered_file pool members.Absent path text told = absurd told
+answered_file pool members.Unreadable path text told = absurd told
+answered_file pool (members.File at characters) path text told =
+    ap (λ (n : ℕ). told_as (members.File n (text_of pool text.0))) told.0 ∙ ap (λ (cs : List ℕ). told_as (members.File at cs)) told.1.is
+
+pub answered_unreadable : (pool : Pool) (m : members.Member) → members.Tells pool m answer.Unreadable → Unreadable ≡ told_as m
+answered_unreadable pool members.Absent told = absurd told
+answered_unreadable pool members.Unreadable told = refl
+answered_unreadable pool (members.File at characters) told = absurd told
+
+-- any other answer says that there is none
+pub answered_absent : (pool : Pool) (m : members.Member) (given : Answer) → members.Tells pool m given → (given ≡ answer.Unreadable → ⊥) →
+    ((path : PathId) (text : TextId) → given ≡ answer.File path text → ⊥) → Absent ≡ told_as m
+answered_absent pool members.Absent given told readable file = refl
+answered_absent pool members.Unreadable answer.Unreadable told readable file = absurd (readable refl)
+answered_absent pool members.Unreadable answer.Nothing told readable file = absurd told
+answered_absent pool members.Unreadable (answer.Number number) told readable file = absurd told
+answered_absent pool members.Unreadable (answer.Bit bit) told readable file = absurd told
+answered_absent pool members.Unreadable (answer.Chars chars) told readable file = absurd told
+answered_absent pool members.Unreadable answer.Defined told readable file = absurd told
+answered_absent pool members.Unreadable (answer.File path text) told readable file = absurd told
+answered_absent pool members.Unreadable (answer.Meaning attr) told readable file = absurd told
+answered_absent pool (members.File at text) (answer.File path id) told readable file = absurd (file path id refl)
+answered_absent pool (members.File at text) answer.Nothing told readable file = absurd told
+answered_absent pool (members.File at text) (answer.Number number) told readable file = absurd told
+answered_absent pool (members.File at text) (answer.Bit bit) told readable file = absurd told
+answered_absent pool (members.File at text) (answer.Chars chars) told readable file = absurd told
+answered_absent pool (members.File at text) answer.Defined told readable file = absurd told
+answered_absent pool (members.File at text) answer.Unreadable told readable file = absurd told
+answered_absent pool (members.File at text) (answer.Meaning attr) told readable file = absurd told

@@ -21,7 +21,8 @@ fn file_of(
     ensures { IfOk result (λ member. member ≡ told_as (found.File path.0 (text_of pool.now text.0))) }
 {
     let text = pool.shared(alloc, text)?;
-    Ok(Member::File(MemberFile::of(alloc, path, text)?))
+    let file = MemberFile::of(alloc, path, text)?;
+    Ok(Member::File(file))
 }
 
 /// What is found under a name.

@@ -34,9 +34,11 @@ fn read_list<P: Present>(
     for _ in 0..u64::MAX {
         match read_definition(alloc, list, before, members) {
             Ok(definition) => return definition.list().share(),
-            Err(DefFault::Asks(name)) => tell(alloc, present, &name, members)?,
-            Err(DefFault::OutOfMemory) => return Err(OutOfMemory),
-            Err(_) => return nothing(alloc),
+            Err(fault) => match fault {
+                DefFault::Asks(name) => tell(alloc, present, &name, members)?,
+                DefFault::OutOfMemory => return Err(OutOfMemory),
+                _ => return nothing(alloc),
+            },
         }
     }
     Err(OutOfMemory)
