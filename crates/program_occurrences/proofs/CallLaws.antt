@@ -29,7 +29,7 @@ calls-alike texts f g count statement None alike = refl
 calls-alike texts f g count statement (Some name) alike =
     ap (λ found. cond (has_ampersand statement.label) (label_found texts name found) []) (labelled-alike texts name f g count alike)
 
-abbrev at_point : (ℕ → Option RunningCall) → ℕ → Call → Option (List ℕ) → Situation
+abbrev pub at_point : (ℕ → Option RunningCall) → ℕ → Call → Option (List ℕ) → Situation
 at_point calls level variables first = record { calls = calls; level = level; variables = variables; first = first }
 
 line-alike : (texts : List Source) (definitions : List Defined) (members : List ℕ → Member) (f g : ℕ → Option RunningCall) (level : ℕ) (variables : Call)

@@ -9,7 +9,7 @@ use Rattle.std.proofs.lemmas.Grind.{flat_map-append}
 use Rattle.std.proofs.lemmas.List.Sums.{fold-append}
 use Rattle.std.proofs.lemmas.Option.{none-some}
 use Rattle.defined_symbols.specs.Symbols.{defined_by, first_in, with_symbol, with_symbols}
-use Rattle.running_calls.proofs.CallLaws.{held-inside}
+use Rattle.running_calls.proofs.CallLaws.{held-here, held-inside}
 use Rattle.running_calls.proofs.DoneLaws.{follows-on}
 use Rattle.running_calls.specs.Calls.{Follows, held, met, passed, reached, running, variables_or}
 use Rattle.running_calls.specs.declared.calls.RunningCall.{RunningCall}
@@ -22,7 +22,7 @@ use Rattle.trace_arena.specs.Points.{Point}
 use Rattle.trace_values.specs.declared.item.TraceItem.{TraceItem}
 use Rattle.trace_values.specs.declared.occurrence.Occurrence.{Occurrence}
 use Rattle.trace_variables.specs.Calls.{done_before}
-use Rattle.program_occurrences.proofs.CallLaws.{point-alike}
+use Rattle.program_occurrences.proofs.CallLaws.{at_point, point-alike}
 use Rattle.program_occurrences.specs.Met.{met_with}
 use Rattle.program_occurrences.specs.Occurrences.{of_point}
 use Rattle.program_occurrences.specs.Programs.{occurrences_of, of_points, situation, symbols_of}
@@ -169,3 +169,20 @@ all-kept texts definitions members points k calls symbols kept all is =
 pub step-index : (b : Bool) (new old i n m : ℕ) → OnTrue b (new ≡ old + 1) → OnFalse b (m ≡ old + 1) → m ≡ n → old ≡ i → i + 1 < n → new ≡ i + 1
 step-index true new old i n m next last same is lt = let on = OnTrue_at refl next in omega arith
 step-index false new old i n m next last same is lt = let on = OnFalse_at refl last in absurd (omega arith)
+
+some_same : {X : Type 0} (x y : X) → Some x ≡ Some y → x ≡ y
+some_same x y is = cc
+
+-- what is known at a point that is met, by the calls with it
+pub met-is : (calls new : List (Option RunningCall)) (symbols : List (List ℕ)) (level : ℕ) (item : TraceItem) (call : RunningCall) (first : Option (List ℕ)) →
+    new ≡ met calls level item → Some call ≡ held new level → first ≡ first_in symbols item.line →
+    at_point (held new) level call.variables first ≡ met_with calls symbols level item
+met-is calls new symbols level item call first is there first_is =
+    let call_is : call ≡ reached (held calls level) item =
+    some_same call (reached (held calls level) item) (there ∙ ap (λ (c : List (Option RunningCall)). held c level) is ∙ held-here calls level (reached (held calls level) item)) in
+    λ i. record { calls = held (is i); level = level; variables = (call_is i).variables; first = first_is i }
+
+-- a call of the level is there
+pub met-there : (calls new : List (Option RunningCall)) (level : ℕ) (item : TraceItem) → new ≡ met calls level item → None ≡ held new level → ⊥
+met-there calls new level item is none =
+    none-some (reached (held calls level) item) (none ∙ ap (λ (c : List (Option RunningCall)). held c level) is ∙ held-here calls level (reached (held calls level) item))
