@@ -1,0 +1,3 @@
+pub mod NumberLaws
+pub mod TextLaws
+pub mod WholeLaws
