@@ -1,77 +1,66 @@
 //! Reading a definition by the place of its prototype.
-use hl_base::{Answer, Name, Origin, OutOfMemory};
-use hlasm_statements::Shape;
-use macro_library::{DefFault, Member, MemberFile, Members, read_definition};
-use statement_listing::{Line, Listing};
+ghost use Rattle.std.specs.Prelude.{◌≡◌, ◌+◌, [], drop, IfOk, OnOk};
+ghost use Rattle.called_definitions.specs.Readings as readings;
+ghost use Rattle.called_definitions.specs.Told.{AreFound};
+
+use crate::member::tell;
+use hl_base::{Origin, OutOfMemory};
+use macro_library::{DefFault, Members, read_definition};
+use statement_listing::Listing;
 use std::alloc::Global;
 use text_lists::TextLists;
 use text_pool::Present;
 
-/// How many members a definition may ask for: each takes a statement of it.
-const MOST_MEMBERS: u32 = 65_536;
-
-/// The member of a name.
-fn member_of<P: Present>(alloc: Global, present: &P, name: &Name) -> Result<Member, OutOfMemory> {
-    match present.member(name) {
-        Answer::File(path, text) => {
-            let text = present.pool().shared(alloc, text)?;
-            Ok(Member::File(MemberFile::of(alloc, path, text)?))
-        }
-        Answer::Unreadable => Ok(Member::Unreadable),
-        _ => Ok(Member::Absent),
-    }
+/// No statement.
+fn nothing(alloc: Global) -> Result<Listing, OutOfMemory>
+    ensures { IfOk result (λ made. made ≡ []) }
+{
+    Listing::of_lines(alloc, Vec::new(alloc))
 }
 
-/// The number of the MACRO before the prototype of a number, which is the last statement before it that is processed.
-fn macro_before(list: &Listing, prototype: u32) -> Option<u32> {
-    let lines = list.lines();
-    if prototype as usize > lines.len() {
-        return None;
-    }
-    let mut number = prototype;
-    while number > 0 {
-        number -= 1;
-        if matches!(lines[number as usize].statement().shape, Shape::Plain) {
-            return Some(number);
-        }
-    }
-    None
-}
-
-/// The statements of the definition that begins at the MACRO of a number in a list, if it is there as a whole.
+/// The statements of the definition whose prototype is behind the line of a number in a list; none where it is refused. `members`
+/// takes what is told of members, also for definitions that are read later.
 fn read_list<P: Present>(
     alloc: Global,
     present: &P,
     list: &Listing,
-    start: u32,
-) -> Result<Option<Listing>, OutOfMemory> {
-    let mut members = Members::new(alloc);
-    for _ in 0..MOST_MEMBERS {
-        match read_definition(alloc, list, start, &members) {
-            Ok(definition) => return Ok(Some(definition.list().share()?)),
-            Err(DefFault::Asks(name)) => {
-                let member = member_of(alloc, present, &name)?;
-                members.add(alloc, &name, member)?;
-            }
-            Err(DefFault::OutOfMemory) => return Err(OutOfMemory),
-            Err(_) => return Ok(None),
+    before: u32,
+    members: &mut Members,
+) -> Result<Listing, OutOfMemory>
+    requires { AreFound (P.members present.now) members.old }
+    ensures found { OnOk result (AreFound (P.members present.now) members.new) }
+    ensures list { IfOk result (λ made. made ≡ readings.list_in (readings.told_by (P.members present.now)) (drop (before + 1) list.now)) }
+{
+    for _ in 0..u64::MAX {
+        match read_definition(alloc, list, before, members) {
+            Ok(definition) => return definition.list().share(),
+            Err(fault) => match fault {
+                DefFault::Asks(name) => tell(alloc, present, &name, members)?,
+                DefFault::OutOfMemory => return Err(OutOfMemory),
+                _ => return nothing(alloc),
+            },
         }
     }
-    Ok(None)
+    Err(OutOfMemory)
 }
 
-/// The statements of the definition whose prototype stands at a place, if it is there as a whole.
-pub(crate) fn definition_at<P: Present>(
+/// The statements of the definition whose prototype stands at a place, and none where it is refused.
+pub(crate) fn list_at<P: Present>(
     alloc: Global,
     texts: &TextLists,
     present: &P,
     origin: Origin,
-) -> Result<Option<Listing>, OutOfMemory> {
-    let (Some(list), Some(prototype)) = (texts.list_of(origin.path), texts.number_at(origin)) else {
-        return Ok(None);
+    members: &mut Members,
+) -> Result<Listing, OutOfMemory>
+    requires { AreFound (P.members present.now) members.old }
+    ensures found { OnOk result (AreFound (P.members present.now) members.new) }
+    ensures list { IfOk result (λ made. made ≡ readings.list_at texts.now (P.members present.now) origin) }
+{
+    let (Some(list), Some(number)) = (texts.list_of(origin.path), texts.number_at(origin)) else {
+        return nothing(alloc);
     };
-    match macro_before(list, prototype) {
-        Some(start) => read_list(alloc, present, list, start),
-        None => Ok(None),
+    if number == 0 {
+        return nothing(alloc);
     }
+    read_list(alloc, present, list, number - 1, members)
 }

@@ -1,8 +1,8 @@
 -- Each name of a statement begins at a character of its field.
 use Rattle.std.proofs.Common.{◌≡◌, ◌∙◌, ◌+◌, ◌-◌, ◌<◌, ◌≤◌, ◌==◌, ℕ, zero, suc, Bool, true, false, cond, List, [], ◌∷◌, ◌++◌, length, take, drop, Option, Some, None, refl, sym, ap, subst, arith}
-use Rattle.std.specs.List.{All, onto_first}
+use Rattle.std.specs.List.{All, AllByRecursion, onto_first}
 use Rattle.std.proofs.lemmas.List.{length-take, length-drop}
-use Rattle.std.proofs.lemmas.List.Elements.{All-append}
+use Rattle.std.proofs.lemmas.List.Elements.{All-from_recursion}
 use Rattle.hlasm_statements.specs.Statements.{field, places}
 use Rattle.hlasm_statements.specs.declared.statement.Field.{Field}
 use Rattle.hlasm_statements.specs.declared.statement.Field.TheVariants.{Label, Op, Operands}
@@ -13,10 +13,7 @@ use Rattle.statement_names.specs.Names.{name_at, named, name_of, names, names_fr
 use Rattle.statement_names.specs.Operands.{copied_name, each_operand, field_names, has_ampersand, instruction_symbols, member_name, operand_names, operands_names, read_names, variables}
 use Rattle.statement_names.specs.Statements.{label_name, label_names, names_in, operation_names}
 use Rattle.statement_names.specs.declared.name.NameKind.TheVariants as kind
-use Rattle.statement_names.specs.declared.name.Named.{Named}
 use Rattle.statement_names.specs.declared.name.WrittenName.{WrittenName}
-use Rattle.statement_names.specs.declared.scan.Sought.{Sought}
-use Rattle.statement_names.specs.declared.scan.Sought.TheVariants as sought
 use Rattle.statement_names.specs.declared.uses.OperandUse.{OperandUse}
 use Rattle.statement_names.specs.declared.uses.OperandUse.TheVariants.{Remarks, Unread, Expressions, Constants, Instruction, Branches, Member}
 use Rattle.text_lists.specs.Lists.{IsWhole}
@@ -27,25 +24,29 @@ record Stands (one : Field) (n : ℕ) (name : WrittenName) : Type 0 where
   within : name.at < n
 
 abbrev AllStand : Field → ℕ → List WrittenName → Type 0
-AllStand one n names = All (Stands one n) names
+AllStand one n names = AllByRecursion (Stands one n) names
+
+each-append : {X : Type 0} (P : X → Type 0) (xs ys : List X) → AllByRecursion P xs → AllByRecursion P ys → AllByRecursion P (xs ++ ys)
+each-append P [] ys all more = more
+each-append P (x ∷ xs) ys all more = (all.0, each-append P xs ys all.1 more)
 
 -- a text that stands behind so many characters ends with the field
 abbrev Fits : (at : ℕ) → List ℕ → (n : ℕ) → Type 0
 Fits at text n = 0 < length text → at + length text ≤ n
 
-stands_in : (one : Field) (at n : ℕ) (found : Option Named) → at < n → AllStand one n (stands one at found)
+stands_in : (one : Field) (at n : ℕ) (found : _) → at < n → AllStand one n (stands one at found)
 stands_in one at n None within = tt
 stands_in one at n (Some found) within = (record { in_field = refl; within = within }, tt)
 
-from_in : (s : Sought) (one : Field) (at n : ℕ) (before text : List ℕ) → (0 < length text → at + (length before + length text) ≤ n) → AllStand one n (names_from s one at before text)
+from_in : (s : _) (one : Field) (at n : ℕ) (before text : List ℕ) → (0 < length text → at + (length before + length text) ≤ n) → AllStand one n (names_from s one at before text)
 from_in s one at n before [] fits = tt
 from_in s one at n before (c ∷ behind) fits =
     let all : at + (length before + suc (length behind)) ≤ n = fits (omega arith) in
-    All-append (Stands one n) (stands one (at + length before) (name_at s before c behind)) (names_from s one at (c ∷ before) behind)
+    each-append (Stands one n) (stands one (at + length before) (name_at s before c behind)) (names_from s one at (c ∷ before) behind)
     (stands_in one (at + length before) n (name_at s before c behind) (omega arith))
     (from_in s one at n (c ∷ before) behind (λ some. omega arith))
 
-names_fit : (s : Sought) (one : Field) (at n : ℕ) (text : List ℕ) → Fits at text n → AllStand one n (names s one at text)
+names_fit : (s : _) (one : Field) (at n : ℕ) (text : List ℕ) → Fits at text n → AllStand one n (names s one at text)
 unfolding names
 names_fit s one at n text fits = from_in s one at n [] text (λ some. let all = fits some in omega (arith, all))
 
@@ -62,11 +63,11 @@ fits_drop at n k text fits some =
     omega (arith, short, all)
 
 symbols_fit : (at n : ℕ) (text : List ℕ) → Fits at text n → AllStand Operands n (symbols at text)
-symbols_fit at n text fits = names_fit sought.Symbols Operands at n text fits
+symbols_fit at n text fits = names_fit _ Operands at n text fits
 
 apart_fit : (count at n : ℕ) (text : List ℕ) → Fits at text n → AllStand Operands n (apart count at text)
 apart_fit count at n text fits =
-    All-append (Stands Operands n) (symbols at (take count text)) (symbols (at + count) (drop count text))
+    each-append (Stands Operands n) (symbols at (take count text)) (symbols (at + count) (drop count text))
     (symbols_fit at n (take count text) (fits_take at n count text fits))
     (symbols_fit (at + count) n (drop count text) (fits_drop at n count text fits))
 
@@ -88,7 +89,7 @@ constant_fit : (at n : ℕ) (text : List ℕ) → Fits at text n → AllStand Op
 unfolding constant_symbols
 constant_fit at n text fits =
     let count = amount_count text in
-    All-append (Stands Operands n) (symbols at (take count text)) (behind_factor (at + count) (drop count text))
+    each-append (Stands Operands n) (symbols at (take count text)) (behind_factor (at + count) (drop count text))
     (symbols_fit at n (take count text) (fits_take at n count text fits))
     (letters_fit (type_count (drop count text)) (at + count) n (drop count text) (fits_drop at n count text fits))
 
@@ -104,7 +105,7 @@ operand_fit Unread at n text fits = tt
 operand_fit Expressions at n text fits = symbols_fit at n text fits
 operand_fit Constants at n text fits = constant_fit at n text fits
 operand_fit Instruction at n text fits = instruction_fit at n text fits
-operand_fit Branches at n text fits = names_fit sought.Branch Operands at n text fits
+operand_fit Branches at n text fits = names_fit _ Operands at n text fits
 operand_fit Member at n text fits = tt
 
 -- how many characters some operands take, with one more behind each
@@ -115,7 +116,7 @@ spread (text ∷ texts) = (length text + 1) + spread texts
 each_fit : (used : OperandUse) (at n : ℕ) (texts : List (List ℕ)) → at + spread texts ≤ n + 1 → AllStand Operands n (each_operand used at texts)
 each_fit used at n [] fits = tt
 each_fit used at n (text ∷ texts) fits =
-    All-append (Stands Operands n) (operand_names used at text) (each_operand used (at + length text + 1) texts)
+    each-append (Stands Operands n) (operand_names used at text) (each_operand used (at + length text + 1) texts)
     (operand_fit used at n text (λ some. omega arith)) (each_fit used (at + length text + 1) n texts (omega arith))
 
 longer : (c : ℕ) (texts : List (List ℕ)) (n : ℕ) → spread texts ≡ suc n → spread (onto_first c texts) ≡ suc (suc n)
@@ -139,7 +140,7 @@ unfolding operands_names
 operands_fit used text = let all = spread-operands text in each_fit used 0 (length text) (operands_of text) (omega (arith, all))
 
 variables_fit : (one : Field) (text : List ℕ) → AllStand one (length text) (variables one text)
-variables_fit one text = names_fit sought.Variables one 0 (length text) text (λ some. omega arith)
+variables_fit one text = names_fit _ one 0 (length text) text (λ some. omega arith)
 
 read_fit : (used : OperandUse) (text : List ℕ) → AllStand Operands (length text) (read_names used text)
 unfolding read_names
@@ -194,16 +195,19 @@ has_place statement one name whole there =
     let at_field : name.at < length (places statement one) = let same = whole one in let inside = there.within in omega (arith, same, inside) in
     subst (λ (f : Field). name.at < length (places statement f)) (sym there.in_field) at_field
 
-have_places : (statement : Statement) (one : Field) (names : List WrittenName) → IsWhole statement → AllStand one (length (field statement one)) names → All (HasPlace statement) names
+have_places : (statement : Statement) (one : Field) (names : List WrittenName) → IsWhole statement → AllStand one (length (field statement one)) names → AllByRecursion (HasPlace statement) names
 have_places statement one [] whole there = tt
 have_places statement one (name ∷ names) whole there = (has_place statement one name whole there.0, have_places statement one names whole there.1)
 
--- the names of a statement of a text have places
-pub names_have_places : (used : OperandUse) (statement : Statement) → IsWhole statement → All (λ name. name.at < length (places statement name.field)) (names_in used statement)
+each_has_place : (used : OperandUse) (statement : Statement) → IsWhole statement → AllByRecursion (HasPlace statement) (names_in used statement)
 unfolding names_in
-names_have_places used statement whole =
-    All-append (HasPlace statement) (label_names statement.label ++ operation_names statement.op) (field_names used statement.operands)
-    (All-append (HasPlace statement) (label_names statement.label) (operation_names statement.op)
+each_has_place used statement whole =
+    each-append (HasPlace statement) (label_names statement.label ++ operation_names statement.op) (field_names used statement.operands)
+    (each-append (HasPlace statement) (label_names statement.label) (operation_names statement.op)
     (have_places statement Label (label_names statement.label) whole (label_fit statement.label))
     (have_places statement Op (operation_names statement.op) whole (operation_fit statement.op)))
     (have_places statement Operands (field_names used statement.operands) whole (field_fit used statement.operands))
+
+-- the names of a statement of a text have places
+pub names_have_places : (used : OperandUse) (statement : Statement) → IsWhole statement → All (λ name. name.at < length (places statement name.field)) (names_in used statement)
+names_have_places used statement whole = All-from_recursion (HasPlace statement) (names_in used statement) (each_has_place used statement whole)

@@ -1,8 +1,10 @@
 -- The points one behind the other.
-use Rattle.std.proofs.Common.{◌≡◌, ◌∙◌, ◌<◌, ℕ, zero, suc, List, [], ◌∷◌, ◌++◌, length, take, Option, Some, None, refl, sym, ap, append_assoc, append-nil, arith}
+use Rattle.std.proofs.Common.{◌≡◌, ◌∙◌, ◌+◌, ◌<◌, ◌≤◌, ℕ, zero, suc, Bool, true, false, List, [], ◌∷◌, ◌++◌, length, take, Option, Some, None, refl, sym, ap, subst, append_assoc, append-nil, add-one, arith}
 use Rattle.std.specs.Prelude.{slice_get, unwrap_or}
+use Rattle.std.specs.Bool.{OnTrue, OnFalse}
+use Rattle.std.proofs.lemmas.Bool.{OnTrue_at, OnFalse_at}
 use Rattle.std.specs.List.{flat_map, fold}
-use Rattle.std.specs.Option.{option_map}
+use Rattle.std.specs.Option.{option_map, MatchOption}
 use Rattle.std.proofs.lemmas.Grind.{flat_map-append}
 use Rattle.std.proofs.lemmas.List.Sums.{fold-append}
 use Rattle.std.proofs.lemmas.Option.{none-some}
@@ -23,7 +25,7 @@ use Rattle.trace_variables.specs.Calls.{done_before}
 use Rattle.program_occurrences.proofs.CallLaws.{point-alike}
 use Rattle.program_occurrences.specs.Met.{met_with}
 use Rattle.program_occurrences.specs.Occurrences.{of_point}
-use Rattle.program_occurrences.specs.Programs.{of_points, situation, symbols_of}
+use Rattle.program_occurrences.specs.Programs.{occurrences_of, of_points, situation, symbols_of}
 
 -- one point more
 of_points-append : (texts : List Source) (definitions : List Defined) (members : List ℕ → Member) (before points : List (Point TraceItem)) (point : Point TraceItem) →
@@ -103,13 +105,13 @@ pub kept-next : (texts : List Source) (definitions : List Defined) (members : Li
     option_map (λ (p : Point TraceItem). p.item) (slice_get points k) ≡ Some item →
     later ≡ passed calls level item → more ≡ with_symbols symbols (defined_by item.line) →
     grown ≡ fold with_first kept (of_point texts definitions members (met_with calls symbols level item) item) →
-    IsKept texts definitions members (take (suc k) points) later more grown
+    IsKept texts definitions members (take (k + 1) points) later more grown
 kept-next texts definitions members points k level item calls later symbols more kept grown is within at passes notes adds =
     let found = of_some (λ (p : Point TraceItem). p.item) (slice_get points k) item at in
     let p = found.0 in
     let level_is : level ≡ length p.calls = ap (λ o. unwrap_or o level) (sym within ∙ ap (option_map (λ (q : Point TraceItem). length q.calls)) found.1) in
     let item_is : item ≡ p.item = ap (λ o. unwrap_or o item) (sym at ∙ ap (option_map (λ (q : Point TraceItem). q.item)) found.1) in
-    rw (take_next points k p found.1)
+    rw (ap (λ (n : ℕ). take n points) (add-one k) ∙ take_next points k p found.1)
     (kept_point texts definitions members (take k points) p calls later symbols more kept grown is
     (passes ∙ ap (λ (n : ℕ). passed calls n item) level_is ∙ ap (λ (i : TraceItem). passed calls (length p.calls) i) item_is)
     (notes ∙ ap (λ (i : TraceItem). with_symbols symbols (defined_by i.line)) item_is)
@@ -124,3 +126,46 @@ fold-standing done (next ∷ more) =
     ap (λ (k : List Occurrence). fold with_first k more) (sym (standing-behind done next))
     ∙ fold-standing (done ++ next ∷ []) more
     ∙ ap standing (append_assoc done (next ∷ []) more)
+
+-- ---- the ends of the walk
+
+-- nothing is kept of no point
+pub same-kept : (texts : List Source) (definitions : List Defined) (members : List ℕ → Member) (points : List (Point TraceItem)) (calls : List (Option RunningCall))
+    (symbols : List (List ℕ)) (kept : List Occurrence) → calls ≡ [] → symbols ≡ [] → kept ≡ [] → IsKept texts definitions members (take 0 points) calls symbols kept
+same-kept texts definitions members points calls symbols kept no_call no_symbol none =
+    subst (λ c. IsKept texts definitions members [] c symbols kept) (sym no_call)
+    (subst (λ s. IsKept texts definitions members [] [] s kept) (sym no_symbol) (subst (λ k. IsKept texts definitions members [] [] [] k) (sym none) (kept-none texts definitions members)))
+
+no_points : {X : Type 0} (xs : List X) → length xs ≤ 0 → xs ≡ []
+no_points [] none = refl
+no_points (x ∷ xs) none = absurd (omega arith)
+
+no_cursor : {X C : Type 0} (xs : List X) (o : Option C) (P : C → Type 0) → o ≡ None → MatchOption o (length xs ≤ 0) P → xs ≡ []
+no_cursor xs None P is none = no_points xs none
+no_cursor xs (Some c) P is found = absurd (none-some c (sym is))
+
+-- where there is no cursor at the first point there is no occurrence
+pub none-kept : {C : Type 0} (texts : List Source) (definitions : List Defined) (members : List ℕ → Member) (points : List (Point TraceItem)) (o : Option C) (P : C → Type 0) →
+    o ≡ None → MatchOption o (length points ≤ 0) P → (kept : List Occurrence) → kept ≡ [] → kept ≡ occurrences_of texts definitions members points
+unfolding occurrences_of
+none-kept texts definitions members points o P is none kept empty = empty ∙ ap (λ (ps : List (Point TraceItem)). standing (of_points texts definitions members [] ps)) (sym (no_cursor points o P is none))
+
+take_whole : {X : Type 0} (xs : List X) (k : ℕ) → length xs ≤ k → take k xs ≡ xs
+take_whole [] zero all = refl
+take_whole [] (suc k) all = refl
+take_whole (x ∷ xs) zero all = absurd (omega arith)
+take_whole {X} (x ∷ xs) (suc k) all = ap (λ (rest : List X). x ∷ rest) (take_whole xs k (omega arith))
+
+-- what is kept of all points are their occurrences
+pub all-kept : (texts : List Source) (definitions : List Defined) (members : List ℕ → Member) (points : List (Point TraceItem)) (k : ℕ) (calls : List (Option RunningCall))
+    (symbols : List (List ℕ)) (kept : List Occurrence) → length points ≤ k → IsKept texts definitions members (take k points) calls symbols kept →
+    kept ≡ occurrences_of texts definitions members points
+unfolding occurrences_of
+all-kept texts definitions members points k calls symbols kept all is =
+    is.standing_are
+    ∙ ap (λ (ps : List (Point TraceItem)). fold with_first [] (of_points texts definitions members [] ps)) (take_whole points k all)
+    ∙ fold-standing [] (of_points texts definitions members [] points)
+
+pub step-index : (b : Bool) (new old i n m : ℕ) → OnTrue b (new ≡ old + 1) → OnFalse b (m ≡ old + 1) → m ≡ n → old ≡ i → i + 1 < n → new ≡ i + 1
+step-index true new old i n m next last same is lt = let on = OnTrue_at refl next in omega arith
+step-index false new old i n m next last same is lt = let on = OnFalse_at refl last in absurd (omega arith)

@@ -1,5 +1,5 @@
 //! The statements of one text.
-ghost use Rattle.std.specs.Prelude.{◌≡◌, ℕ, IfOk, OnOk, MatchOption};
+ghost use Rattle.std.specs.Prelude.{◌≡◌, ℕ, IfOk, OnOk, MatchOption, slice_get};
 ghost use Rattle.std.specs.Option.{option_copied};
 ghost use Rattle.std.specs.List.{find};
 ghost use Rattle.std.specs.Map.{lookup};
@@ -7,7 +7,7 @@ ghost use Rattle.std.specs.Str.{chars};
 ghost use Rattle.hlasm_statements.specs.Statements.{statements_of};
 ghost use Rattle.statement_listing.specs.Listings.{listing_of};
 ghost use Rattle.text_lists.specs.Lists as lists;
-ghost use Rattle.text_lists.specs.Numbers as numbers;
+ghost use Rattle.text_lists.specs.Numbers as index;
 
 use hl_base::{OutOfMemory, PathId};
 use hlasm_statements::read_statements;
@@ -48,7 +48,7 @@ fn number_of(number: usize) -> Result<u32, OutOfMemory>
 
 /// Notes the number of the statement that begins in a line, unless another one does.
 fn note(numbers: &mut IndexMap<u32, u32>, line: u32, number: usize) -> Result<(), OutOfMemory>
-    ensures { OnOk result ((n : ℕ) → lookup (numbers.is_line n) numbers.new.entries ≡ numbers.noted (lookup (numbers.is_line n) numbers.old.entries) n line number) }
+    ensures { OnOk result ((n : ℕ) → lookup (index.is_line n) numbers.new.entries ≡ index.noted (lookup (index.is_line n) numbers.old.entries) n line number) }
 {
     if numbers.get(&line).is_some() {
         return Ok(());
@@ -60,7 +60,7 @@ fn note(numbers: &mut IndexMap<u32, u32>, line: u32, number: usize) -> Result<()
 
 /// The numbers of the statements by the lines in which they begin.
 fn numbers_of(alloc: Global, lines: &[Line]) -> Result<IndexMap<u32, u32>, OutOfMemory>
-    ensures { IfOk result (λ found. numbers.IsIndex found.entries lines.now) }
+    ensures { IfOk result (λ found. index.IsIndex found.entries lines.now) }
 {
     let mut found = IndexMap::new(alloc);
     for (number, line) in lines.iter().enumerate() {
@@ -94,12 +94,25 @@ impl TextList {
         self.numbers.get(&line).copied()
     }
 
+    /// The statement of a number, from 0.
+    fn numbered(&self, number: u32) -> Option<&Line>
+        ensures found { option_copied result ≡ slice_get self.now number }
+        ensures whole { MatchOption result (Unit {0}) (λ one. lists.IsWhole one.now.statement) }
+    {
+        match self.list.lines().get(number as usize) {
+            Some(line) => Some(line),
+            None => None,
+        }
+    }
+
     /// The statement that begins in a line.
     pub(crate) fn line_at(&self, line: u32) -> Option<&Line>
         ensures found { option_copied result ≡ find (lists.begins_in line) self.now }
         ensures whole { MatchOption result (Unit {0}) (λ one. lists.IsWhole one.now.statement) }
     {
-        let number = self.number_at(line)?;
-        self.list.lines().get(number as usize)
+        match self.number_at(line) {
+            Some(number) => self.numbered(number),
+            None => None,
+        }
     }
 }
