@@ -1,6 +1,6 @@
 -- Which ordinary symbols statements define, and which of them a label defines first of all (HLASM Language Reference SC26-4940,
 -- "Symbols", "EXTRN instruction", "WXTRN instruction").
-use Rattle.std.specs.Prelude.{ℕ, Bool, List, [], ◌∷◌, ◌++◌, map, Option, Some, None, if◌then◌else◌}
+use Rattle.std.specs.Prelude.{ℕ, List, [], ◌∷◌, ◌++◌, map, Option, Some, None, if◌then◌else◌}
 use Rattle.std.specs.List.{fold, list_any}
 use Rattle.std.specs.Str.{bytes_eq}
 use Rattle.hl_base.specs.declared.set.Line.{Line}

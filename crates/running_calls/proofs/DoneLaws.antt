@@ -1,14 +1,16 @@
 -- What calls have done, one point later.
-use Rattle.std.proofs.Common.{◌≡◌, ◌∙◌, ◌==◌, ◌<◌, ℕ, zero, suc, Bool, true, false, not, cond, nat_lt, List, [], ◌∷◌, ◌++◌, length, map, reverse, Option, Some, None, refl, sym, ap, arith}
+use Rattle.std.proofs.Common.{◌≡◌, ◌∙◌, ◌==◌, ℕ, Bool, true, false, not, cond, nat_lt, List, [], ◌∷◌, ◌++◌, length, map, reverse, Option, Some, refl, sym, ap, arith}
 use Rattle.std.specs.List.{filter, fold, take_while}
-use Rattle.std.proofs.lemmas.Grind.{nat_tests}
+use Rattle.std.proofs.lemmas.Bool.Decides.{nat_tests}
 use Rattle.std.proofs.lemmas.List.{reverse-append, map-append, append-nil}
 use Rattle.std.proofs.lemmas.List.Elements.{filter-append}
 use Rattle.std.proofs.lemmas.List.Sums.{fold-append, take_while-cons}
 use Rattle.trace_values.specs.declared.item.TraceItem.{TraceItem}
 use Rattle.trace_arena.specs.Points.{Point}
 use Rattle.trace_variables.specs.Calls.{behind_last, done_before}
-use Rattle.running_calls.specs.Calls.{Follows, FollowsOn, begun, behind_item, held, passed, reached, running}
+use Rattle.running_calls.specs.Calls.{FollowsOn, GoesOn, MeansAsTold, begun, behind_item, held, passed, reached, running, variables_or}
+use Rattle.hl_base.specs.declared.place.Origin.{Origin}
+use Rattle.variable_meanings.specs.Meanings.{after_item, call_with, entered}
 use Rattle.running_calls.specs.declared.calls.RunningCall.{RunningCall}
 use Rattle.running_calls.proofs.CallLaws.{held-here, held-inside, held-within}
 
@@ -48,12 +50,13 @@ done_next level ps p =
     (behind_last (λ (q : Point TraceItem). nat_lt (length q.calls) level) ps)
 
 -- a call that goes on, or begins, at a point
-pub running-next : (done : List TraceItem) (item : TraceItem) → running (done ++ item ∷ []) ≡ Some (behind_item (reached (running done) item) item)
+pub running-next : (done : List TraceItem) (item : TraceItem) →
+    running (done ++ item ∷ []) ≡ Some (behind_item (reached (running done) item) item)
 running-next [] item = refl
 running-next (first ∷ more) item = ap (λ call. Some call) (fold-append behind_item (begun first) (first ∷ more) (item ∷ []))
 
-next_level : (calls : List (Option RunningCall)) (done : List TraceItem) (n level : ℕ) (item : TraceItem) → held calls level ≡ running done →
-    (b c : Bool) → nat_lt n level ≡ b → n == level ≡ c →
+next_level : (calls : List (Option RunningCall)) (done : List TraceItem) (n level : ℕ) (item : TraceItem) →
+    held calls level ≡ running done → (b c : Bool) → nat_lt n level ≡ b → n == level ≡ c →
     held (passed calls n item) level ≡ running (cond b [] (cond c (done ++ item ∷ []) done))
 next_level calls done n level item is true c less same = held-within calls n level _ (grind (arith, nat_tests))
 next_level calls done n level item is false true less same =
@@ -70,3 +73,18 @@ follows-on calls before point follows level =
     next_level calls (done_before level before) (length point.calls) level point.item (follows level) (nat_lt (length point.calls) level)
     (length point.calls == level) refl refl
     ∙ ap running (sym (done_next level before point))
+
+-- ---- what variable symbols mean in a call
+
+meant_behind : (call : RunningCall) (done : List TraceItem) → (fold behind_item call done).variables ≡ fold after_item call.variables done
+meant_behind call [] = refl
+meant_behind call (item ∷ more) = meant_behind (behind_item call item) more
+
+meant_with : (done : List TraceItem) (item : TraceItem) → GoesOn done item → variables_or (running done) item ≡ call_with done item
+meant_with [] item same = refl
+meant_with (first ∷ more) item same =
+    meant_behind (begun first) (first ∷ more)
+    ∙ ap (λ (definition : Option Origin). fold after_item (entered definition first.entry) (first ∷ more)) same
+
+pub means-as_told : MeansAsTold
+means-as_told before level item same = meant_with (done_before level before) item same

@@ -5,7 +5,7 @@ use Rattle.hl_base.specs.declared.place.Origin.{Origin}
 use Rattle.trace_arena.specs.Points.{Point}
 use Rattle.trace_values.specs.declared.item.TraceItem.{TraceItem}
 use Rattle.trace_variables.specs.Calls.{done_before}
-use Rattle.variable_meanings.specs.Meanings.{Call, entered, after_item}
+use Rattle.variable_meanings.specs.Meanings.{Call, call_before, entered, after_item}
 use Rattle.running_calls.specs.declared.calls.RunningCall.{RunningCall}
 
 -- ---- as a function of what a call has done
@@ -83,3 +83,13 @@ Follows calls points = (level : ℕ) → held calls level ≡ running (done_befo
 abbrev pub FollowsOn : Type 0
 FollowsOn = (calls : List (Option RunningCall)) (before : List (Point TraceItem)) (point : Point TraceItem) → Follows calls before →
     Follows (passed calls (length point.calls) point.item) (before ++ point ∷ [])
+
+-- a call that has done this goes on in the definition in which it began
+abbrev pub GoesOn : (done : List TraceItem) → TraceItem → Type 0
+GoesOn [] item = Unit {0}
+GoesOn (first ∷ more) item = first.definition ≡ item.definition
+
+-- then variable symbols mean at a point what all points before it tell
+abbrev pub MeansAsTold : Type 0
+MeansAsTold = (before : List (Point TraceItem)) (level : ℕ) (item : TraceItem) → GoesOn (done_before level before) item →
+    variables_at before level item ≡ call_before before level item

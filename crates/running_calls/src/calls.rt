@@ -66,6 +66,32 @@ fn passed(
     }
 }
 
+/// Takes the call of a level away, if one is running, and with it those within it. The levels outside it stay.
+fn take_at(levels: &mut Vec<Option<RunningCall>>, level: u32) -> Option<RunningCall>
+    ensures taken { result ≡ calls.held levels.old.items level }
+    ensures outside { levels.new.items ≡ take level levels.old.items }
+{
+    let level = level as usize;
+    levels.truncate(level + 1);
+    if levels.len() <= level {
+        return None;
+    }
+    match levels.pop() {
+        Some(held) => held,
+        None => None,
+    }
+}
+
+/// No call for each level up to this one that has none.
+fn pad(levels: &mut Vec<Option<RunningCall>>, level: u32) -> Result<(), OutOfMemory>
+    ensures { OnOk result (levels.new.items ≡ calls.padded level levels.old.items) }
+{
+    for _ in levels.len()..level as usize {
+        levels.push(None)?;
+    }
+    Ok(())
+}
+
 impl RunningCalls {
     /// No call. It takes no memory.
     pub fn new(alloc: Global) -> RunningCalls
@@ -76,39 +102,13 @@ impl RunningCalls {
         }
     }
 
-    /// The call of a level, if there is one. Those of the levels outside it stay.
-    fn take_at(&mut self, level: u32) -> Option<RunningCall>
-        ensures taken { result ≡ calls.held self.old level }
-        ensures outside { self.new ≡ take level self.old }
-    {
-        let level = level as usize;
-        self.calls.truncate(level + 1);
-        if self.calls.len() <= level {
-            return None;
-        }
-        match self.calls.pop() {
-            Some(held) => held,
-            None => None,
-        }
-    }
-
-    /// No call for each level up to this one that has none.
-    fn pad(&mut self, level: u32) -> Result<(), OutOfMemory>
-        ensures { OnOk result (self.new ≡ calls.padded level self.old) }
-    {
-        for _ in self.calls.len()..level as usize {
-            self.calls.push(None)?;
-        }
-        Ok(())
-    }
-
     /// A point of a level is met: calls within that level have ended, and where none of the level is running one is entered.
     /// What an `Err` leaves is of no use.
     pub fn meet(&mut self, alloc: Global, level: u32, item: &TraceItem) -> Result<(), OutOfMemory>
         ensures { OnOk result (self.new ≡ calls.met self.old level item.now) }
     {
-        let held = self.take_at(level);
-        self.pad(level)?;
+        let held = take_at(&mut self.calls, level);
+        pad(&mut self.calls, level)?;
         let variables = variables_or(alloc, held, item)?;
         let at = item.frames.origin();
         self.calls.push(Some(RunningCall { variables, at }))?;
@@ -132,8 +132,8 @@ impl RunningCalls {
     {
         match self.calls.pop() {
             Some(held) => {
-                let passed = passed(alloc, held, item)?;
-                self.calls.push(passed)?;
+                let behind = passed(alloc, held, item)?;
+                self.calls.push(behind)?;
                 Ok(())
             }
             None => Ok(()),
