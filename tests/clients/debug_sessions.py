@@ -23,13 +23,17 @@ CONFIGURATION = {
 }
 
 
+def unescaped(text):
+    """The text that is written with backslashes, in the table and in its program."""
+    return re.sub(r"\\(.)", lambda found: ESCAPES.get(found[1], found[1]), text)
+
+
 def texts():
     """The texts that the table names, which stand in its program."""
     with open(TEXTS, encoding="utf-8") as file:
         source = file.read()
     constants = dict(re.findall(r'const (\w+): &str = "((?:[^"\\]|\\.)*)";', source, re.DOTALL))
-    plain = {name: re.sub(r"\\(.)", lambda found: ESCAPES.get(found[1], found[1]), text) for name, text in constants.items()}
-    return {name: plain[constant] for name, constant in re.findall(r'"(\w+)" => (\w+),', source)}
+    return {name: unescaped(constants[constant]) for name, constant in re.findall(r'"(\w+)" => (\w+),', source)}
 
 
 def compact(value):
@@ -165,7 +169,7 @@ def difference(server, named, script, wanted):
         for step in script.replace("/w/", f"{folder}/").split(" | "):
             session.step(step)
         found = session.end().replace(f"{folder}/", "/w/")
-        return None if found == wanted else f"{script} => {wanted}, but it is {found}"
+        return None if found == unescaped(wanted) else f"{script} => {wanted}, but it is {found}"
 
 
 def main():

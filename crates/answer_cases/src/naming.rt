@@ -35,8 +35,10 @@ fn scope(store: &DocumentStore, word: &str) -> Scope {
     }
 }
 
-/// `parameter`, `system`, `plain`, or the letter of a local symbol's type.
-fn role(word: &str) -> Role {
+/// What a variable symbol is, the last word, before which `def` may stand: `parameter`, `system`, `plain`, or the letter of a
+/// local symbol's type.
+fn role(words: &str) -> Role {
+    let word = words.strip_prefix("def ").unwrap_or(words);
     match word {
         "parameter" => Role::Parameter,
         "system" => Role::System,
@@ -65,14 +67,13 @@ pub fn occurrence(store: &DocumentStore, words: &str) -> Option<Occurrence> {
     let (place, words) = cut(words);
     let (name, behind) = cut(words);
     let (from, to) = pair(columns, '-');
-    let (last, sort) = cut(behind);
     Some(Occurrence {
         path: number_of(store, path),
         line: number(line),
         from,
         to,
         entity: entity(store, word, place, name)?,
-        defines: name == "def" || last == "def" || sort == "def",
-        role: role(last),
+        defines: name == "def" || behind == "def" || behind.starts_with("def "),
+        role: role(behind),
     })
 }

@@ -1,8 +1,9 @@
 //! The language server as a program, over standard input and output and the files of this machine.
 //!
 //! It hands the words after its name, standard input, standard output and the file system to `hlasm_server::run`, and ends
-//! with the number of the status. Where the status is not `Done`, its name is printed on standard error; standard output has
-//! nothing but the session's frames. What a run writes is the contract of `run`; here is only what it runs on.
+//! with the number of the status. If the status is not `Done`, its name is printed on standard error, and after words that are not a
+//! command two lines that say how the program is started; standard output has nothing but the session's frames. What a run writes is
+//! the contract of `run`; here is only what it runs on.
 #![tactic(auto)]
 
 ghost use Rattle.std.specs.Prelude.{◌≡◌, None, map, string_bytes, ◌⊎◌};
@@ -17,6 +18,11 @@ use std::io::{ErrorKind, Read, Write};
 use std::marker::Brand;
 use std::process::ExitCode;
 use std::sync::ledger::Blank;
+
+/// How the program is started: what is printed if the words are not a command.
+const USAGE: &str =
+    "An editor starts it as: hlasm_ls serve, or hlasm_ls serve --budget N with N from 1 to 400000 (docs/EDITORS.md).
+To list what it reports of files, run: hlasm-lint FILE or FOLDER (docs/PIPELINE.md).";
 
 /// The words after the program's name. Words that are no UTF-8 are no command.
 fn words_after_name(rt: &HostRuntime) -> Result<Vec<String>, Status> {
@@ -81,6 +87,9 @@ fn main(rt: HostRuntime) -> ExitCode {
     };
     if status != Status::Done {
         let _ = rt.eprintln(status);
+    }
+    if status == Status::BadWords {
+        let _ = rt.eprintln(USAGE);
     }
     ExitCode::from(status.number())
 }
