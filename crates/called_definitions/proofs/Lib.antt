@@ -1,0 +1,3 @@
+pub mod AskingLaws
+pub mod ToldLaws
+pub mod CalledLaws

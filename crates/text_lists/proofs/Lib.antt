@@ -1,0 +1,4 @@
+pub mod NumberLaws
+pub mod TextLaws
+pub mod WholeLaws
+pub mod DefinitionLaws

@@ -1,0 +1,6 @@
+pub mod Lists
+pub mod Numbers
+pub mod Held
+pub mod Definitions
+pub mod DefinitionPlaces
+pub mod HeldDefinitions
