@@ -112,7 +112,8 @@ fn push_label(
         defines: true,
         role: Role::Plain,
     };
-    kept.push(occurrence_of(path, statement, &label, naming))
+    kept.push(occurrence_of(path, statement, &label, naming))?;
+    Ok(())
 }
 
 /// The same of the statement at a place.

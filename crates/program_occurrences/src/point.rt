@@ -100,7 +100,8 @@ fn push_names<'a>(
         member,
     };
     let path = item.frames.origin().path;
-    push_occurrences(&surroundings, path, statement, names.as_slice(), kept)
+    push_occurrences(&surroundings, path, statement, names.as_slice(), kept)?;
+    Ok(())
 }
 
 /// Adds the occurrences of the statement of a point.
@@ -131,7 +132,8 @@ fn push_statement<'a, P: Present>(
         kept,
     )?;
     push_called(alloc, texts, item, kept)?;
-    push_start(member, kept)
+    push_start(member, kept)?;
+    Ok(())
 }
 
 /// Adds the occurrences of a point.
