@@ -4,12 +4,13 @@
 # how much more memory the loop takes than one of a few points.
 set -eu
 . "$(dirname "$0")/program.sh"
-program open_code_bench 'hl_base hlasm_statements program_assembly' <<'PROGRAM'
+program open_code_bench 'document_store hl_base hlasm_statements program_assembly' <<'PROGRAM'
 //! Times the assembly of the text that its first argument names, and the reading of its statements, as often as the second says.
 #![tactic(auto)]
 
 ghost use Rattle.std.specs.Prelude.{◌≡◌};
 
+use document_store::DocumentStore;
 use hl_base::{Ledger, PathId, Steps};
 use hlasm_statements::read_statements;
 use program_assembly::assembly_notes;
@@ -32,14 +33,15 @@ fn statements(rt: &HostRuntime, text: &str) -> io::Result<(u128, usize)> {
     Ok((start.elapsed(rt)?.as_nanos(), count))
 }
 
-/// The nanoseconds of one assembly, and how many notes there are.
+/// The nanoseconds of one assembly without members, and how many notes there are.
 fn assembly<L: Ledger>(
     rt: &HostRuntime,
     text: &RcStr,
     steps: &mut Steps<L>,
 ) -> io::Result<(u128, usize)> {
+    let none = DocumentStore::new(rt.alloc());
     let start = Instant::now(rt)?;
-    let count = match assembly_notes(rt.alloc(), PathId(0), text, "", BUDGET, steps) {
+    let count = match assembly_notes(rt.alloc(), PathId(0), text, "", &none, BUDGET, steps) {
         Ok(notes) => notes.as_slice().len(),
         Err(_) => usize::MAX,
     };

@@ -5,7 +5,9 @@ work=$(mktemp -d)
 trap 'rm -rf "$work"' EXIT
 program() {
     top=$(cd "$(dirname "$0")/.." && pwd)
-    cp -r "$top/crates" "$top/crates.txt" "$top/HANDLES" "$work/"
+    # (links where they can be made: rt removes a file before it writes it anew, so what is linked stays as it is)
+    cp -rl "$top/crates" "$work/" 2>/dev/null || cp -r "$top/crates" "$work/"
+    cp "$top/crates.txt" "$top/HANDLES" "$work/"
     mkdir -p "$work/crates/$1/src"
     echo "$1: $2" >> "$work/crates.txt"
     cat > "$work/crates/$1/src/main.rt"

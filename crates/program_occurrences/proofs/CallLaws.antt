@@ -1,5 +1,5 @@
 -- Points of calls that are alike outside the point's own level.
-use Rattle.std.proofs.Common.{◌≡◌, ◌∙◌, ◌<◌, ℕ, zero, suc, Bool, cond, List, [], ◌∷◌, ◌++◌, Option, Some, None, refl, sym, ap, arith}
+use Rattle.std.proofs.Common.{◌≡◌, ◌∙◌, ◌-◌, ◌<◌, ℕ, zero, suc, Bool, false, cond, List, [], ◌∷◌, ◌++◌, Option, Some, None, refl, sym, ap, arith}
 use Rattle.std.specs.Option.{option_map}
 use Rattle.hlasm_statements.specs.declared.statement.Statement.{Statement}
 use Rattle.running_calls.specs.declared.calls.RunningCall.{RunningCall}
@@ -48,3 +48,13 @@ pub point-alike : (texts : List Source) (definitions : List Defined) (members : 
     of_point texts definitions members (at_point f level variables first) item ≡ of_point texts definitions members (at_point g level variables first) item
 point-alike texts definitions members f g level variables first item alike =
     line-alike texts definitions members f g level variables first item (line_at texts item.frames.innermost.origin) alike
+
+-- a call whose label is another one is passed over
+pub labelled-lower : (texts : List Source) (name : List ℕ) (calls : ℕ → Option RunningCall) (level : ℕ) → 0 < level → is_call_labelled texts name (calls (level - 1)) ≡ false →
+    labelled_call texts name calls (level - 1) ≡ labelled_call texts name calls level
+labelled-lower texts name calls zero some is = absurd (omega arith)
+labelled-lower texts name calls (suc level) some is =
+    let same : suc level - 1 ≡ level = omega arith in
+    ap (labelled_call texts name calls) same
+    ∙ sym (ap (λ (b : Bool). cond b (option_map place_in (calls level)) (labelled_call texts name calls level))
+    (ap (λ (n : ℕ). is_call_labelled texts name (calls n)) (sym same) ∙ is))

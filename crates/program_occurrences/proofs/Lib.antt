@@ -1,3 +1,4 @@
 pub mod PlaceLaws
 pub mod CallLaws
 pub mod WalkLaws
+pub mod PushLaws

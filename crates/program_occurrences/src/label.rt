@@ -8,6 +8,7 @@ ghost use Rattle.text_lists.specs.Lists.{IsWhole};
 ghost use Rattle.running_calls.specs.Calls.{held};
 ghost use Rattle.program_occurrences.specs.Labels as labels;
 
+use crate::counting::character_count;
 use hl_base::{Name, Origin, OutOfMemory, PathId};
 use hlasm_statements::{Field, Statement};
 use running_calls::{RunningCall, RunningCalls};
@@ -82,16 +83,14 @@ fn place_of(call: Option<&RunningCall>) -> Option<Origin>
 fn label_name(statement: &Statement, name: &Name) -> Result<WrittenName, OutOfMemory>
     ensures { IfOk result (λ label. label ≡ labels.label_name statement.now name.now) }
 {
-    match u32::try_from(statement.label.as_str().chars().count()) {
-        Ok(count) => Ok(WrittenName {
-            kind: NameKind::Label,
-            field: Field::Label,
-            at: 0,
-            count,
-            name: name.copy(),
-        }),
-        Err(_) => Err(OutOfMemory),
-    }
+    let count = character_count(statement.label.as_str())?;
+    Ok(WrittenName {
+        kind: NameKind::Label,
+        field: Field::Label,
+        at: 0,
+        count,
+        name: name.copy(),
+    })
 }
 
 /// Adds the label of a statement of a path, if it has one, as the definition of this symbol.
@@ -113,7 +112,8 @@ fn push_label(
         defines: true,
         role: Role::Plain,
     };
-    kept.push(occurrence_of(path, statement, &label, naming))
+    kept.push(occurrence_of(path, statement, &label, naming))?;
+    Ok(())
 }
 
 /// The same of the statement at a place.

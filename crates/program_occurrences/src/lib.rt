@@ -10,6 +10,7 @@
 //! names count is this project's own.
 #![tactic(auto)]
 
+mod counting;
 mod known;
 mod label;
 mod operation;

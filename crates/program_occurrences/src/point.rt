@@ -77,12 +77,12 @@ fn push_called(
 }
 
 /// Adds the occurrences of the names of the statement of a point, which took this member.
-fn push_names(
+fn push_names<'a>(
     alloc: Global,
-    texts: &TextLists,
-    definitions: &DefinitionLists,
-    met: &Met<'_>,
-    item: &TraceItem,
+    texts: &'a TextLists,
+    definitions: &'a DefinitionLists,
+    met: &'a Met<'a>,
+    item: &'a TraceItem,
     statement: &Statement,
     member: Option<PathId>,
     kept: &mut Standing,
@@ -100,17 +100,18 @@ fn push_names(
         member,
     };
     let path = item.frames.origin().path;
-    push_occurrences(&surroundings, path, statement, names.as_slice(), kept)
+    push_occurrences(&surroundings, path, statement, names.as_slice(), kept)?;
+    Ok(())
 }
 
 /// Adds the occurrences of the statement of a point.
-fn push_statement<P: Present>(
+fn push_statement<'a, P: Present>(
     alloc: Global,
-    texts: &TextLists,
-    definitions: &DefinitionLists,
+    texts: &'a TextLists,
+    definitions: &'a DefinitionLists,
     present: &P,
-    met: &Met<'_>,
-    item: &TraceItem,
+    met: &'a Met<'a>,
+    item: &'a TraceItem,
     statement: &Statement,
     kept: &mut Standing,
 ) -> Result<(), OutOfMemory>
@@ -131,17 +132,18 @@ fn push_statement<P: Present>(
         kept,
     )?;
     push_called(alloc, texts, item, kept)?;
-    push_start(member, kept)
+    push_start(member, kept)?;
+    Ok(())
 }
 
 /// Adds the occurrences of a point.
-pub(crate) fn push_point<P: Present>(
+pub(crate) fn push_point<'a, P: Present>(
     alloc: Global,
-    texts: &TextLists,
-    definitions: &DefinitionLists,
+    texts: &'a TextLists,
+    definitions: &'a DefinitionLists,
     present: &P,
-    met: &Met<'_>,
-    item: &TraceItem,
+    met: &'a Met<'a>,
+    item: &'a TraceItem,
     kept: &mut Standing,
 ) -> Result<(), OutOfMemory>
     ensures { OnOk result (kept.new ≡ fold with_first kept.old

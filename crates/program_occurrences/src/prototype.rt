@@ -7,6 +7,7 @@ ghost use Rattle.standing_occurrences.specs.Standing.{with_first};
 ghost use Rattle.text_lists.specs.Lists.{IsWhole};
 ghost use Rattle.program_occurrences.specs.Prototypes as prototypes;
 
+use crate::counting::{character_count, place_behind};
 use hl_base::{Name, Origin, OutOfMemory, Text};
 use hlasm_statements::{Field, Statement};
 use operand_list::split_operands;
@@ -21,16 +22,8 @@ use trace_values::{Entity, Role, Scope};
 fn next_place(at: u32, text: &str) -> Result<u32, OutOfMemory>
     ensures { IfOk result (λ next. next ≡ at + (length (chars text.now) + 1)) }
 {
-    let Ok(count) = u32::try_from(text.chars().count()) else {
-        return Err(OutOfMemory);
-    };
-    let Some(end) = at.checked_add(count) else {
-        return Err(OutOfMemory);
-    };
-    match end.checked_add(1) {
-        Some(next) => Ok(next),
-        None => Err(OutOfMemory),
-    }
+    let count = character_count(text)?;
+    place_behind(at, count)
 }
 
 /// Whether one of some operands, of which the first begins a field and a comma stands between each two, begins behind so many

@@ -79,7 +79,8 @@ impl Walk {
             &mut self.kept,
         )?;
         self.calls.pass(alloc, item)?;
-        self.symbols.pass(alloc, &item.line)
+        self.symbols.pass(alloc, &item.line)?;
+        Ok(())
     }
 }
 

@@ -19,7 +19,7 @@ loop-init g c = (
   c.in-Some.ensures.0,
   c.in-Some.ensures.1,
   (λ some. c.in-Some.ensures.2),
-  same-kept _ _ _ _ _ _ _ c.new-walk.ensures.calls c.new-walk.ensures.symbols c.new-walk.ensures.kept,
+  same-kept c.args.texts.now c.args.definitions.now (g.P.Present.members c.args.present.now) (points c.args.arena.now.nodes c.args.root.0) _ _ _ c.new-walk.ensures.calls c.new-walk.ensures.symbols c.new-walk.ensures.kept,
 )
 
 pub item-requires : goal.item-requires
@@ -39,7 +39,7 @@ loop-preserved g c =
     let k = c.loop.counter in
     let held = c.loop.invariant in
     let item = c.item.result.now in
-    let inside : k < length ps = omega (arith, c.loop-test.true, c.points.ensures) in
+    let inside : k < length ps = omega (arith, c.loop-test.true, c.points-end.ensures.points) in
     let at : c.loop.cursor.index ≡ k = held.2 inside in
     let here : slice_get ps k ≡ slice_get (points nodes c.loop.cursor.root.0) c.loop.cursor.index =
     ap (λ (n : ℕ). slice_get ps n) (sym at) ∙ ap (λ (n : NodeId). slice_get (points nodes n.0) c.loop.cursor.index) (sym held.1) in (
@@ -59,4 +59,4 @@ pub returns : goal.returns
 returns g c =
     let ps = points c.args.arena.now.nodes c.args.root.0 in
     all-kept c.args.texts.now c.args.definitions.now (g.P.Present.members c.args.present.now) ps c.loop.counter _ _ _
-    (omega (arith, c.loop-test.false, c.points.ensures)) c.loop.invariant.3
+    (omega (arith, c.loop-test.false, c.points-end.ensures.points)) c.loop.invariant.3

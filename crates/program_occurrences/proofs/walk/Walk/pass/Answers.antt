@@ -1,4 +1,4 @@
-use Rattle.std.proofs.Common.{◌≡◌, ◌∙◌, ap, sym, None, Some}
+use Rattle.std.proofs.Common.{◌≡◌, ◌∙◌, ap, sym}
 use Rattle.std.specs.Option.{option_copied}
 use Rattle.std.specs.List.{fold}
 use Rattle.standing_occurrences.specs.Standing.{with_first}
@@ -16,4 +16,8 @@ returns-clause-calls g c =
     c.in_ok-pass.ensures (outside calls c.args.level) (reached (held calls c.args.level) c.args.item.now) c.in_ok-meet.ensures
 
 pub returns-clause-kept : goal.returns-clause-kept
-returns-clause-kept g c = ?
+returns-clause-kept g c =
+    let item = c.args.item.now in
+    c.in_ok-push_point.ensures
+    ∙ ap (λ (s : Situation). fold with_first c.args.self.now.kept (of_point c.args.texts.now c.args.definitions.now (g.P.Present.members c.args.present.now) s item))
+    (met-is c.args.self.now.calls _ c.args.self.now.symbols c.args.level item c.in-Some.call.now c.first.result c.in_ok-meet.ensures c.in-Some.ensures c.first.ensures)

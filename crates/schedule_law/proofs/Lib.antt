@@ -1,4 +1,0 @@
-pub mod KnownLaws
-pub mod ListedLaws
-pub mod QuietLaws
-pub mod ScheduleLaws
