@@ -20,6 +20,3 @@ mod waiting;
 pub use names::ProgramNames;
 pub use request::{Question, Request};
 pub use waiting::Waiting;
-
-#[cfg(test)]
-mod tests;
