@@ -29,6 +29,7 @@ program_of() {
         declarations | branches | templates | field_ends | operations | effects | calls) echo statement_cases ;;
         expansions) echo expansion_cases ;;
         symbol_answers) echo answer_cases ;;
+        occurrences) echo occurrence_cases ;;
         prototypes | bindings | parameter_values) echo definition_cases ;;
         definitions | defining_members | comparisons) echo definition_cases ;;
     esac

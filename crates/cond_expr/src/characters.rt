@@ -1,7 +1,7 @@
 //! Texts of character expressions: their greatest length, duplication and substrings (SC26-4940, "Character (SETC)
 //! expressions").
 //!
-//! Each call tells an outcome: the text, with its notes behind those that were there. Only want of memory is an `Err`,
+//! Each call tells an outcome: the text, with its notes after those that were there. Only want of memory is an `Err`,
 //! after which the notes are of no use.
 ghost use Rattle.std.specs.Prelude.{◌≡◌, IfOk, length, take, drop, string_bytes};
 ghost use Rattle.std.specs.Str.{chars};

@@ -1,6 +1,6 @@
 //! What attribute references tell of ordinary symbols (SC26-4940, "Data attributes").
 //!
-//! Each call tells an outcome: the value, with its notes behind those that were there, or the key whose answer is needed
+//! Each call tells an outcome: the value, with its notes after those that were there, or the key whose answer is needed
 //! and was not given. After an `Err` the notes are of no use: whoever evaluates begins again with one more answer.
 ghost use Rattle.std.specs.Prelude.{◌≡◌, List, [], ◌∷◌, IfOk};
 ghost use Rattle.hl_base.specs.declared.note.Note.{Note};

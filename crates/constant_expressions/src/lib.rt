@@ -2,7 +2,7 @@
 //! symbols, and what is said of all its expressions.
 //!
 //! It knows nothing of statements and places beyond the value of `*`. Its contracts: the numbers that are told of an operand
-//! (`told_numbers`), and what is said of its expressions behind what was said before (`push_operand`), are functions of what
+//! (`told_numbers`), and what is said of its expressions after what was said before (`push_operand`), are functions of what
 //! was read and of what is known. It follows the HLASM Language Reference SC26-4940, "DC instruction", "Address constants".
 #![tactic(auto)]
 

@@ -1,8 +1,8 @@
-//! How an operand of DC and DS, and a literal behind its equals sign, is read: duplication factor, type, explicit length and
+//! How an operand of DC and DS, and a literal after its equals sign, is read: duplication factor, type, explicit length and
 //! values.
 //!
 //! It knows nothing of statements, of symbols and their values, and of bytes. Its contracts: what is read of an operand is a
-//! function of its text (`Constant::read`), and nothing exactly where it is not written as a constant is; bounds of numbers
+//! function of its text (`Constant::read`), and nothing exactly if it is not written as a constant is; bounds of numbers
 //! and what stands in quotes are for others to judge. It follows the HLASM Language Reference SC26-4940, "DC instruction",
 //! "Duplication factor", "Modifiers", "Nominal value".
 #![tactic(auto)]

@@ -1,4 +1,4 @@
-//! What an operand of DC or DS, or a literal behind its equals sign, comes to once its factor and its length have numbers: how
+//! What an operand of DC or DS, or a literal after its equals sign, comes to once its factor and its length have numbers: how
 //! many bytes it takes on which boundary, what a label on it means, and what is said of it.
 //!
 //! It knows nothing of symbols, statements and places: whoever lays out evaluates the expressions in parentheses and tells

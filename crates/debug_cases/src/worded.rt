@@ -1,4 +1,4 @@
-//! What is written for a message, in words: the number of each message, and behind a slash that of the request that it answers.
+//! What is written for a message, in words: the number of each message, and after a slash that of the request that it answers.
 use dap_messages::DapOut;
 use debug_sessions::Answer;
 use hl_base::OutOfMemory;

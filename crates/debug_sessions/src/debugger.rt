@@ -1,4 +1,4 @@
-//! One debug session, and what each command does in it. Behind an `Err` a session is not to be used.
+//! One debug session, and what each command does in it. After an `Err` a session is not to be used.
 ghost use Rattle.std.specs.Prelude.{◌≡◌, false, Option, option_map, IfOk};
 ghost use Rattle.dap_messages.specs.Written.{body_of, body_has_fraction, capabilities_value, breakpoints_value, threads_value, scopes_value, continued_value};
 ghost use Rattle.debug_sessions.specs.State.{begun};

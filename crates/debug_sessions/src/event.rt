@@ -1,4 +1,4 @@
-//! What happens behind a response.
+//! What happens after a response.
 use dap_messages::StopReason;
 
 /// An event of the protocol that a session tells of.

@@ -6,7 +6,7 @@
 //! `wanted_program` tells of which path, so that its caller can assemble it and hand it in (`Launched`). The session owns that
 //! trace, so whatever is assembled later changes none of its stops.
 //!
-//! Its one contract in words: the sessions behind a message and the messages that are written are those of the definition
+//! Its one contract in words: the sessions after a message and the messages that are written are those of the definition
 //! (`answer`), of the points of the launch's trace alone; a message that is refused changes nothing but how many messages its
 //! session has sent. It knows nothing of the editor's messages, of documents and of how a program is assembled.
 #![tactic(auto)]

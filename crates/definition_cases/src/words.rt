@@ -1,4 +1,4 @@
-//! Words behind one another.
+//! Words one after the other.
 use hl_base::OutOfMemory;
 use std::alloc::Global;
 

@@ -1,7 +1,7 @@
 //! What a text begins with: an expression before a closing parenthesis, or a variable symbol whose last character is one.
 //!
 //! The front ends at the first closing parenthesis at which it is whole. It is found in one pass: what is read up to a
-//! character does not depend on what is behind it.
+//! character does not depend on what is after it.
 ghost use Rattle.std.specs.Prelude.{◌≡◌, ◌==◌, ◌&&◌, ◌≤◌, ◌+◌, [], MatchResult, is_some, Some, IsTrue, true};
 ghost use Rattle.std.specs.Str.{chars};
 ghost use Rattle.expression_grammar.specs.Fronts as fronts;

@@ -1,7 +1,7 @@
 //! What is kept of a call that ran, and the law that where it holds, it is the run.
 //!
 //! A run leaves an outcome: its points, its end, its cost, what it read of its world, and what it put and counted
-//! (`specs/Outcomes`). An outcome names no world. Where a world answers what was read, and fuel and depth go so far, the
+//! (`specs/Outcomes`). An outcome names no world. If a world answers what was read, and fuel and depth go so far, the
 //! plain run of the call is that run (module `laws`): so an outcome that was kept may be taken in its place. A call under
 //! way is a moment (`specs/Moments`), and each move makes the next one of it.
 //!

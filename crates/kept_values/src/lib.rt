@@ -2,7 +2,7 @@
 //!
 //! Contracts see a kept value as a tree of numbers (`specs/Trees`). `same` tells whether two values have one tree,
 //! `number` is a number that values with one tree share, and `copy` gives a value with the same tree. The trees of
-//! names, texts, keys and answers are one exactly where the values are one (module `laws`).
+//! names, texts, keys and answers are one exactly if the values are one (module `laws`).
 //!
 //! It knows nothing of machines, worlds and macros, and of what a key asks.
 #![tactic(auto)]

@@ -1,4 +1,4 @@
-//! What may stand behind an operand of a logical expression.
+//! What may stand after an operand of a logical expression.
 ghost use Rattle.std.specs.Prelude.{◌≡◌, ◌+◌, List, [], ◌∷◌, IfOk, IfSome, Some, is_some};
 ghost use Rattle.std.specs.Char.{to_ascii_uppercase};
 ghost use Rattle.expression_grammar.specs.Trees.{size};

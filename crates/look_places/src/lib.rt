@@ -2,7 +2,7 @@
 //! that are processed.
 //!
 //! The statements of a text are numbered with its comments and blank statements, but open code is processed without them.
-//! Its one contract: `Foresight` answers for each name and each place what the definition *lookahead* finds behind the
+//! Its one contract: `Foresight` answers for each name and each place what the definition *lookahead* finds after the
 //! statement that is processed there. It knows nothing of values, of macro calls and of what was defined so far.
 #![tactic(auto)]
 

@@ -1,6 +1,6 @@
 //! The operands of machine instructions as they are written: what is read of one, by its kind.
 //!
-//! An operand is a value, an address or a target. A value and a target are expressions. An address is a displacement, behind
+//! An operand is a value, an address or a target. A value and a target are expressions. An address is a displacement, after
 //! which an index, a length or a base may stand in parentheses. A literal may stand as a displacement, and as a target where
 //! its instruction lets it.
 //!

@@ -1,4 +1,4 @@
-//! What stands in parentheses behind a displacement.
+//! What stands in parentheses after a displacement.
 ghost use Rattle.std.specs.Prelude.{◌≡◌, IfOk};
 ghost use Rattle.std.specs.Str.{chars};
 ghost use Rattle.constant_grammar.specs.Views.{tree_if, tree_in};

@@ -3,7 +3,7 @@
 //! `HlasmLanguage` gives the language (`specs/Language`) to `expansion_step`: what each statement does, as far as the answers
 //! to its questions lead, what its call knows of variable symbols then, and what is kept of each point. `Expander` is the
 //! asking machine of it. A statement does what `conditional_asm` says of it, as it was read; what it sets, declares and counts
-//! is a deed of `call_knowledge`. MACRO gives an operation its definition (`asked_definitions`), and processing goes on behind
+//! is a deed of `call_knowledge`. MACRO gives an operation its definition (`asked_definitions`), and processing goes on after
 //! it; an operation that is not built in calls the macro of its name, or of the member of that name, with what its operands
 //! come to (`macro_operands`); the macro's system variables and parameters are known from its entry on (`macro_entry`); COPY
 //! goes through a member within the call of its statement, and MEXIT and MEND end the call. Notes are the column faults of the

@@ -1,4 +1,4 @@
-//! The lines behind a prototype as they are read, with the members that are copied.
+//! The lines after a prototype as they are read, with the members that are copied.
 ghost use Rattle.std.specs.Prelude.{◌≡◌, ℕ, List, Option, [], ◌∷◌, ◌++◌, ◌<◌, false, length, IfOk, OnOk};
 ghost use Rattle.macro_library.specs.declared.member.Member.{Member as ToldMember};
 ghost use Rattle.macro_library.specs.Copying as copying;

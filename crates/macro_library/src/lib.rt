@@ -3,7 +3,7 @@
 //!
 //! `read_definition` reads the definition that begins at a statement MACRO of a list, or gives its first fault, or asks for
 //! the member that the COPY met next names. A `Def` shares the lines that it is made of, each of which was read once; `same`
-//! tells two apart by a number of their contents first. `behind_definition` says where processing goes on behind a
+//! tells two apart by a number of their contents first. `behind_definition` says where processing goes on after a
 //! definition as it is written, and `defining_at` whether a member defines an operation.
 //!
 //! It knows nothing of calls, values and files: what members are is told to it. It follows the HLASM Language Reference

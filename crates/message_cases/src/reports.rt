@@ -1,4 +1,4 @@
-//! Reports of a document, as a case words them: `CODE; SEVERITY; FROM-TO; MESSAGE`, and behind it ` @ URI; FROM-TO; MESSAGE`
+//! Reports of a document, as a case words them: `CODE; SEVERITY; FROM-TO; MESSAGE`, and after it ` @ URI; FROM-TO; MESSAGE`
 //! for each other place that it speaks of. Each place is `LINE.CHARACTER`.
 use hl_base::{OutOfMemory, Position, Text};
 use lsp_messages::{Diagnostic, Diagnostics, Relation, Relations, Span};

@@ -1,4 +1,4 @@
-//! What holds of the symbols behind the last round. The function does nothing: its contract is the law.
+//! What holds of the symbols after the last round. The function does nothing: its contract is the law.
 ghost use Rattle.std.specs.Prelude.{◌≡◌};
 ghost use Rattle.ordinary_symbols.specs.Table.{Table};
 ghost use Rattle.ordinary_symbols.specs.Rounds.{round, resolved};

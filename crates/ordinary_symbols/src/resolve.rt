@@ -2,7 +2,7 @@
 //!
 //! The definition tries all symbols in rounds. To go through all of them once for each EQU of a long chain would take too
 //! long, so each deferred EQU first waits for one of its symbols that has no value, and is tried again once that has one.
-//! In which order EQUs are tried changes nothing in the end (`proofs/Paths`), so rounds behind that, of which the first finds
+//! In which order EQUs are tried changes nothing in the end (`proofs/Paths`), so rounds after that, of which the first finds
 //! nothing left to settle, make it what the definition says, whatever was tried before.
 ghost use Rattle.std.specs.Prelude.{◌≡◌, ◌<◌, true, false, length, IfSome, MatchOption, OnOk, OnErr, slice_get, slice_set};
 ghost use Rattle.ordinary_symbols.specs.Rounds.{is_ready, tried, round, resolved, settled, settled_by, with_value};

@@ -1,7 +1,7 @@
 //! The layout of the statements that an assembly generates: where each stands, the sections, the literal pools, the symbols with
 //! their values, and what is said of each statement.
 //!
-//! The statements are laid out one after the other (`section_steps`). Behind the last one deferred EQUs are settled, and what is
+//! The statements are laid out one after the other (`section_steps`). After the last one deferred EQUs are settled, and what is
 //! left of each statement is judged by the values that are known then.
 //!
 //! It knows nothing of stacks, files and macros: a statement is its line, and is told by its number. Its one contract: the

@@ -2,7 +2,7 @@
 //! resumes a section, defines symbols, or places a pool of literals.
 //!
 //! It knows nothing of how statements come about, and of the values that deferred EQUs get in the end: what an expression of a
-//! statement comes to is known where each of its symbols was defined before it. Its one contract: what there is behind a
+//! statement comes to is known where each of its symbols was defined before it. Its one contract: what there is after a
 //! statement, and what is kept of it, is a function of the statement and of what there was before it (`State::step`). It follows
 //! the HLASM Language Reference SC26-4940, "Program sectioning", "Location counter", "Assembler instruction statements".
 #![tactic(auto)]

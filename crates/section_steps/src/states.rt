@@ -1,4 +1,4 @@
-//! What there is behind some statements, and what is kept of a statement.
+//! What there is after some statements, and what is kept of a statement.
 
 use constant_grammar::Formula;
 use constant_operands::ConstantOperand;

@@ -1,4 +1,4 @@
-//! Documents that are no programs any more, where the library folders have changed.
+//! Documents that are not programs any more, where the library folders have changed.
 ghost use Rattle.std.specs.Prelude.{◌≡◌, ◌≤◌, ◌++◌, length, IfOk, OnOk, filter};
 ghost use Rattle.document_store.specs.Store.{OpenDocument};
 ghost use Rattle.document_store.specs.Shown.{Shows};

@@ -6,7 +6,7 @@
 //! that was generated, or the label that defines one first of all; the operation of a macro call; the member that a COPY took.
 //!
 //! It knows nothing of texts, of traces and of the statements before: what is known there (`Surroundings`) is handed in. Its
-//! contract: what comes to stand is what the definition says of the names, each behind those before it (`of_names`). It
+//! contract: what comes to stand is what the definition says of the names, each after those before it (`of_names`). It
 //! follows the HLASM Language Reference SC26-4940, "Symbols", "Variable symbols", "Sequence symbols"; what counts is this
 //! project's own.
 #![tactic(auto)]

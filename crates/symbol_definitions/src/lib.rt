@@ -3,7 +3,7 @@
 //! A name that is taken keeps its first definition, and that is said. EQU defines its symbol with a value where each symbol of
 //! its expression has one, and else defers it.
 //!
-//! It knows nothing of operations, places and sections beyond values. Its contracts: which symbols there are behind a
+//! It knows nothing of operations, places and sections beyond values. Its contracts: which symbols there are after a
 //! definition, and what is said of it, is what the definitions say (`define`, `equate`). It follows the HLASM Language
 //! Reference SC26-4940, "Symbols", "EQU instruction".
 #![tactic(auto)]

@@ -2,7 +2,7 @@
 //!
 //! Contracts see an arena as the list of its nodes, each with its items, links and owners. A node means a list of points:
 //! its items, with the points of each linked node at the place of its link. A point is an item together with the items
-//! behind which the nodes that it stands in were linked. A node that is appended to, or linked to as a parent, has no
+//! after which the nodes that it stands in were linked. A node that is appended to, or linked to as a parent, has no
 //! parent and no owner but its maker, so links make no circle. A node is live as long as it has an owner, and is freed
 //! with its last.
 //!

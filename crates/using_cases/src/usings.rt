@@ -1,4 +1,4 @@
-//! USING and DROP, and which addresses are covered behind them.
+//! USING and DROP, and which addresses are covered after them.
 use crate::rows::push_rows;
 use crate::symbols::{defined, value};
 use hl_base::OutOfMemory;

@@ -1,7 +1,7 @@
 //! The requests on symbols that wait until no program is queued, and what they are answered then (LSP 3.17, "Language
 //! Features", "Cancellation Support").
 //!
-//! A request is added behind those that wait (`Waiting::push`), removed and answered where the client cancels it
+//! A request is added after those that wait (`Waiting::push`), removed and answered where the client cancels it
 //! (`Waiting::cancel`), and answered with all the others where no program is queued (`Waiting::answer`). Each is answered from
 //! what one program's latest assembly tells of names (`ProgramNames`): the program that the document is, or the first one that
 //! touches it.

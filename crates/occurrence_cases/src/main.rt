@@ -1,0 +1,21 @@
+//! Compares tables of cases with the occurrences of assembled programs and what `symbol_answers` answers of them:
+//! `occurrence_cases TABLE` reads the cases of one table from standard input, prints each whose answer differs, and at the end
+//! `N passed, M failed`.
+//!
+//! tests/cases/README.md says what each table reads. What the crates promise stands on their own functions; here is only how
+//! texts are worded, and how an answer is written down.
+#![tactic(auto)]
+
+mod asking;
+mod listing;
+mod scene;
+mod tables;
+mod words;
+
+use case_lines::compare_tables;
+use std::process::ExitCode;
+use tables::Table;
+
+fn main(rt: HostRuntime) -> ExitCode {
+    compare_tables::<Table>(&rt)
+}
