@@ -1,0 +1,4 @@
+pub mod KnownLaws
+pub mod ListedLaws
+pub mod QuietLaws
+pub mod ScheduleLaws
