@@ -4,6 +4,7 @@ ghost use Rattle.std.specs.List.{flat_map};
 ghost use Rattle.std.specs.Ordering.{nat_cmp};
 ghost use Rattle.std.specs.BTreeSet.{insert_key};
 ghost use Rattle.hl_base.specs.declared.place.PathId.{PathId as Path};
+ghost use Rattle.text_lists.specs.Definitions.{defined_paths};
 ghost use Rattle.trace_arena.specs.Nodes.{IsLive};
 ghost use Rattle.trace_arena.specs.Points.{points};
 ghost use Rattle.trace_paths.specs.Touched.{frame_path};
@@ -92,7 +93,7 @@ pub(crate) fn touched(
     definitions: &DefinitionLists,
 ) -> Result<Vec<PathId>, OutOfMemory>
     ensures { IfOk result (λ paths. paths.items
-        ≡ map (λ n. record { 0 = n }) (rules.with_paths met.keys (flat_map rules.defined_paths definitions.now))) }
+        ≡ map (λ n. record { 0 = n }) (rules.with_paths met.keys (flat_map defined_paths definitions.now))) }
 {
     let mut met = met;
     for path in &definitions.paths(alloc)? {
