@@ -86,6 +86,16 @@ fn listed(alloc: Global, met: &BTreeSet<u32>) -> Result<Vec<PathId>, OutOfMemory
     Ok(paths)
 }
 
+/// These paths are met.
+fn meet_all(met: &mut BTreeSet<u32>, paths: &[PathId]) -> Result<(), OutOfMemory>
+    ensures { OnOk result (met.new.keys ≡ rules.with_paths met.old.keys (map (λ path. path.0) paths.now)) }
+{
+    for path in paths {
+        meet(met, *path)?;
+    }
+    Ok(())
+}
+
 /// The paths that were met, and those of the statements of definitions.
 pub(crate) fn touched(
     alloc: Global,
@@ -96,8 +106,7 @@ pub(crate) fn touched(
         ≡ map (λ n. record { 0 = n }) (rules.with_paths met.keys (flat_map defined_paths definitions.now))) }
 {
     let mut met = met;
-    for path in &definitions.paths(alloc)? {
-        meet(&mut met, *path)?;
-    }
+    let paths = definitions.paths(alloc)?;
+    meet_all(&mut met, paths.as_slice())?;
     listed(alloc, &met)
 }
