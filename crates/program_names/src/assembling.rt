@@ -100,8 +100,6 @@ pub fn assemble_names<P: Present, L: Ledger>(
 {
     let text = present.pool().shared(alloc, text)?;
     let mut arena = TraceArena::new(alloc);
-    let root = run(
-        alloc, path, &text, parm, present, budget, &mut arena, steps,
-    )?;
+    let root = run(alloc, path, &text, parm, present, budget, &mut arena, steps)?;
     names_in(alloc, path, store, present, &arena, root)
 }
