@@ -44,10 +44,11 @@ fn names_in<P: Present>(
     let texts = texts_at(alloc, store, &met)?;
     let mut definitions = definitions_of(alloc, arena, root, &texts, present)?;
     let occurrences = occurrences(alloc, arena, root, &texts, &definitions, present)?;
-    let Defined { rows, sections } = symbols_of(alloc, arena, root)?;
+    let symbols = symbols_of(alloc, arena, root)?;
     let places = prototypes(alloc, arena, root, &texts)?;
     add_definitions(alloc, &texts, present, places.as_slice(), &mut definitions)?;
     let touched = touched(alloc, met, &definitions)?;
+    let Defined { rows, sections } = symbols;
     Ok(AssembledNames {
         path,
         rows,
