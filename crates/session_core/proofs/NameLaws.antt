@@ -8,7 +8,7 @@ use Rattle.document_store.specs.declared.document.Document.{Document}
 use Rattle.library_folders.specs.declared.folders.Folder.{Folder}
 use Rattle.waiting_requests.specs.Names.{Names}
 use Rattle.session_core.specs.Inside.{TellsNames}
-use Rattle.session_core.specs.Names.{names_in, names_at, program_names}
+use Rattle.session_core.specs.Names.{names_in, names_at, names_over_all, program_names}
 use Rattle.session_core.specs.State.{State, libraries, programs, document_at}
 
 -- no document is open
@@ -29,5 +29,5 @@ names_made s n shown names is made = by_document (document_at s.store n) refl is
 -- what all tell
 pub names_all : (s : State) (folders : List Folder) (all : List PathId) (names : List Names) → folders ≡ libraries s → all ≡ programs folders s.store
     → names ≡ flat_map (names_at s) all → names ≡ program_names s
-unfolding program_names
+unfolding names_over_all
 names_all s folders all names are is told = told ∙ ap (flat_map (names_at s)) (is ∙ ap (λ f. programs f s.store) are)
