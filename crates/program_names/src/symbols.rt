@@ -133,7 +133,7 @@ fn rows_in(
 }
 
 /// The symbols that the points of a root define, and the sections.
-pub(crate) fn defined(
+pub(crate) fn symbols_of(
     alloc: Global,
     arena: &TraceArena<TraceItem>,
     root: NodeId,
