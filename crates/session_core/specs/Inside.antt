@@ -29,7 +29,7 @@ use Rattle.session_core.specs.Debugging.{trace_of}
 use Rattle.session_core.specs.Diagnostics.{diagnostics_of}
 use Rattle.session_core.specs.Held.{Held}
 use Rattle.session_core.specs.Message.{after_change, after_closing, asked, asks_later, farewell, unless_refused, Watching, configured}
-use Rattle.session_core.specs.Names.{names_of}
+use Rattle.session_core.specs.Names.{names_of, names_over_all}
 use Rattle.session_core.specs.Refusals.{Asks, too_early, out_of_place, repeats, first_of, log_fault}
 use Rattle.session_core.specs.State.{State, libraries, libraries_of, is_program, is_queued, number_at, document_at, last_list}
 use Rattle.session_core.specs.Step.{Effect, written}
@@ -99,6 +99,10 @@ list_in around store n document = diagnostics_of around.root around.configuratio
 abbrev pub libraries_in : Around → List Folder
 libraries_in around = libraries_of around.root around.configuration
 
+-- what the open programs among these documents and files tell of names
+abbrev pub names_among : Around → Store → List Names
+names_among around store = names_over_all around.root around.configuration store around.budget
+
 -- what was last published of each of these programs is its list, of its version and its text as they are, with the members
 -- as they are
 abbrev pub AreListed : (listed : List PathId) → Around → Store → List LastList → Type 0
@@ -113,12 +117,14 @@ pub record IsSound (listed : List PathId) (around : Around) (store : Store) (pub
   pub given : (n : PathId) → is_queued listed n ≡ true → n.0 < length store.paths
   pub are_listed : AreListed listed around store published
 
--- what is true of the parts of a session: that, and that the library folders and the index of members, where there is one, are
--- those that they should be
-pub record IsWhole (listed : List PathId) (folders : List Folder) (index : Option MemberIndex) (around : Around) (store : Store) (published : List LastList) : Type 0 where
+-- what is true of the parts of a session: that, and that the library folders, the index of members and what the programs tell of
+-- names, where these are kept, are those that they should be
+pub record IsWhole (listed : List PathId) (folders : List Folder) (index : Option MemberIndex) (names : Option (List Names)) (around : Around) (store : Store)
+    (published : List LastList) : Type 0 where
   pub sound : IsSound listed around store published
   pub folders_are : folders ≡ libraries_in around
   pub index_is : IfSome index (Indexes store)
+  pub names_are : IfSome names (λ told. told ≡ names_among around store)
 
 -- ---- messages on files
 

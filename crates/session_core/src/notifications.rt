@@ -136,6 +136,7 @@ impl Standing {
             Ok(()) => {
                 forget_lists(&mut self.listed, member, path);
                 self.index = None;
+                self.names = None;
                 queue_programs(&self.folders, &self.store, &mut self.queue)?;
                 Ok(Bodies::none(alloc))
             }
@@ -174,6 +175,7 @@ impl Standing {
         match self.store.change(alloc, uri.as_str(), version, edits) {
             Ok(()) => {
                 forget_lists(&mut self.listed, member, path);
+                self.names = None;
                 queue_programs(&self.folders, &self.store, &mut self.queue)?;
                 Ok(Bodies::none(alloc))
             }
@@ -203,6 +205,7 @@ impl Standing {
                 forget(&mut self.queue, &mut self.published, path);
                 forget_lists(&mut self.listed, member, path);
                 self.index = None;
+                self.names = None;
                 queue_programs(&self.folders, &self.store, &mut self.queue)?;
                 Ok(farewell)
             }

@@ -18,6 +18,7 @@ use file_uri::{UriFault, file_path};
 use group_members::MemberIndex;
 use hl_base::{OutOfMemory, PathId};
 use library_folders::{Folder, is_member};
+use program_names::AssembledNames;
 use std::alloc::Global;
 use std::rc::RcStr;
 
@@ -184,13 +185,20 @@ pub(crate) fn forget(queue: &mut Vec<PathId>, published: &mut Vec<LastList>, pat
     }
 }
 
-/// No list counts as that of what is there any more, and where members are found is to be made anew.
-pub(crate) fn forget_members(listed: &mut Vec<PathId>, index: &mut Option<MemberIndex>)
+/// No list counts as that of what is there any more, and where members are found and what programs tell of names is to be found
+/// anew.
+pub(crate) fn forget_members(
+    listed: &mut Vec<PathId>,
+    index: &mut Option<MemberIndex>,
+    names: &mut Option<Vec<AssembledNames>>,
+)
     ensures listed { listed.new.items ≡ [] }
     ensures index { index.new ≡ None }
+    ensures names { names.new ≡ None }
 {
     listed.clear();
     *index = None;
+    *names = None;
 }
 
 /// Keeps this as the last list of its program. An `Err` changes nothing.

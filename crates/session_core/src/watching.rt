@@ -122,7 +122,7 @@ impl Standing {
         ensures few { length result.store.documents ≤ 64 }
         ensures left { self.new ≡ record self.old { store = empty_store } }
     {
-        forget_members(&mut self.listed, &mut self.index);
+        forget_members(&mut self.listed, &mut self.index, &mut self.names);
         std::mem::replace(&mut self.store, DocumentStore::new(alloc))
     }
 
@@ -139,7 +139,7 @@ impl Standing {
     {
         let folders = folders_in(alloc, self.root.as_ref(), &configuration)?;
         documents_have_numbers(&store);
-        forget_members(&mut self.listed, &mut self.index);
+        forget_members(&mut self.listed, &mut self.index, &mut self.names);
         self.store = store;
         self.configuration = configuration;
         self.folders = folders;
@@ -158,7 +158,7 @@ impl Standing {
             ≡ watched_so_far self.new watch.new) }
     {
         documents_have_numbers(&store);
-        forget_members(&mut self.listed, &mut self.index);
+        forget_members(&mut self.listed, &mut self.index, &mut self.names);
         self.store = store;
         watch.take(alloc, Bodies::none(alloc))
     }
