@@ -119,8 +119,8 @@ pub record IsSound (listed : List PathId) (around : Around) (store : Store) (pub
 
 -- what is true of the parts of a session: that, and that the library folders, the index of members and what the programs tell of
 -- names, where these are kept, are those that they should be
-pub record IsWhole (listed : List PathId) (folders : List Folder) (index : Option MemberIndex) (names : Option (List Names)) (around : Around) (store : Store)
-    (published : List LastList) : Type 0 where
+pub record IsWhole (listed : List PathId) (folders : List Folder) (index : Option MemberIndex) (names : Option (List Names))
+    (around : Around) (store : Store) (published : List LastList) : Type 0 where
   pub sound : IsSound listed around store published
   pub folders_are : folders ≡ libraries_in around
   pub index_is : IfSome index (Indexes store)

@@ -14,7 +14,8 @@ use Rattle.session_core.specs.State.{State, libraries_of, programs, document_at}
 -- be given so many statements. The statements that are named stand in the texts that are present.
 unfoldable pub names_of : (root : Option (List ℕ)) → Configuration → Store → (budget : ℕ) → PathId → OpenDocument → Names
 names_of root configuration store budget n document =
-    assembled.names_of store n.0 document.text (parm_for root configuration document.path) (members_of root configuration store document) budget
+    assembled.names_of store n.0 document.text (parm_for root configuration document.path)
+    (members_of root configuration store document) budget
 
 -- what the program of the document of a number tells
 abbrev pub names_told : (root : Option (List ℕ)) → Configuration → Store → (budget : ℕ) → PathId → Option OpenDocument → List Names
