@@ -5,8 +5,7 @@ use Rattle.std.specs.Ordering.{nat_cmp}
 use Rattle.std.specs.BTreeSet.{insert_key}
 use Rattle.hl_base.specs.declared.place.Origin.{Origin}
 use Rattle.hl_base.specs.declared.place.PathId.{PathId}
-use Rattle.statement_listing.specs.Listings.{Listed}
-use Rattle.text_lists.specs.Definitions.{Defined}
+use Rattle.text_lists.specs.Definitions.{Defined, defined_paths}
 use Rattle.trace_arena.specs.Points.{Point}
 use Rattle.trace_paths.specs.Touched.{frame_path}
 use Rattle.trace_values.specs.CallFrames.{frames_of}
@@ -28,10 +27,6 @@ point_paths point = item_paths point.item
 -- the paths of points
 abbrev pub all_paths : List (Point TraceItem) → List ℕ
 all_paths points = flat_map point_paths points
-
--- the paths of the statements of a definition
-abbrev pub defined_paths : Defined → List ℕ
-defined_paths one = map (λ (line : Listed). line.origin.path.0) one.list
 
 -- paths and others, each once, in the order of their numbers
 abbrev pub with_paths : List ℕ → List ℕ → List ℕ

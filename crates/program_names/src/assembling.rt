@@ -10,7 +10,7 @@ ghost use Rattle.program_names.specs.Names.{names_in, names_of};
 
 use crate::names::AssembledNames;
 use crate::paths::{met_paths, touched};
-use crate::symbols::{Defined, defined};
+use crate::symbols::{Defined, symbols_of};
 use crate::texts::texts_at;
 use call_sites::CallSite;
 use called_definitions::definitions_of;
@@ -43,7 +43,7 @@ fn names_in<P: Present>(
     let texts = texts_at(alloc, store, &met)?;
     let definitions = definitions_of(alloc, arena, root, &texts, present)?;
     let occurrences = occurrences(alloc, arena, root, &texts, &definitions, present)?;
-    let Defined { rows, sections } = defined(alloc, arena, root)?;
+    let Defined { rows, sections } = symbols_of(alloc, arena, root)?;
     let touched = touched(alloc, met, &definitions)?;
     Ok(AssembledNames {
         path,

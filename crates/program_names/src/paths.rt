@@ -4,6 +4,7 @@ ghost use Rattle.std.specs.List.{flat_map};
 ghost use Rattle.std.specs.Ordering.{nat_cmp};
 ghost use Rattle.std.specs.BTreeSet.{insert_key};
 ghost use Rattle.hl_base.specs.declared.place.PathId.{PathId as Path};
+ghost use Rattle.text_lists.specs.Definitions.{defined_paths};
 ghost use Rattle.trace_arena.specs.Nodes.{IsLive};
 ghost use Rattle.trace_arena.specs.Points.{points};
 ghost use Rattle.trace_paths.specs.Touched.{frame_path};
@@ -85,6 +86,16 @@ fn listed(alloc: Global, met: &BTreeSet<u32>) -> Result<Vec<PathId>, OutOfMemory
     Ok(paths)
 }
 
+/// These paths are met.
+fn meet_all(met: &mut BTreeSet<u32>, paths: &[PathId]) -> Result<(), OutOfMemory>
+    ensures { OnOk result (met.new.keys ≡ rules.with_paths met.old.keys (map (λ path. path.0) paths.now)) }
+{
+    for path in paths {
+        meet(met, *path)?;
+    }
+    Ok(())
+}
+
 /// The paths that were met, and those of the statements of definitions.
 pub(crate) fn touched(
     alloc: Global,
@@ -92,11 +103,10 @@ pub(crate) fn touched(
     definitions: &DefinitionLists,
 ) -> Result<Vec<PathId>, OutOfMemory>
     ensures { IfOk result (λ paths. paths.items
-        ≡ map (λ n. record { 0 = n }) (rules.with_paths met.keys (flat_map rules.defined_paths definitions.now))) }
+        ≡ map (λ n. record { 0 = n }) (rules.with_paths met.keys (flat_map defined_paths definitions.now))) }
 {
     let mut met = met;
-    for path in &definitions.paths(alloc)? {
-        meet(&mut met, *path)?;
-    }
+    let paths = definitions.paths(alloc)?;
+    meet_all(&mut met, paths.as_slice())?;
     listed(alloc, &met)
 }

@@ -1,13 +1,11 @@
 //! The symbols of a program, and its sections.
-ghost use Rattle.std.specs.Prelude.{◌≡◌, ◌++◌, ◌<◌, ◌≤◌, length, IfOk, OnOk, Some, slice_get};
-ghost use Rattle.std.specs.Option.{option_map, option_map_or};
+ghost use Rattle.std.specs.Prelude.{◌≡◌, ◌++◌, ◌<◌, [], length, IfOk, OnOk, slice_get};
+ghost use Rattle.std.specs.Option.{option_map_or};
 ghost use Rattle.ordinary_symbols.specs.Shown.{table_of};
-ghost use Rattle.section_layout.specs.Layout.{layout_of};
 ghost use Rattle.section_layout.specs.Views.{layout_view};
 ghost use Rattle.trace_arena.specs.Nodes.{IsLive};
 ghost use Rattle.trace_arena.specs.Points.{points};
 ghost use Rattle.trace_cursor.specs.Stacks.{stack_of};
-ghost use Rattle.program_assembly.specs.Statements.{generated};
 ghost use Rattle.program_names.specs.Symbols as rules;
 
 use crate::stacks::stack_at;
@@ -54,7 +52,8 @@ fn add_rows(
         let Some(row) = symbols.row(at) else {
             return Ok(());
         };
-        rows.push(row_at(alloc, row, stack)?)?;
+        let row = row_at(alloc, row, stack)?;
+        rows.push(row)?;
     }
     Ok(())
 }
@@ -133,7 +132,7 @@ fn rows_in(
 }
 
 /// The symbols that the points of a root define, and the sections.
-pub(crate) fn defined(
+pub(crate) fn symbols_of(
     alloc: Global,
     arena: &TraceArena<TraceItem>,
     root: NodeId,

@@ -1,5 +1,5 @@
 -- The statements of macro definitions by the places of their prototypes (this project).
-use Rattle.std.specs.Prelude.{◌==◌, ◌&&◌, Bool, List, [], ◌∷◌, ◌++◌, Option, is_some, if◌then◌else◌}
+use Rattle.std.specs.Prelude.{ℕ, ◌==◌, ◌&&◌, Bool, List, [], ◌∷◌, ◌++◌, map, Option, is_some, if◌then◌else◌}
 use Rattle.std.specs.List.{find}
 use Rattle.std.specs.Option.{option_map}
 use Rattle.hl_base.specs.declared.place.Origin.{Origin}
@@ -24,3 +24,11 @@ list_of definitions origin = option_map list_in (find (stands_at origin) definit
 abbrev pub with_list : List Defined → Origin → List Listed → List Defined
 with_list definitions origin list =
     if is_some (list_of definitions origin) then definitions else definitions ++ record { origin = origin; list = list } ∷ []
+
+-- the paths of statements
+abbrev pub line_paths : List Listed → List ℕ
+line_paths list = map (λ (one : Listed). one.origin.path.0) list
+
+-- the paths of the statements of a definition
+abbrev pub defined_paths : Defined → List ℕ
+defined_paths one = line_paths one.list

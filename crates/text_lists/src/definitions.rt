@@ -1,12 +1,14 @@
 //! The statements of definitions.
-ghost use Rattle.std.specs.Prelude.{◌≡◌, [], OnOk};
+ghost use Rattle.std.specs.Prelude.{◌≡◌, ◌++◌, [], map, IfOk, OnOk};
+ghost use Rattle.std.specs.List.{flat_map};
 ghost use Rattle.std.specs.Option.{option_copied};
+ghost use Rattle.indexmap.specs.IndexMap.{values};
 ghost use Rattle.text_lists.specs.Definitions as definitions;
 ghost use Rattle.text_lists.specs.DefinitionPlaces as held;
 
-use hl_base::{Origin, OutOfMemory};
+use hl_base::{Origin, OutOfMemory, PathId};
 use indexmap::IndexMap;
-use statement_listing::Listing;
+use statement_listing::{Line, Listing};
 use std::alloc::Global;
 use std::marker::Model;
 
@@ -44,6 +46,27 @@ fn place_of(origin: Origin) -> Place
     }
 }
 
+/// Adds the paths of statements.
+fn add_paths(paths: &mut Vec<PathId>, lines: &[Line]) -> Result<(), OutOfMemory>
+    ensures { OnOk result (map (λ p. p.0) paths.new.items ≡ map (λ p. p.0) paths.old.items ++ definitions.line_paths lines.now) }
+{
+    for line in lines {
+        paths.push(line.origin().path)?;
+    }
+    Ok(())
+}
+
+/// The paths of the statements of lists.
+fn paths_of(alloc: Global, lists: &IndexMap<Place, Listing>) -> Result<Vec<PathId>, OutOfMemory>
+    ensures { IfOk result (λ paths. map (λ p. p.0) paths.items ≡ flat_map definitions.line_paths (values lists.now)) }
+{
+    let mut paths = Vec::new(alloc);
+    for list in lists.values() {
+        add_paths(&mut paths, list.lines())?;
+    }
+    Ok(paths)
+}
+
 impl DefinitionLists {
     /// No definition. It takes no memory.
     pub fn new(alloc: Global) -> DefinitionLists
@@ -70,5 +93,12 @@ impl DefinitionLists {
         }
         self.lists.insert(place_of(origin), list)?;
         Ok(())
+    }
+
+    /// The paths of all their statements.
+    pub fn paths(&self, alloc: Global) -> Result<Vec<PathId>, OutOfMemory>
+        ensures { IfOk result (λ paths. map (λ p. p.0) paths.items ≡ flat_map definitions.defined_paths self.now) }
+    {
+        paths_of(alloc, &self.lists)
     }
 }
