@@ -8,7 +8,7 @@ use Rattle.session_core.proofs.standing.Standing.initialize.Goals as goal
 pub returns-else-waits : goal.returns-else-waits
 returns-else-waits c =
     if_ok c.begin.result (λ bodies step.
-        first_asked c.args.self.now c.begin.new.self c.args.id c.args.root bodies
-        (ap (λ (z : State). z.stage) (sym c.self.view_is) ∙ c.in-Fresh.is)
-        (ap (λ (z : State). waits z.waiting c.args.id) (sym c.self.view_is) ∙ sym c.waits.ensures ∙ c.if-waits.false) step)
+    first_asked c.args.self.now c.begin.new.self c.args.id c.args.root bodies
+    (ap (λ (z : State). z.stage) (sym c.self.view_is) ∙ c.in-Fresh.is)
+    (ap (λ (z : State). waits z.waiting c.args.id) (sym c.self.view_is) ∙ sym c.waits.ensures ∙ c.if-waits.false) step)
     c.begin.ensures
