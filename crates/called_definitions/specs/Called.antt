@@ -21,3 +21,10 @@ with_point texts members known point = with_definition texts members known point
 -- the definitions of the macros whose statements these points are, in the order in which they come, each once
 unfoldable pub definitions_of : List Source → (List ℕ → Member) → List (Point TraceItem) → List Defined
 definitions_of texts members points = fold (with_point texts members) [] points
+
+-- definitions, and those whose prototypes stand at these places
+abbrev pub with_prototype : List Source → (List ℕ → Member) → List Defined → Origin → List Defined
+with_prototype texts members known origin = with_definition texts members known (Some origin)
+
+abbrev pub with_prototypes : List Source → (List ℕ → Member) → List Defined → List Origin → List Defined
+with_prototypes texts members known origins = fold (with_prototype texts members) known origins

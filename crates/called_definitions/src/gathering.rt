@@ -62,3 +62,20 @@ pub fn definitions_of<P: Present>(
     }
     Ok(known)
 }
+
+/// Adds the definitions whose prototypes stand at these places, each that is not there yet.
+pub fn add_definitions<P: Present>(
+    alloc: Global,
+    texts: &TextLists,
+    present: &P,
+    prototypes: &[Origin],
+    known: &mut DefinitionLists,
+) -> Result<(), OutOfMemory>
+    ensures { OnOk result (known.new ≡ called.with_prototypes texts.now (P.members present.now) known.old prototypes.now) }
+{
+    let mut members = Members::new(alloc);
+    for origin in prototypes {
+        add_definition(alloc, texts, present, Some(*origin), &mut members, known)?;
+    }
+    Ok(())
+}

@@ -1,3 +1,4 @@
 pub mod PathLaws
+pub mod PrototypeLaws
 pub mod SymbolLaws
 mod OpenCode

@@ -5,7 +5,6 @@ use Rattle.std.specs.Option.{option_map, option_map_or}
 use Rattle.std.proofs.lemmas.List.{map-append}
 use Rattle.std.proofs.lemmas.Option.{none-some}
 use Rattle.hl_base.specs.declared.place.Frame.{Frame}
-use Rattle.hl_base.specs.declared.set.Line.{Line}
 use Rattle.ordinary_symbols.specs.Table.{Table, Entry, row_of}
 use Rattle.program_assembly.specs.PointNotes.{stack_at}
 use Rattle.program_assembly.specs.Statements.{generated, own_line}

@@ -10,10 +10,11 @@ ghost use Rattle.program_names.specs.Names.{names_in, names_of};
 
 use crate::names::AssembledNames;
 use crate::paths::{met_paths, touched};
+use crate::prototypes::prototypes;
 use crate::symbols::{Defined, symbols_of};
 use crate::texts::texts_at;
 use call_sites::CallSite;
-use called_definitions::definitions_of;
+use called_definitions::{add_definitions, definitions_of};
 use document_store::DocumentStore;
 use expansion_memo::Memo;
 use expansion_step::runs_are_expansions;
@@ -41,9 +42,11 @@ fn names_in<P: Present>(
 {
     let met = met_paths(alloc, arena, root)?;
     let texts = texts_at(alloc, store, &met)?;
-    let definitions = definitions_of(alloc, arena, root, &texts, present)?;
+    let mut definitions = definitions_of(alloc, arena, root, &texts, present)?;
     let occurrences = occurrences(alloc, arena, root, &texts, &definitions, present)?;
     let Defined { rows, sections } = symbols_of(alloc, arena, root)?;
+    let places = prototypes(alloc, arena, root, &texts)?;
+    add_definitions(alloc, &texts, present, places.as_slice(), &mut definitions)?;
     let touched = touched(alloc, met, &definitions)?;
     Ok(AssembledNames {
         path,
@@ -97,8 +100,6 @@ pub fn assemble_names<P: Present, L: Ledger>(
 {
     let text = present.pool().shared(alloc, text)?;
     let mut arena = TraceArena::new(alloc);
-    let root = run(
-        alloc, path, &text, parm, present, budget, &mut arena, steps,
-    )?;
+    let root = run(alloc, path, &text, parm, present, budget, &mut arena, steps)?;
     names_in(alloc, path, store, present, &arena, root)
 }

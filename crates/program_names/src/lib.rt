@@ -11,6 +11,7 @@
 mod assembling;
 mod names;
 mod paths;
+mod prototypes;
 mod stacks;
 mod statements;
 mod symbols;

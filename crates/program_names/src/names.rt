@@ -2,8 +2,8 @@
 ghost use Rattle.std.specs.Prelude.{◌≡◌};
 
 use hl_base::PathId;
-use std::marker::Model;
 use standing_occurrences::Standing;
+use std::marker::Model;
 use trace_values::{Sections, SymbolRows};
 use waiting_requests::ProgramNames;
 

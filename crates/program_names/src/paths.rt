@@ -12,6 +12,7 @@ ghost use Rattle.trace_values.specs.CallFrames.{frames_of};
 ghost use Rattle.program_names.specs.Paths as rules;
 
 use hl_base::{Origin, OutOfMemory, PathId};
+use program_occurrences::is_entered;
 use std::alloc::Global;
 use std::collections::BTreeSet;
 use text_lists::DefinitionLists;
@@ -37,14 +38,24 @@ fn meet_call(met: &mut BTreeSet<u32>, frames: &OwnFrames) -> Result<(), OutOfMem
     meet(met, frames.origin().path)
 }
 
-/// The path of the macro that an operation named is met, if it named one.
-fn meet_called(met: &mut BTreeSet<u32>, called: Option<Origin>) -> Result<(), OutOfMemory>
-    ensures { OnOk result (met.new.keys ≡ rules.with_paths met.old.keys (rules.called_path called)) }
+/// The path of a place is met, if there is one.
+fn meet_place(met: &mut BTreeSet<u32>, place: Option<Origin>) -> Result<(), OutOfMemory>
+    ensures { OnOk result (met.new.keys ≡ rules.with_paths met.old.keys (rules.called_path place)) }
 {
-    match called {
+    match place {
         Some(origin) => meet(met, origin.path),
         None => Ok(()),
     }
+}
+
+/// The place of the prototype of the macro whose call an item entered.
+pub(crate) fn entered(item: &TraceItem) -> Option<Origin>
+    ensures { result ≡ rules.entered item.now }
+{
+    if is_entered(item) {
+        return item.called;
+    }
+    None
 }
 
 /// The paths of an item are met.
@@ -52,7 +63,7 @@ fn meet_item(met: &mut BTreeSet<u32>, item: &TraceItem) -> Result<(), OutOfMemor
     ensures { OnOk result (met.new.keys ≡ rules.with_paths met.old.keys (rules.item_paths item.now)) }
 {
     meet_call(met, &item.frames)?;
-    meet_called(met, item.called)
+    meet_place(met, entered(item))
 }
 
 /// The paths that the points of a root touch.

@@ -18,4 +18,5 @@ mod point;
 mod prototype;
 mod walk;
 
+pub use operation::is_entered;
 pub use walk::occurrences;

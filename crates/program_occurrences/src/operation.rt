@@ -65,7 +65,7 @@ pub(crate) fn used_by(item: &TraceItem, statement: &Statement) -> OperandUse
 }
 
 /// Whether a call was entered.
-pub(crate) fn is_entered(item: &TraceItem) -> bool
+pub fn is_entered(item: &TraceItem) -> bool
     ensures { result ≡ operations.is_entered item.now }
 {
     !has_note(item, UNREADABLE) && !has_note(item, TOO_DEEP)

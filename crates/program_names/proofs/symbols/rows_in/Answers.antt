@@ -1,10 +1,9 @@
-use Rattle.std.proofs.Common.{◌≡◌, ℕ, ◌+◌, ◌<◌, List, ◌++◌, [], Option, Some, length, take, ap, sym, ◌∙◌, arith, length-append}
+use Rattle.std.proofs.Common.{◌≡◌, ℕ, ◌+◌, ◌<◌, List, ◌++◌, [], Some, length, take, ap, sym, ◌∙◌, arith, length-append}
 use Rattle.std.specs.Prelude.{slice_get}
 use Rattle.std.specs.Option.{option_map, option_map_or}
 use Rattle.hl_base.specs.declared.set.Line.{Line}
-use Rattle.trace_values.specs.declared.item.TraceItem.{TraceItem}
 use Rattle.trace_values.specs.declared.symbol_row.SymbolRow.{SymbolRow}
-use Rattle.trace_arena.specs.Points.{Point, points}
+use Rattle.trace_arena.specs.Points.{points}
 use Rattle.trace_cursor.specs.Stacks.{stack_of}
 use Rattle.section_layout.specs.Views.{layout_view}
 use Rattle.program_assembly.specs.Statements.{line_in, own_line, generated}
@@ -13,7 +12,7 @@ use Rattle.program_assembly.proofs.StatementLaws.{fewer_statements, line_there}
 use Rattle.trace_variables.proofs.ValueLemmas.{step_index}
 use Rattle.trace_paths.proofs.ListLaws.{flat_map-more}
 use Rattle.program_names.specs.Symbols.{rows_between, rows_from, behind_point}
-use Rattle.program_names.proofs.SymbolLaws.{behind_all, rows_there, rows_from-next, behind_all-next, behind_there, rows_told}
+use Rattle.program_names.proofs.SymbolLaws.{rows_there, rows_from-next, behind_all-next, behind_there, rows_told}
 use Rattle.program_names.proofs.symbols.rows_in.Goals as goal
 
 pub overflow_add-statements : goal.overflow_add-statements
