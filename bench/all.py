@@ -19,7 +19,7 @@ BEGIN, END = "<!-- figures, written by make bench -->\n", "<!-- end of the figur
 SCRIPTS = [
     "statements.sh", "expressions.sh", "effect.sh", "instructions.sh", "edits.sh", "session.sh", "definitions.sh", "open_code.sh",
     "macros.sh", "library.sh", "lookahead.sh", "layout.sh", "checks.sh", "memo.sh", "traces.sh",
-    "launch.sh",
+    "launch.sh", "questions.sh",
 ]
 # More than so much of the processors' time in use: the figures would be those of a busy machine.
 MOST_BUSY = 0.05
@@ -137,6 +137,9 @@ ROWS = [
         r"(?m)^list: ([\d.]+) ms", most=1.2),
     Row("launch.sh", "a stop behind nearly all of its points", r"(?m)^stop: ([\d.]+) ms", "ms", most=5),
     Row("launch.sh", "500 variables there", r"(?m)^variables: ([\d.]+) ms", "ms", most=20),
+    Row("questions.sh", "hover among 200,000 occurrences", r"(?m)^hover in .*: ([\d.]+) ms", "ms", most=5),
+    Row("questions.sh", "definition there", r"(?m)^definition there: ([\d.]+) ms", "ms", most=5),
+    Row("questions.sh", "references to 10,000 places", r"(?m)^references to \d+ places: ([\d.]+) ms", "ms", most=60),
 ]
 
 

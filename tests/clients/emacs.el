@@ -25,8 +25,9 @@
 
 (defun offered ()
   "What Emacs can ask of the server besides lists."
-  (vconcat (seq-filter #'eglot--server-capable
-                       '(:hoverProvider :definitionProvider :referencesProvider :documentSymbolProvider))))
+  (vconcat (mapcar #'symbol-name
+                   (seq-filter #'eglot--server-capable
+                               '(:hoverProvider :definitionProvider :referencesProvider :documentSymbolProvider)))))
 
 (find-file (getenv "HLASM_TEST_FILE"))
 (apply #'eglot (eglot--guess-contact))

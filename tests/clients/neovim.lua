@@ -178,6 +178,15 @@ local function files()
   end
 end
 
+-- What is answered to a question about a place in the current buffer.
+local function ask(method, line, character)
+  local uri = vim.uri_from_bufnr(vim.api.nvim_get_current_buf())
+  local params = { textDocument = { uri = uri }, position = { line = line, character = character } }
+  for _, answer in pairs(vim.lsp.buf_request_sync(0, 'textDocument/' .. method, params, A_MINUTE) or {}) do
+    return answer.result
+  end
+end
+
 -- A program, and a macro in a library that it calls: each thing that happens to the macro changes the program's list.
 local function library()
   local root = vim.env.HLASM_TEST_LIBRARY
@@ -208,6 +217,8 @@ local function library()
   lists('the settings have no library', 'H040')
   vim.fn.writefile(settings, groups)
   lists('the settings have the library again', nil)
+  vim.api.nvim_buf_set_lines(0, 0, 0, true, { '* a line more' }) -- the questions come before the list of this change
+  record.names = { hover = ask('hover', 1, 9), definition = ask('definition', 1, 9) }
   vim.fn.delete(member)
   lists('the file of the macro is deleted again', 'H040')
 end

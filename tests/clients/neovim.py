@@ -1,7 +1,8 @@
 #!/usr/bin/env python3
 """Neovim with the plugin and the built program: after each edit of a file, the diagnostics that Neovim has are those of a
 server that was started afresh with the same text; and what is edited, written or deleted in a library shows in the list of the
-program that calls it. Where there is no Neovim it says so and ends with 77: skipped.
+program that calls it; and a question right after a change is answered of the changed text. If there is no Neovim it says so and
+ends with 77: skipped.
 
 Usage: neovim.py [--server PATH] [--nvim PATH]
 """
@@ -209,6 +210,14 @@ def faults_of_library(room, library):
             yield f"{name}: the list of the program is {found.get(name)}, not {wanted}"
 
 
+def faults_of_names(room, names):
+    """What is answered about the call of the macro, right after a change."""
+    said, place = names["hover"]["contents"]["value"], names["definition"]
+    found = [said, place["uri"].replace(f"file://{room}/library/", ""), place["range"]["start"]["line"]]
+    if found != ["macro SHR", "lib/SHR.mac", 1]:
+        yield f"of the call of the macro it is said: {found}"
+
+
 def faults_of_end(room):
     with open(f"{room}/statuses", encoding="utf-8") as file:
         statuses = file.read().split()
@@ -223,7 +232,7 @@ def check(nvim, program, room):
     try:
         faults = [*faults_of_steps(lint, program, room, record["steps"]), *faults_of_end(room),
                   *faults_of_files(lint, program, room, record["files"], record["roots"]),
-                  *faults_of_library(room, record["library"])]
+                  *faults_of_library(room, record["library"]), *faults_of_names(room, record["names"])]
     except lint.ServerFault as fault:
         faults = [f"a fresh server: {fault}"]
     if "rror" in record["messages"] or "quit with" in record["messages"]:

@@ -60,12 +60,14 @@ def wait_until_read(process):
 
 
 def run_in_turn(command, bodies):
-    """The output and the status where each body is sent when the one before was read."""
-    with subprocess.Popen(command, stdin=subprocess.PIPE, stdout=subprocess.PIPE, stderr=subprocess.DEVNULL, bufsize=0) as process:
-        pieces = []
-        reader = threading.Thread(target=lambda: pieces.append(process.stdout.read()), daemon=True)
+    """The output, the status and what is printed on standard error, where each body is sent when the one before was read."""
+    with subprocess.Popen(command, stdin=subprocess.PIPE, stdout=subprocess.PIPE, stderr=subprocess.PIPE, bufsize=0) as process:
+        pieces, printed = [], []
+        readers = [threading.Thread(target=lambda pipe=pipe, to=to: to.append(pipe.read()), daemon=True)
+                   for pipe, to in ((process.stdout, pieces), (process.stderr, printed))]
         watchdog = threading.Timer(60, process.kill)
-        reader.start()
+        for reader in readers:
+            reader.start()
         watchdog.start()
         try:
             for body in bodies:
@@ -79,8 +81,9 @@ def run_in_turn(command, bodies):
             process.stdin.close()
             status = process.wait()
             watchdog.cancel()
-            reader.join()
-    return b"".join(pieces), status
+            for reader in readers:
+                reader.join()
+    return b"".join(pieces), status, b"".join(printed).decode("utf-8", "replace")
 
 
 def run_at_once(command, bodies):
@@ -89,8 +92,8 @@ def run_at_once(command, bodies):
         file.write(framed(bodies))
         assert file.tell() <= 8192
         file.seek(0)
-        run = subprocess.run(command, stdin=file, stdout=subprocess.PIPE, stderr=subprocess.DEVNULL, timeout=60)
-    return run.stdout, run.returncode
+        run = subprocess.run(command, stdin=file, capture_output=True, timeout=60)
+    return run.stdout, run.returncode, run.stderr.decode("utf-8", "replace")
 
 
 def difference(server, row):
@@ -98,19 +101,13 @@ def difference(server, row):
     says = [INITIALIZE if body == "initialize" else body for body in row["says"]]
     hears = framed(OFFER if body == "offer" else body for body in row["hears"])
     run = run_at_once if row.get("at_once") else run_in_turn
-    output, status = run([server, *row.get("words", ["serve"])], says)
+    output, status, printed = run([server, *row.get("words", ["serve"])], says)
     if output != hears:
         return f"wrote {output!r}, not {hears!r}"
     if status != STATUSES[row["ends"]]:
         return f"ended with status {status}, not {row['ends']}"
-    run = subprocess.run([server, *row.get("words", ["serve"])], input=says, capture_output=True, timeout=60)
-    if run.stdout != hears:
-        return f"wrote {run.stdout!r}, not {hears!r}"
-    if run.returncode != STATUSES[row["ends"]]:
-        return f"ended with status {run.returncode}, not {row['ends']}"
-    printed = run.stderr.decode("utf-8", "replace").splitlines()
-    if printed != PRINTED.get(row["ends"], [row["ends"]]):
-        return f"printed {printed} on standard error"
+    if printed.splitlines() != PRINTED.get(row["ends"], [row["ends"]]):
+        return f"printed {printed!r} on standard error"
     return None
 
 

@@ -2,8 +2,8 @@
 //! compares what comes of it: `expansion_cases expansions` reads the cases from standard input, prints each whose answer
 //! differs, and at the end `N passed, M failed`.
 //!
-//! tests/cases/README.md says what the table reads. What the crates promise stands on their own functions; here is only how
-//! actions are carried out, and how what comes of it is written down.
+//! tests/cases/README.md says what the table reads. What the crates promise is said by their own contracts; this program only
+//! knows how actions are carried out, and how what comes of it is written down.
 #![tactic(auto)]
 
 mod reading;

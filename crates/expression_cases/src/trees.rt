@@ -66,6 +66,13 @@ fn infix(alloc: Global, left: String, word: &str, right: String) -> Result<Strin
     format!(in alloc; "({left} {word} {right})")
 }
 
+/// Adds a subscript in brackets.
+fn add_subscript(text: &mut String, subscript: &str) -> Result<(), AllocError> {
+    text.push_str("[")?;
+    text.push_str(subscript)?;
+    text.push_str("]")
+}
+
 /// A tree, its operators before their operands.
 fn shown(alloc: Global, e: &Expr) -> Result<String, AllocError> {
     match e {
@@ -75,9 +82,7 @@ fn shown(alloc: Global, e: &Expr) -> Result<String, AllocError> {
         Expr::Variable(asked, name, subscripts) => {
             let mut text = symbol(alloc, *asked, "&", name)?;
             for subscript in subscripts {
-                text.push_str("[")?;
-                text.push_str(shown(alloc, subscript)?.as_str())?;
-                text.push_str("]")?;
+                add_subscript(&mut text, shown(alloc, subscript)?.as_str())?;
             }
             Ok(text)
         }
@@ -85,12 +90,8 @@ fn shown(alloc: Global, e: &Expr) -> Result<String, AllocError> {
             format!(in alloc; "({} {})", sign_mark(*sign), shown(alloc, operand)?)
         }
         Expr::Pair(operator, left, right) => {
-            prefix(
-                alloc,
-                mark(*operator),
-                shown(alloc, left)?,
-                shown(alloc, right)?,
-            )
+            let (left, right) = (shown(alloc, left)?, shown(alloc, right)?);
+            prefix(alloc, mark(*operator), left, right)
         }
         Expr::Paren(inner) => format!(in alloc; "<{}>", shown(alloc, inner)?),
         Expr::Quoted(items) => quoted(alloc, items),
@@ -107,12 +108,8 @@ fn shown(alloc: Global, e: &Expr) -> Result<String, AllocError> {
         Expr::Joined(left, right) => infix(alloc, shown(alloc, left)?, ".", shown(alloc, right)?),
         Expr::Not(operand) => format!(in alloc; "(not {})", shown(alloc, operand)?),
         Expr::Compared(comparison, left, right) => {
-            prefix(
-                alloc,
-                compares(*comparison),
-                shown(alloc, left)?,
-                shown(alloc, right)?,
-            )
+            let (left, right) = (shown(alloc, left)?, shown(alloc, right)?);
+            prefix(alloc, compares(*comparison), left, right)
         }
     }
 }

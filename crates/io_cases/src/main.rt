@@ -1,8 +1,8 @@
 //! Compares tables of cases with what `io_edge` answers: `io_cases TABLE` reads the cases of one table from standard input,
 //! prints each whose answer differs, and at the end `N passed, M failed`.
 //!
-//! tests/cases/README.md says what each table reads. What the crate promises stands on its own functions; here is only how
-//! a source, a sink or a library is asked and how an answer is written down.
+//! tests/cases/README.md says what each table reads. What the crate promises is said by its own contracts; this program only
+//! knows how a source, a sink or a library is asked and how an answer is written down.
 #![tactic(auto)]
 
 mod libraries;

@@ -5,7 +5,7 @@ ghost use Rattle.io_edge.specs.LibraryCall.{HasLibraryCause};
 
 use crate::{Library, LibraryFault};
 use std::alloc::Global;
-use std::fs::DirEntry;
+use std::fs::{DirEntry, OpenFile};
 use std::io::{Error, ErrorKind, Read};
 use std::marker::Model;
 use std::rt::Files;
@@ -14,8 +14,8 @@ use std::{fs, io};
 /// How many bytes a file may have, so that none takes the memory of all others.
 const LONGEST_FILE: u64 = 0x400_0000;
 
-/// The room that is made for a file before its length is known: most need no more.
-const USUAL_LENGTH: usize = 0x2000;
+/// The room that is made for a file that does not tell its length: most need no more.
+const USUAL_LENGTH: usize = 0x1000;
 
 /// A library over a file system. It tells nothing of what it reads.
 ///
@@ -111,6 +111,14 @@ fn names_in<R: Files + AllocGlobal + Clone + Drop>(
     Ok(Some(names))
 }
 
+/// The room that is made for the bytes of a file: as much as it says that it needs, and a byte more, at which its end shows.
+fn room_for<F: OpenFile>(file: &F) -> usize {
+    match file.metadata() {
+        Ok(found) => found.len().min(LONGEST_FILE) as usize + 1,
+        Err(_) => USUAL_LENGTH,
+    }
+}
+
 /// The bytes of the file at a path.
 fn bytes_at<R: Files + AllocGlobal + Clone + Drop>(
     alloc: Global,
@@ -122,7 +130,7 @@ fn bytes_at<R: Files + AllocGlobal + Clone + Drop>(
     let Some(file) = unless_absent(fs::open(files, path))? else {
         return Ok(None);
     };
-    let mut bytes = Vec::with_capacity(alloc, USUAL_LENGTH)?;
+    let mut bytes = Vec::with_capacity(alloc, room_for(&file))?;
     match file.take(LONGEST_FILE + 1).read_to_end(&mut bytes) {
         Ok(count) if count as u64 <= LONGEST_FILE => Ok(Some(bytes)),
         Ok(_) => Err(LibraryFault::Failed),

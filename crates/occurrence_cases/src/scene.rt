@@ -1,12 +1,13 @@
 //! A program with its occurrences.
 ghost use Rattle.std.specs.Prelude.{◌≡◌, ◌≤◌, length, IfSome};
+ghost use Rattle.text_pool.specs.Pool.{IsLive};
 
 use crate::words::cut;
 use called_definitions::definitions_of;
 use document_store::{DocumentStore, MemberText, StoreFault};
 use expansion_memo::Memo;
 use group_members::{GroupMembers, MemberIndex};
-use hl_base::{Ledger, OutOfMemory, PathId, Steps, Text};
+use hl_base::{Ledger, OutOfMemory, PathId, Steps, Text, TextId};
 use macro_expand::{Expander, HlasmLanguage};
 use program_assembly::assemble;
 use program_occurrences::occurrences;
@@ -75,24 +76,23 @@ fn texts_at(
     Ok(texts)
 }
 
-/// The occurrences of the program of a path, whose members are in this folder.
-fn standing_in<L: Ledger>(
+/// The occurrences of the program of a path and a text of the store, whose members are in this folder.
+fn standing_of<L: Ledger>(
     alloc: Global,
     store: &DocumentStore,
     path: PathId,
+    text: TextId,
     folder: &str,
     blank: Blank,
 ) -> Result<Standing, OutOfMemory>
+    requires live { IsLive store.now.pool text.0 }
     requires name { blank.name ≡ L.name }
     requires parts { blank.parts ≡ L.parts }
     requires one { blank.parts ≡ 1 }
 {
-    let Some(MemberText::File(text)) = store.present(path) else {
-        return Ok(Standing::new(alloc));
-    };
-    let index = MemberIndex::of(alloc, store)?;
     let mut folders = Vec::new(alloc);
     folders.push(Text::of(alloc, folder)?)?;
+    let index = MemberIndex::of(alloc, store)?;
     let members = GroupMembers::new(store, &index, folders.as_slice());
     let machine = Expander::new(HlasmLanguage);
     let mut memo: Memo<Expander> = Memo::new(alloc);
@@ -106,6 +106,22 @@ fn standing_in<L: Ledger>(
     occurrences(alloc, &arena, made.root, &texts, &definitions, &members)
 }
 
+/// The occurrences of the program of a path, whose members are in this folder; none if no text is present there.
+fn standing_at(
+    alloc: Global,
+    store: &DocumentStore,
+    path: &str,
+    folder: &str,
+) -> Result<Standing, OutOfMemory> {
+    let Some(number) = store.path_id(path) else {
+        return Ok(Standing::new(alloc));
+    };
+    let Some(MemberText::File(text)) = store.present(number) else {
+        return Ok(Standing::new(alloc));
+    };
+    standing_of::<Brand>(alloc, store, number, text, folder, Blank::new(1))
+}
+
 /// The scene of texts, of the path of a program and of the folder that has its members.
 pub fn scene_of(
     alloc: Global,
@@ -117,9 +133,6 @@ pub fn scene_of(
     for part in texts.split("; ") {
         add_text(alloc, &mut store, part)?;
     }
-    let standing = match store.path_id(program) {
-        Some(path) => standing_in::<Brand>(alloc, &store, path, folder, Blank::new(1))?,
-        None => Standing::new(alloc),
-    };
+    let standing = standing_at(alloc, &store, program, folder)?;
     Ok(Scene { store, standing })
 }

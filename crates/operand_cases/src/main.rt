@@ -1,8 +1,8 @@
-//! Compares tables of cases with what the crates answer that judge the operands of machine instructions: `operand_cases TABLE`
+//! Compares tables of cases with what the crates that judge the operands of machine instructions answer: `operand_cases TABLE`
 //! reads the cases of one table from standard input, prints each whose answer differs, and at the end `N passed, M failed`.
 //!
-//! tests/cases/README.md says what each table reads. What the crates promise stands on their own functions; here is only
-//! how an answer is written down.
+//! tests/cases/README.md says what each table reads. What the crates promise is said by their own contracts; this program only
+//! knows how an answer is written down.
 #![tactic(auto)]
 
 mod checks;

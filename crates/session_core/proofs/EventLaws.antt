@@ -1,8 +1,10 @@
 -- Steps of notifications, as the code makes them.
-use Rattle.std.proofs.Common.{◌≡◌, ◌≢◌, ℕ, ℤ, List, [], ◌∷◌, Option, Result, Ok, Err, sym, ap, ◌∙◌}
+use Rattle.std.proofs.Common.{◌≡◌, ◌≢◌, ℕ, ℤ, false, List, [], ◌∷◌, Option, None, Result, Ok, Err, sym, ap, ◌∙◌}
 use Rattle.hl_base.specs.declared.edit.Edit.{Edit}
 use Rattle.hl_base.specs.declared.place.PathId.{PathId}
+use Rattle.lsp_messages.specs.declared.incoming.Id.{Id}
 use Rattle.lsp_messages.specs.declared.incoming.LspIn.{LspIn}
+use Rattle.lsp_messages.specs.declared.incoming.LspIn.TheVariants.{Initialize}
 use Rattle.lsp_messages.specs.declared.incoming.Refusal.{Refusal}
 use Rattle.document_store.specs.Store.{Store}
 use Rattle.document_store.specs.Changes.{Answers, opened, changed, closed}
@@ -10,10 +12,13 @@ use Rattle.document_store.specs.declared.fault.StoreFault.{StoreFault}
 use Rattle.document_store.specs.declared.fault.StoreFault.TheVariants as fault
 use Rattle.library_folders.specs.declared.folders.Folder.{Folder}
 use Rattle.library_reading.specs.Asked.{answered}
+use Rattle.waiting_requests.specs.Requests.{waits}
 use Rattle.session_core.specs.Inside.{change_asked, closing_asked}
 use Rattle.session_core.specs.declared.state.LastList.{LastList}
 use Rattle.session_core.specs.declared.state.Stage.{Stage}
-use Rattle.session_core.specs.Message.{asked, asked_at, queue_all, after_leaving, farewell_at}
+use Rattle.session_core.specs.declared.state.Stage.TheVariants.{Fresh}
+use Rattle.session_core.specs.Message.{asked, asked_at, effect, unless_refused, queue_all, after_leaving, farewell_at}
+use Rattle.session_core.specs.Refusals.{OutOfPlace, where_so, first_of}
 use Rattle.session_core.specs.Replies.{log_line, refusal_of}
 use Rattle.session_core.specs.State.{State, libraries, programs, with_programs, without, published_without}
 use Rattle.session_core.specs.Step.{Effect, IsEffect, Acts}
@@ -35,6 +40,13 @@ state_kept s old store queue is kept same = ap (λ z. record old { store = z; qu
 pub asked_in : (stage : Stage) (s now : State) (told : Result LspIn Refusal) (bodies : List (List ℕ)) → s.stage ≡ stage → Acts (asked_at stage s told) now bodies
     → Acts (asked s told) now bodies
 asked_in stage s now told bodies is step = ap (λ z. asked_at z s told) is ∙ step
+
+-- the first request of a session, where no request of its id waits
+pub first_asked : (s now : State) (id : Id) (root : Option (List ℕ)) (bodies : List (List ℕ)) → s.stage ≡ Fresh → waits s.waiting id ≡ false
+    → Acts (effect s (Initialize id root)) now bodies → Acts (asked s (Ok (Initialize id root))) now bodies
+first_asked s now id root bodies fresh free step =
+    asked_in Fresh s now (Ok (Initialize id root)) bodies fresh
+    (ap (λ b. unless_refused s (first_of (where_so b (OutOfPlace id) ∷ None ∷ None ∷ None ∷ [])) (effect s (Initialize id root))) free ∙ step)
 
 -- ---- what the store answers
 

@@ -23,11 +23,12 @@ use Rattle.lsp_messages.specs.declared.incoming.LspIn.TheVariants.{Initialized, 
 use Rattle.lsp_messages.specs.declared.incoming.ChangeKind.{ChangeKind}
 use Rattle.lsp_messages.specs.declared.incoming.ChangeKind.TheVariants.{Changed}
 use Rattle.lsp_messages.specs.declared.incoming.FileChange.{FileChange}
+use Rattle.waiting_requests.specs.Names.{Names}
 use Rattle.session_core.specs.declared.state.LastList.{LastList}
 use Rattle.session_core.specs.declared.state.Stage.{Stage}
 use Rattle.session_core.specs.declared.state.Stage.TheVariants.{Fresh, Active, Closing, Ended}
 use Rattle.session_core.specs.declared.watching.Watch.{Watch}
-use Rattle.session_core.specs.Inside.{AreNumbered, Around, IsSound, IsWhole, libraries_in, configured_where, watched_so_far}
+use Rattle.session_core.specs.Inside.{AreNumbered, Around, IsSound, IsWhole, libraries_in, names_among, configured_where, watched_so_far}
 use Rattle.session_core.specs.Message.{Watching, unconcerned, concerned_by, taking_of, after_reading, after_member, configured, member_changed, is_configuration, is_member_file, change_told, changes_told, after_watching, begun, effect, asked, asked_at, queue_all, settled}
 use Rattle.session_core.specs.Refusals.{is_active}
 use Rattle.session_core.specs.Replies.{logged_line}
@@ -49,20 +50,21 @@ numbers_of paths (first ∷ others) have =
     )
 
 -- documents and files stand in their place, where no list counts as one of what is there
-pub whole_put : (listed : List PathId) (folders : List Folder) (index : Option MemberIndex) (around : Around) (store : Store) (published : List LastList)
-    → listed ≡ [] → index ≡ None → IsFew store → HaveNumbers store → folders ≡ libraries_in around → IsWhole listed folders index around store published
-whole_put listed folders index around store published none forgotten few numbered are = record {
+pub whole_put : (listed : List PathId) (folders : List Folder) (index : Option MemberIndex) (names : Option (List Names)) (around : Around) (store : Store) (published : List LastList)
+    → listed ≡ [] → index ≡ None → names ≡ None → IsFew store → HaveNumbers store → folders ≡ libraries_in around → IsWhole listed folders index names around store published
+whole_put listed folders index names around store published none forgotten untold few numbered are = record {
   sound = subst (λ l. IsSound l around store published) (sym none) (sound_none around store published few (numbers_of store.paths store.documents numbered));
   folders_are = are;
   index_is = subst (λ i. IfSome i (Indexes store)) (sym forgotten) tt;
+  names_are = subst (λ n. IfSome n (λ told. told ≡ names_among around store)) (sym untold) tt;
 }
 
 -- none are in their place
-pub whole_empty : (listed : List PathId) (folders : List Folder) (index : Option MemberIndex) (around : Around) (store : Store) (published : List LastList)
-    → listed ≡ [] → index ≡ None → store ≡ empty_store → folders ≡ libraries_in around → IsWhole listed folders index around store published
-whole_empty listed folders index around store published none forgotten empty are =
-    subst (λ z. IsWhole listed folders index around z published) (sym empty)
-    (whole_put listed folders index around empty_store published none forgotten (omega arith)
+pub whole_empty : (listed : List PathId) (folders : List Folder) (index : Option MemberIndex) (names : Option (List Names)) (around : Around) (store : Store) (published : List LastList)
+    → listed ≡ [] → index ≡ None → names ≡ None → store ≡ empty_store → folders ≡ libraries_in around → IsWhole listed folders index names around store published
+whole_empty listed folders index names around store published none forgotten untold empty are =
+    subst (λ z. IsWhole listed folders index names around z published) (sym empty)
+    (whole_put listed folders index names around empty_store published none forgotten untold (omega arith)
     (λ document among. absurd (let within = among.1 in omega arith)) are)
 
 -- as many documents are open where the configuration was read

@@ -12,6 +12,7 @@ use Rattle.library_folders.specs.declared.folders.Folder.{Folder}
 use Rattle.library_folders.specs.Folders.{is_member}
 use Rattle.group_members.specs.Members.{Indexes}
 use Rattle.group_members.specs.declared.index.MemberIndex.{MemberIndex}
+use Rattle.waiting_requests.specs.Names.{Names}
 use Rattle.session_core.specs.declared.state.LastList.{LastList}
 use Rattle.session_core.specs.Inside.{Around, IsSound, IsWhole, libraries_in}
 use Rattle.session_core.specs.State.{number_named, without, published_without}
@@ -32,15 +33,17 @@ tells_member around folders shown uri member are same tells path is = tells path
 
 -- ---- opening
 
-pub whole_opened : (listed fewer : List PathId) (folders shown : List Folder) (index : Option MemberIndex) (around : Around) (s new : Store) (published : List LastList)
+pub whole_opened : (listed fewer : List PathId) (folders shown : List Folder) (index : Option MemberIndex) (names : Option (List Names)) (around : Around) (s new : Store)
+    (published : List LastList)
     (uri language : List ℕ) (version : ℤ) (text : List ℕ) (member : Bool) (n : Option PathId)
     → opened s uri language version text ≡ Ok new → shown ≡ folders → TellsOf shown uri member → n ≡ number_named s uri → fewer ≡ cond member [] (without listed n)
-    → IsWhole listed folders index around s published → IsWhole fewer folders None around new published
-whole_opened listed fewer folders shown index around s new published uri language version text member n is same tells named left whole = record {
+    → IsWhole listed folders index names around s published → IsWhole fewer folders None None around new published
+whole_opened listed fewer folders shown index names around s new published uri language version text member n is same tells named left whole = record {
   sound = subst (λ l. IsSound l around new published) (sym (left ∙ ap (λ z. cond member [] (without listed z)) named))
       (sound_opened listed around s new published uri language version text member is (tells_member around folders shown uri member whole.folders_are same tells) whole.sound);
   folders_are = whole.folders_are;
   index_is = tt;
+  names_are = tt;
 }
 
 -- ---- changing
@@ -70,27 +73,31 @@ index_changed None s new rewritten is = tt
 index_changed (Some known) s new rewritten is =
     subst (λ z. Indexes z known) rewritten.is (index_kept known s rewritten.path rewritten.version rewritten.text is)
 
-pub whole_changed : (listed fewer : List PathId) (folders shown : List Folder) (index : Option MemberIndex) (around : Around) (s new : Store) (published : List LastList)
+pub whole_changed : (listed fewer : List PathId) (folders shown : List Folder) (index : Option MemberIndex) (names : Option (List Names)) (around : Around) (s new : Store)
+    (published : List LastList)
     (uri : List ℕ) (version : ℤ) (edits : List Edit) (member : Bool) (n : Option PathId)
     → changed s uri version edits ≡ Ok new → shown ≡ folders → TellsOf shown uri member → n ≡ number_named s uri → fewer ≡ cond member [] (without listed n)
-    → IsWhole listed folders index around s published → IsWhole fewer folders index around new published
-whole_changed listed fewer folders shown index around s new published uri version edits member n is same tells named left whole = record {
+    → IsWhole listed folders index names around s published → IsWhole fewer folders index None around new published
+whole_changed listed fewer folders shown index names around s new published uri version edits member n is same tells named left whole = record {
   sound = subst (λ l. IsSound l around new published) (sym (left ∙ ap (λ z. cond member [] (without listed z)) named))
       (sound_changed listed around s new published uri version edits member is (tells_member around folders shown uri member whole.folders_are same tells) whole.sound);
   folders_are = whole.folders_are;
   index_is = index_changed index s new (rewritten_at s new (path_of uri) version edits is) whole.index_is;
+  names_are = tt;
 }
 
 -- ---- closing
 
-pub whole_closed : (listed fewer : List PathId) (folders shown : List Folder) (index : Option MemberIndex) (around : Around) (s new : Store) (published others : List LastList)
+pub whole_closed : (listed fewer : List PathId) (folders shown : List Folder) (index : Option MemberIndex) (names : Option (List Names)) (around : Around) (s new : Store)
+    (published others : List LastList)
     (uri : List ℕ) (member : Bool) (n : Option PathId)
     → closed s uri ≡ Ok new → shown ≡ folders → TellsOf shown uri member → n ≡ number_named s uri → fewer ≡ cond member [] (without listed n) → others ≡ published_without published n
-    → IsWhole listed folders index around s published → IsWhole fewer folders None around new others
-whole_closed listed fewer folders shown index around s new published others uri member n is same tells named left kept whole = record {
+    → IsWhole listed folders index names around s published → IsWhole fewer folders None None around new others
+whole_closed listed fewer folders shown index names around s new published others uri member n is same tells named left kept whole = record {
   sound = subst (λ l. IsSound l around new others) (sym (left ∙ ap (λ z. cond member [] (without listed z)) named))
       (subst (λ p. IsSound (cond member [] (without listed (number_named s uri))) around new p) (sym (kept ∙ ap (published_without published) named))
       (sound_closed listed around s new published uri member is (tells_member around folders shown uri member whole.folders_are same tells) whole.sound));
   folders_are = whole.folders_are;
   index_is = tt;
+  names_are = tt;
 }

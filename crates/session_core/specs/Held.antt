@@ -66,13 +66,15 @@ pub record GoesThrough (step : List LibraryCall → Step) (calls : List LibraryC
 
 -- An event made these calls, with their answers, and went through. Or memory ran out behind them: all of them are calls of the
 -- event, which may make more. A session that was spent before makes none.
-abbrev pub ComesBy : {T : Type 0} → Result T SessionFault → (step : List LibraryCall → Step) → (calls : List LibraryCall) → (before now : Held) → Type 0
+abbrev pub ComesBy : {T : Type 0} → Result T SessionFault → (step : List LibraryCall → Step) → (calls : List LibraryCall)
+    → (before now : Held) → Type 0
 ComesBy (Ok _) step calls before now = GoesThrough step calls before now
 ComesBy (Err OutOfMemory) step calls before now = MakesAll (step calls) × RunsOut before now
 ComesBy (Err Spent) step calls before now = (calls ≡ []) × StaysSpent before now
 
 -- some calls were made, the library tells that it gained them with their answers, and the event came by them to its end
-pub record ComesOver {T : Type 0} (result : Result T SessionFault) (step : List LibraryCall → Step) (calls_before calls_now : Option (List LibraryCall)) (before now : Held) : Type 0 where
+pub record ComesOver {T : Type 0} (result : Result T SessionFault) (step : List LibraryCall → Step)
+    (calls_before calls_now : Option (List LibraryCall)) (before now : Held) : Type 0 where
   pub calls : List LibraryCall
   pub made : Gains calls_before calls calls_now
   pub comes : ComesBy result step calls before now

@@ -1,5 +1,6 @@
 -- Words of contracts that no public clause cites (this project).
-use Rattle.std.specs.Prelude.{◌≡◌, ℕ, ◌<◌, ◌≤◌, true, not, ◌++◌, ◌&&◌, List, [], ◌∷◌, length, map, filter, Option, Some, None, IfSome, Result, Ok, Err, if◌then◌else◌}
+use Rattle.std.specs.Prelude.{◌≡◌, ℕ, ◌<◌, ◌≤◌, true, not, ◌++◌, ◌&&◌, List, [], ◌∷◌, length, map, filter}
+use Rattle.std.specs.Prelude.{Option, Some, None, IfSome, Result, Ok, Err, if◌then◌else◌}
 use Rattle.hl_base.specs.declared.place.PathId.{PathId}
 use Rattle.hl_base.specs.declared.memory.OutOfMemory.{OutOfMemory}
 use Rattle.io_edge.specs.LibraryCall.{LibraryCall}
@@ -28,7 +29,7 @@ use Rattle.session_core.specs.Debugging.{trace_of}
 use Rattle.session_core.specs.Diagnostics.{diagnostics_of}
 use Rattle.session_core.specs.Held.{Held}
 use Rattle.session_core.specs.Message.{after_change, after_closing, asked, asks_later, farewell, unless_refused, Watching, configured}
-use Rattle.session_core.specs.Names.{names_of}
+use Rattle.session_core.specs.Names.{names_of, names_over_all}
 use Rattle.session_core.specs.Refusals.{Asks, too_early, out_of_place, repeats, first_of, log_fault}
 use Rattle.session_core.specs.State.{State, libraries, libraries_of, is_program, is_queued, number_at, document_at, last_list}
 use Rattle.session_core.specs.Step.{Effect, written}
@@ -40,7 +41,8 @@ wanted_of folders queue document n = if is_program folders document && not (is_q
 
 -- the numbers of those of these documents that are programs and not queued
 abbrev pub wanted_from : List Folder → List PathId → Store → List OpenDocument → List PathId
-wanted_from folders queue store documents = filter (λ n. not (is_queued queue n)) (map (number_at store) (filter (is_program folders) documents))
+wanted_from folders queue store documents =
+    filter (λ n. not (is_queued queue n)) (map (number_at store) (filter (is_program folders) documents))
 
 -- the list of a message that publishes one
 abbrev pub list_told : LspOut → Option (List Diagnostic)
@@ -69,7 +71,8 @@ wrong_asked s id method name = asked s (Err (BadParams (record { id = id; method
 -- a request on symbols: why it is refused, or it waits
 abbrev pub symbols_asked : State → Id → (uri : List ℕ) → Question → Asking Effect
 symbols_asked s id uri question =
-    unless_refused s (first_of (too_early (Asks id) s.stage ∷ out_of_place (Asks id) s.stage ∷ repeats (Asks id) s.waiting ∷ None ∷ None ∷ None ∷ []))
+    unless_refused s
+    (first_of (too_early (Asks id) s.stage ∷ out_of_place (Asks id) s.stage ∷ repeats (Asks id) s.waiting ∷ None ∷ None ∷ None ∷ []))
     (answered (asks_later s id uri question))
 
 -- ---- which lists are of the documents as they are
@@ -96,10 +99,15 @@ list_in around store n document = diagnostics_of around.root around.configuratio
 abbrev pub libraries_in : Around → List Folder
 libraries_in around = libraries_of around.root around.configuration
 
+-- what the open programs among these documents and files tell of names
+abbrev pub names_among : Around → Store → List Names
+names_among around store = names_over_all around.root around.configuration store around.budget
+
 -- what was last published of each of these programs is its list, of its version and its text as they are, with the members
 -- as they are
 abbrev pub AreListed : (listed : List PathId) → Around → Store → List LastList → Type 0
-AreListed listed around store published = (n : PathId) (document : OpenDocument) → is_queued listed n ≡ true → document_at store n ≡ Some document
+AreListed listed around store published = (n : PathId) (document : OpenDocument)
+    → is_queued listed n ≡ true → document_at store n ≡ Some document
     → is_published (last_list published n) document.version (list_in around store n document) ≡ true
 
 -- what is true of the documents of a session and of the programs whose lists are of what is there
@@ -109,12 +117,14 @@ pub record IsSound (listed : List PathId) (around : Around) (store : Store) (pub
   pub given : (n : PathId) → is_queued listed n ≡ true → n.0 < length store.paths
   pub are_listed : AreListed listed around store published
 
--- what is true of the parts of a session: that, and that the library folders and the index of members, where there is one, are
--- those that they should be
-pub record IsWhole (listed : List PathId) (folders : List Folder) (index : Option MemberIndex) (around : Around) (store : Store) (published : List LastList) : Type 0 where
+-- what is true of the parts of a session: that, and that the library folders, the index of members and what the programs tell of
+-- names, where these are kept, are those that they should be
+pub record IsWhole (listed : List PathId) (folders : List Folder) (index : Option MemberIndex) (names : Option (List Names))
+    (around : Around) (store : Store) (published : List LastList) : Type 0 where
   pub sound : IsSound listed around store published
   pub folders_are : folders ≡ libraries_in around
   pub index_is : IfSome index (Indexes store)
+  pub names_are : IfSome names (λ told. told ≡ names_among around store)
 
 -- ---- messages on files
 
@@ -142,7 +152,8 @@ TellsNames s n shown names = (document : OpenDocument) → document_at s.store n
 
 -- this is the trace of the document of a number, as it is shown
 abbrev pub TellsTrace : State → PathId → (shown : Document) → List (Point TraceItem) → Type 0
-TellsTrace s n shown trace = (document : OpenDocument) → document_at s.store n ≡ Some document → Shows s.store.paths document shown → trace ≡ trace_of s n document
+TellsTrace s n shown trace = (document : OpenDocument) → document_at s.store n ≡ Some document → Shows s.store.paths document shown
+    → trace ≡ trace_of s n document
 
 -- ---- a session
 
@@ -158,12 +169,14 @@ KeepsOutput before now = (now.output ≡ before.output) × (now.spent ≡ before
 -- or memory ran out behind them, and nothing was added.
 abbrev pub HearsBy : {T : Type 0} → Asking Effect → Result T OutOfMemory → (calls : List LibraryCall) → (before now : Held) → Type 0
 HearsBy event (Ok _) calls before now =
-    (bodies : List (List ℕ)) × ((more : List LibraryCall) → event (calls ++ more) ≡ Came (record { state = now.state; bodies = bodies }) more)
+    (bodies : List (List ℕ))
+    × ((more : List LibraryCall) → event (calls ++ more) ≡ Came (record { state = now.state; bodies = bodies }) more)
     × (now.output ≡ before.output ++ written bodies) × (now.spent ≡ before.spent)
 HearsBy event (Err _) calls before now = IsShort (event calls) × KeepsOutput before now
 
 -- some calls were made, and the library tells that it gained them
-pub record HearsOver {T : Type 0} (event : Asking Effect) (result : Result T OutOfMemory) (calls_before calls_now : Option (List LibraryCall)) (before now : Held) : Type 0 where
+pub record HearsOver {T : Type 0} (event : Asking Effect) (result : Result T OutOfMemory)
+    (calls_before calls_now : Option (List LibraryCall)) (before now : Held) : Type 0 where
   pub calls : List LibraryCall
   pub made : Gains calls_before calls calls_now
   pub heard : HearsBy event result calls before now

@@ -1,11 +1,14 @@
 -- Words of the laws of a session (this project).
-use Rattle.std.specs.Prelude.{◌==◌, ℕ, ◌≤◌, ◌⊎◌, ◌&&◌, ◌||◌, ◌≡◌, [], Bool, true, false, not, List, length, Option, Some, None, Result, Ok, Err, is_err}
+use Rattle.std.specs.Prelude.{◌==◌, ℕ, ◌≤◌, ◌⊎◌, ◌&&◌, ◌||◌, ◌≡◌, [], Bool, true, false, not, List}
+use Rattle.std.specs.Prelude.{length, Option, Some, None, Result, Ok, Err, is_err}
 use Rattle.std.specs.Option.{option_map_or}
 use Rattle.serde_json.specs.Data.{Data}
 use Rattle.json_view.specs.Texts.{reading}
 use Rattle.io_edge.specs.LibraryCall.{LibraryCall}
 use Rattle.lsp_messages.specs.declared.incoming.LspIn.{LspIn}
-use Rattle.lsp_messages.specs.declared.incoming.LspIn.TheVariants.{Initialize, Shutdown, Definition, References, Hover, DocumentSymbol, Initialized, Exit, DidOpen, DidChange, DidClose, DidSave, DidChangeConfiguration, DidChangeWatchedFiles, Cancel, Dap}
+use Rattle.lsp_messages.specs.declared.incoming.LspIn.TheVariants.{Initialize, Shutdown, Definition, References, Hover, DocumentSymbol}
+use Rattle.lsp_messages.specs.declared.incoming.LspIn.TheVariants.{Initialized, Exit, DidOpen, DidChange, DidClose, DidSave}
+use Rattle.lsp_messages.specs.declared.incoming.LspIn.TheVariants.{DidChangeConfiguration, DidChangeWatchedFiles, Cancel, Dap}
 use Rattle.lsp_messages.specs.declared.incoming.Refusal.{Refusal}
 use Rattle.lsp_messages.specs.Messages.{message_of}
 use Rattle.hl_base.specs.declared.place.PathId.{PathId}
@@ -177,7 +180,8 @@ AreFresh s = (n : PathId) (document : OpenDocument) → document_at s.store n �
 
 -- every open program is queued
 abbrev pub AllQueued : State → Type 0
-AllQueued s = (n : PathId) (document : OpenDocument) → document_at s.store n ≡ Some document → is_program (libraries s) document ≡ true → is_queued s.queue n ≡ true
+AllQueued s = (n : PathId) (document : OpenDocument) → document_at s.store n ≡ Some document → is_program (libraries s) document ≡ true
+    → is_queued s.queue n ≡ true
 
 -- where the session goes on and is not at its end, lists are fresh
 abbrev pub LeavesFresh : Step → Type 0

@@ -1,7 +1,8 @@
 -- One message (JSON-RPC 2.0; LSP 3.17, "Base Protocol", "Lifecycle Messages", "Text Document Synchronization",
 -- "DidChangeWatchedFiles Notification"): the state behind it and what is written for it, for every body, from every state,
 -- and over the calls of the library that are to come.
-use Rattle.std.specs.Prelude.{ℕ, Bool, true, false, not, ◌&&◌, ◌||◌, List, [], ◌∷◌, ◌++◌, codes, take, map, filter, Option, Some, None, option_map, option_and_then, is_some, Result, Ok, Err, encode_utf8_all, if◌then◌else◌}
+use Rattle.std.specs.Prelude.{ℕ, Bool, true, false, not, ◌&&◌, ◌||◌, List, [], ◌∷◌, ◌++◌, codes, take, map, filter, Option, Some}
+use Rattle.std.specs.Prelude.{None, option_map, option_and_then, is_some, Result, Ok, Err, encode_utf8_all, if◌then◌else◌}
 use Rattle.std.specs.List.{list_any, flat_map}
 use Rattle.std.specs.Str.{bytes_eq}
 use Rattle.serde_json.specs.Data.{Data}
@@ -19,7 +20,9 @@ use Rattle.library_reading.specs.Reading.{Reading, configuration_read}
 use Rattle.hl_base.specs.declared.place.PathId.{PathId}
 use Rattle.lsp_messages.specs.declared.incoming.Id.{Id}
 use Rattle.lsp_messages.specs.declared.incoming.LspIn.{LspIn}
-use Rattle.lsp_messages.specs.declared.incoming.LspIn.TheVariants.{Initialize, Shutdown, Definition, References, Hover, DocumentSymbol, Initialized, Exit, DidOpen, DidChange, DidClose, DidSave, DidChangeConfiguration, DidChangeWatchedFiles, Cancel, Dap}
+use Rattle.lsp_messages.specs.declared.incoming.LspIn.TheVariants.{Initialize, Shutdown, Definition, References, Hover, DocumentSymbol}
+use Rattle.lsp_messages.specs.declared.incoming.LspIn.TheVariants.{Initialized, Exit, DidOpen, DidChange, DidClose, DidSave}
+use Rattle.lsp_messages.specs.declared.incoming.LspIn.TheVariants.{DidChangeConfiguration, DidChangeWatchedFiles, Cancel, Dap}
 use Rattle.lsp_messages.specs.declared.incoming.ChangeKind.{ChangeKind}
 use Rattle.lsp_messages.specs.declared.incoming.ChangeKind.TheVariants.{Created, Changed, Deleted}
 use Rattle.lsp_messages.specs.declared.incoming.FileChange.{FileChange}
@@ -37,10 +40,12 @@ use Rattle.document_store.specs.declared.fault.StoreFault.{StoreFault}
 use Rattle.session_core.specs.declared.state.LastList.{LastList}
 use Rattle.session_core.specs.declared.state.Stage.{Stage}
 use Rattle.session_core.specs.declared.state.Stage.TheVariants.{Active, Closing, Ended}
-use Rattle.session_core.specs.Refusals.{Kind, Opens, Asks, Ends, Tells, Neither, kind_of, Refused, reply, refusal, is_active, is_closing, is_ended}
+use Rattle.session_core.specs.Refusals.{Kind, Opens, Asks, Ends, Tells, Neither, kind_of, Refused}
+use Rattle.session_core.specs.Refusals.{reply, refusal, is_active, is_closing, is_ended}
 use Rattle.session_core.specs.Debugging.{debugged}
 use Rattle.session_core.specs.Replies.{initialize_reply, shutdown_reply, list_body, logged_line}
-use Rattle.session_core.specs.State.{State, libraries, is_number, number_at, is_program, document_at, number_named, programs, with_programs, without, last_list, published_without, is_empty}
+use Rattle.session_core.specs.State.{State, libraries, is_number, number_at, is_program, document_at, number_named}
+use Rattle.session_core.specs.State.{programs, with_programs, without, last_list, published_without, is_empty}
 use Rattle.session_core.specs.Step.{Effect, quiet, says, and_then, Step, step_of}
 use Rattle.session_core.specs.Turn.{assemble_all, answer_waiting}
 
@@ -93,7 +98,10 @@ farewells s =
 -- documents that are no programs any more leave the queue, and nothing is published of them
 abbrev pub settled : State → Effect
 settled s = record {
-  state = record s { queue = filter (is_program_at s) s.queue; published = filter (λ (last : LastList). is_program_at s last.path) s.published };
+  state = record s {
+    queue = filter (is_program_at s) s.queue;
+    published = filter (λ (last : LastList). is_program_at s last.path) s.published;
+  };
   bodies = farewells s;
 }
 
@@ -266,7 +274,8 @@ unless_refused s None event = event
 -- a message at a stage: its refusal, or its effect
 abbrev pub asked_at : Stage → State → Result LspIn Refusal → Asking Effect
 asked_at stage s told =
-    if is_passed_over stage told then answered (quiet s) else unless_refused s (refusal stage s.store s.waiting (Some told)) (effect_of s told)
+    if is_passed_over stage told then answered (quiet s)
+    else unless_refused s (refusal stage s.store s.waiting (Some told)) (effect_of s told)
 
 abbrev pub asked : State → Result LspIn Refusal → Asking Effect
 asked s told = asked_at s.stage s told

@@ -1,10 +1,13 @@
 -- Why a message is refused (JSON-RPC 2.0, "Error object"; LSP 3.17, "Base Protocol", `ErrorCodes`): one table, a line for
 -- each reason, in the order in which they are tried.
-use Rattle.std.specs.Prelude.{ℕ, Bool, true, false, not, List, [], ◌∷◌, codes, Option, Some, None, option_map, Result, Ok, Err, encode_utf8_all}
+use Rattle.std.specs.Prelude.{ℕ, Bool, true, false, not, List, [], ◌∷◌, codes, Option, Some}
+use Rattle.std.specs.Prelude.{None, option_map, Result, Ok, Err, encode_utf8_all}
 use Rattle.std.specs.Str.{bytes_eq}
 use Rattle.lsp_messages.specs.declared.incoming.Id.{Id}
 use Rattle.lsp_messages.specs.declared.incoming.LspIn.{LspIn}
-use Rattle.lsp_messages.specs.declared.incoming.LspIn.TheVariants.{Initialize, Shutdown, Definition, References, Hover, DocumentSymbol, Initialized, Exit, DidOpen, DidChange, DidClose, DidSave, DidChangeConfiguration, DidChangeWatchedFiles, Cancel, Dap}
+use Rattle.lsp_messages.specs.declared.incoming.LspIn.TheVariants.{Initialize, Shutdown, Definition, References, Hover, DocumentSymbol}
+use Rattle.lsp_messages.specs.declared.incoming.LspIn.TheVariants.{Initialized, Exit, DidOpen, DidChange, DidClose, DidSave}
+use Rattle.lsp_messages.specs.declared.incoming.LspIn.TheVariants.{DidChangeConfiguration, DidChangeWatchedFiles, Cancel, Dap}
 use Rattle.lsp_messages.specs.declared.incoming.Refusal.{Refusal}
 use Rattle.lsp_messages.specs.declared.incoming.Refusal.TheVariants.{NotRequest, UnknownMethod, BadParams, OutOfMemory}
 use Rattle.document_store.specs.Store.{Store}
@@ -14,7 +17,8 @@ use Rattle.waiting_requests.specs.Requests.{waits}
 use Rattle.waiting_requests.specs.declared.request.Request.{Request}
 use Rattle.session_core.specs.declared.state.Stage.{Stage}
 use Rattle.session_core.specs.declared.state.Stage.TheVariants.{Fresh, Active, Closing, Ended}
-use Rattle.session_core.specs.Replies.{parse_error, invalid_request, not_initialized, unknown_method, bad_parameter, log_line, bad_params, refusal_of}
+use Rattle.session_core.specs.Replies.{parse_error, invalid_request, not_initialized, unknown_method}
+use Rattle.session_core.specs.Replies.{bad_parameter, log_line, bad_params, refusal_of}
 
 -- ---- how far the session has come
 
@@ -188,7 +192,8 @@ refused_by_store store (Hover id uri at) = None
 refused_by_store store (DocumentSymbol id uri) = None
 refused_by_store store Initialized = None
 refused_by_store store Exit = None
-refused_by_store store (DidOpen uri language version text) = log_fault (codes "textDocument/didOpen") (opened store uri language version text)
+refused_by_store store (DidOpen uri language version text) =
+    log_fault (codes "textDocument/didOpen") (opened store uri language version text)
 refused_by_store store (DidChange uri version edits) = log_fault (codes "textDocument/didChange") (changed store uri version edits)
 refused_by_store store (DidClose uri) = log_fault (codes "textDocument/didClose") (closed store uri)
 refused_by_store store DidSave = None

@@ -9,7 +9,8 @@ use Rattle.lsp_messages.specs.declared.outgoing.Diagnostic.{Diagnostic}
 use Rattle.lsp_messages.specs.declared.outgoing.LspOut.TheVariants.{Fault, Log, Published}
 use Rattle.lsp_messages.specs.Written.{reply_value, text_of, initialize_result_value}
 use Rattle.document_store.specs.declared.fault.StoreFault.{StoreFault}
-use Rattle.document_store.specs.declared.fault.StoreFault.TheVariants.{BadUri, AlreadyOpen, TooMany, TextTooLong, NotOpen, BadRange, LibraryTooLarge, OutOfMemory}
+use Rattle.document_store.specs.declared.fault.StoreFault.TheVariants.{BadUri, AlreadyOpen, TooMany, TextTooLong, NotOpen}
+use Rattle.document_store.specs.declared.fault.StoreFault.TheVariants.{BadRange, LibraryTooLarge, OutOfMemory}
 
 -- ---- answers
 

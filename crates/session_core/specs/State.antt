@@ -1,5 +1,6 @@
 -- What a session knows between two events (this project).
-use Rattle.std.specs.Prelude.{ℕ, ◌==◌, ◌&&◌, Bool, true, not, false, List, [], ◌∷◌, ◌++◌, Option, Some, None, codes, map, filter, find, unwrap_or, option_map, option_and_then, encode_utf8_all}
+use Rattle.std.specs.Prelude.{ℕ, ◌==◌, ◌&&◌, Bool, true, not, false, List, [], ◌∷◌, ◌++◌, Option, Some, None, codes}
+use Rattle.std.specs.Prelude.{map, filter, find, unwrap_or, option_map, option_and_then, encode_utf8_all}
 use Rattle.std.specs.List.{list_any}
 use Rattle.std.specs.Str.{bytes_eq}
 use Rattle.hl_base.specs.declared.place.PathId.{PathId}
@@ -36,7 +37,17 @@ no_configuration = record { groups = []; programs = [] }
 
 -- before the first message, where a program may be given so many statements
 abbrev pub start : (budget : ℕ) → State
-start budget = record { stage = Fresh; root = None; budget = budget; configuration = no_configuration; store = empty_store; queue = []; published = []; debuggers = []; waiting = [] }
+start budget = record {
+  stage = Fresh;
+  root = None;
+  budget = budget;
+  configuration = no_configuration;
+  store = empty_store;
+  queue = [];
+  published = [];
+  debuggers = [];
+  waiting = [];
+}
 
 -- ---- library folders
 

@@ -104,7 +104,7 @@ impl Standing {
         let root = root_of(alloc, root)?;
         let folders = folders_in(alloc, root.as_ref(), &self.configuration)?;
         queue_programs(&folders, &self.store, &mut self.queue)?;
-        forget_members(&mut self.listed, &mut self.index);
+        forget_members(&mut self.listed, &mut self.index, &mut self.names);
         self.stage = Stage::Active;
         self.root = root;
         self.folders = folders;

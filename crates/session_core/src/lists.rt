@@ -95,7 +95,8 @@ impl Surroundings<'_> {
         requires folders { self.now.folders.now ≡ libraries_of (option_copied self.now.root) self.now.configuration.now }
         ensures { IfOk result (λ list. (shown : OpenDocument) → document_at self.now.store.now.store path ≡ Some shown
             → Shows self.now.store.now.store.paths shown document.now
-            → list ≡ diagnostics_of (option_copied self.now.root) self.now.configuration.now self.now.store.now.store self.now.budget path shown) }
+            → list ≡ diagnostics_of (option_copied self.now.root) self.now.configuration.now self.now.store.now.store
+            self.now.budget path shown) }
     {
         let text = text_at(alloc, self.store, path)?;
         let notes = self.notes(alloc, path, &text, steps)?;
@@ -115,7 +116,8 @@ impl Surroundings<'_> {
         requires live { IsLive self.now.store.now.pool text.0 }
         ensures { IfOk result (λ trace. (document : OpenDocument) → slice_get self.now.store.now.store.paths path.0 ≡ Some document.path
             → text_of self.now.store.now.pool text.0 ≡ document.text
-            → trace ≡ launches.trace_of path.0 document.text (parm_for (option_copied self.now.root) self.now.configuration.now document.path)
+            → trace ≡ launches.trace_of path.0 document.text
+            (parm_for (option_copied self.now.root) self.now.configuration.now document.path)
             (members_of (option_copied self.now.root) self.now.configuration.now self.now.store.now.store document) self.now.budget) }
     {
         let place = self.store.path_text(path);
@@ -139,7 +141,8 @@ impl Surroundings<'_> {
         requires shown { IsShown self.now.store.now.store.paths (document_at self.now.store.now.store path) (Some document.now) }
         ensures { IfOk result (λ trace. (shown : OpenDocument) → document_at self.now.store.now.store path ≡ Some shown
             → Shows self.now.store.now.store.paths shown document.now
-            → trace ≡ trace_in (option_copied self.now.root) self.now.configuration.now self.now.store.now.store self.now.budget path shown) }
+            → trace ≡ trace_in (option_copied self.now.root) self.now.configuration.now self.now.store.now.store
+            self.now.budget path shown) }
     {
         match self.store.present(path) {
             Some(MemberText::File(text)) => self.trace(alloc, path, text, steps),
@@ -161,7 +164,8 @@ impl Surroundings<'_> {
         requires live { IsLive self.now.store.now.pool text.0 }
         ensures { IfOk result (λ names. (document : OpenDocument) → slice_get self.now.store.now.store.paths path.0 ≡ Some document.path
             → text_of self.now.store.now.pool text.0 ≡ document.text
-            → names ≡ assembled.names_of self.now.store.now.store path.0 document.text (parm_for (option_copied self.now.root) self.now.configuration.now document.path)
+            → names ≡ assembled.names_of self.now.store.now.store path.0 document.text
+            (parm_for (option_copied self.now.root) self.now.configuration.now document.path)
             (members_of (option_copied self.now.root) self.now.configuration.now self.now.store.now.store document) self.now.budget) }
     {
         let place = self.store.path_text(path);
@@ -194,7 +198,8 @@ impl Surroundings<'_> {
         requires shown { IsShown self.now.store.now.store.paths (document_at self.now.store.now.store path) (Some document.now) }
         ensures { IfOk result (λ names. (shown : OpenDocument) → document_at self.now.store.now.store path ≡ Some shown
             → Shows self.now.store.now.store.paths shown document.now
-            → names ≡ names_of (option_copied self.now.root) self.now.configuration.now self.now.store.now.store self.now.budget path shown) }
+            → names ≡ names_of (option_copied self.now.root) self.now.configuration.now self.now.store.now.store
+            self.now.budget path shown) }
     {
         match self.store.present(path) {
             Some(MemberText::File(text)) => self.names(alloc, path, text, steps),

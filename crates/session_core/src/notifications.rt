@@ -110,7 +110,8 @@ impl Standing {
         version: i32,
         text: &Text,
     ) -> Result<Bodies, OutOfMemory>
-        ensures { IfOk result (λ bodies. Acts (messages.asked self.old (Ok (said.DidOpen uri.now language.now version text.now))) self.new bodies) }
+        ensures { IfOk result (λ bodies. Acts (messages.asked self.old (Ok (said.DidOpen uri.now language.now version text.now)))
+            self.new bodies) }
     {
         if !self.is_active() {
             return Ok(Bodies::none(alloc));
@@ -126,7 +127,9 @@ impl Standing {
         version: i32,
         text: &Text,
     ) -> Result<Bodies, OutOfMemory>
-        ensures { IfOk result (λ bodies. Acts (change_asked self.old (codes "textDocument/didOpen") (opened self.old.store uri.now language.now version text.now)) self.new bodies) }
+        ensures { IfOk result (λ bodies.
+            Acts (change_asked self.old (codes "textDocument/didOpen") (opened self.old.store uri.now language.now version text.now))
+            self.new bodies) }
     {
         let (uri, language, text) = (uri.as_str(), language.as_str(), text.as_str());
         let path = number_named(alloc, &self.store, uri)?;
@@ -136,6 +139,7 @@ impl Standing {
             Ok(()) => {
                 forget_lists(&mut self.listed, member, path);
                 self.index = None;
+                self.names = None;
                 queue_programs(&self.folders, &self.store, &mut self.queue)?;
                 Ok(Bodies::none(alloc))
             }
@@ -166,7 +170,9 @@ impl Standing {
         version: i32,
         edits: &[Edit],
     ) -> Result<Bodies, OutOfMemory>
-        ensures { IfOk result (λ bodies. Acts (change_asked self.old (codes "textDocument/didChange") (changed self.old.store uri.now version edits.now)) self.new bodies) }
+        ensures { IfOk result (λ bodies.
+            Acts (change_asked self.old (codes "textDocument/didChange") (changed self.old.store uri.now version edits.now))
+            self.new bodies) }
     {
         let path = number_named(alloc, &self.store, uri.as_str())?;
         let member = is_member_named(alloc, &self.folders, uri.as_str())?;
@@ -174,6 +180,7 @@ impl Standing {
         match self.store.change(alloc, uri.as_str(), version, edits) {
             Ok(()) => {
                 forget_lists(&mut self.listed, member, path);
+                self.names = None;
                 queue_programs(&self.folders, &self.store, &mut self.queue)?;
                 Ok(Bodies::none(alloc))
             }
@@ -192,7 +199,10 @@ impl Standing {
     }
 
     fn close(&mut self, alloc: Global, uri: &Text) -> Result<Bodies, OutOfMemory>
-        ensures { IfOk result (λ bodies. Acts (closing_asked self.old (codes "textDocument/didClose") (number_named self.old.store uri.now) (closed self.old.store uri.now)) self.new bodies) }
+        ensures { IfOk result (λ bodies.
+            Acts (closing_asked self.old (codes "textDocument/didClose") (number_named self.old.store uri.now)
+            (closed self.old.store uri.now))
+            self.new bodies) }
     {
         let path = number_named(alloc, &self.store, uri.as_str())?;
         let member = is_member_named(alloc, &self.folders, uri.as_str())?;
@@ -203,6 +213,7 @@ impl Standing {
                 forget(&mut self.queue, &mut self.published, path);
                 forget_lists(&mut self.listed, member, path);
                 self.index = None;
+                self.names = None;
                 queue_programs(&self.folders, &self.store, &mut self.queue)?;
                 Ok(farewell)
             }

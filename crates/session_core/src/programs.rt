@@ -1,5 +1,6 @@
 //! The open documents, by the numbers of their paths, and the queue of programs.
-ghost use Rattle.std.specs.Prelude.{◌≡◌, ◌≤◌, ◌++◌, [], length, map, filter, not, Some, None, OnOk, OnErr, IfOk, Option, option_map, slice_get, take};
+ghost use Rattle.std.specs.Prelude.{◌≡◌, ◌≤◌, ◌++◌, [], length, map, filter, not, Some, None, OnOk};
+ghost use Rattle.std.specs.Prelude.{OnErr, IfOk, Option, option_map, slice_get, take};
 ghost use Rattle.std.specs.Rc.{rc_str_bytes};
 ghost use Rattle.std.specs.Borrow.{Bor};
 ghost use Rattle.std.specs.List.{list_any};
@@ -8,7 +9,8 @@ ghost use Rattle.std.specs.Vec.{vec_len, vec_capacity};
 ghost use Rattle.file_uri.specs.Paths.{path_of};
 ghost use Rattle.document_store.specs.Store.{OpenDocument, number_of};
 ghost use Rattle.document_store.specs.Shown.{IsShown, Shows};
-ghost use Rattle.session_core.specs.State.{is_number, number_named, document_at, is_program, programs, is_queued, with_programs, without, last_list, without_list, published_without, with_list};
+ghost use Rattle.session_core.specs.State.{is_number, number_named, document_at, is_program, programs, is_queued};
+ghost use Rattle.session_core.specs.State.{with_programs, without, last_list, without_list, published_without, with_list};
 ghost use Rattle.session_core.specs.Inside.{wanted_of};
 ghost use Rattle.session_core.specs.declared.state.LastList.{LastList as Last};
 
@@ -18,6 +20,7 @@ use file_uri::{UriFault, file_path};
 use group_members::MemberIndex;
 use hl_base::{OutOfMemory, PathId};
 use library_folders::{Folder, is_member};
+use program_names::AssembledNames;
 use std::alloc::Global;
 use std::rc::RcStr;
 
@@ -79,7 +82,8 @@ pub(crate) fn number_named(
 
 /// Whether a document of a path and a language is a program.
 fn is_program(folders: &[Folder], path: &str, language: &str) -> bool
-    ensures { (shown : OpenDocument) → chars path.now ≡ shown.path → chars language.now ≡ shown.language → result ≡ is_program folders.now shown }
+    ensures { (shown : OpenDocument) → chars path.now ≡ shown.path → chars language.now ≡ shown.language
+        → result ≡ is_program folders.now shown }
 {
     language == PROGRAM_LANGUAGE && !is_member(folders, path)
 }
@@ -184,13 +188,20 @@ pub(crate) fn forget(queue: &mut Vec<PathId>, published: &mut Vec<LastList>, pat
     }
 }
 
-/// No list counts as that of what is there any more, and where members are found is to be made anew.
-pub(crate) fn forget_members(listed: &mut Vec<PathId>, index: &mut Option<MemberIndex>)
+/// No list counts as that of what is there any more, and where members are found and what programs tell of names is to be found
+/// anew.
+pub(crate) fn forget_members(
+    listed: &mut Vec<PathId>,
+    index: &mut Option<MemberIndex>,
+    names: &mut Option<Vec<AssembledNames>>,
+)
     ensures listed { listed.new.items ≡ [] }
     ensures index { index.new ≡ None }
+    ensures names { names.new ≡ None }
 {
     listed.clear();
     *index = None;
+    *names = None;
 }
 
 /// Keeps this as the last list of its program. An `Err` changes nothing.

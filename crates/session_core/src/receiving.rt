@@ -101,7 +101,9 @@ impl Standing {
         library: &mut B,
         steps: &mut Steps<L>,
     ) -> Result<Bodies, OutOfMemory>
-        ensures { (wanted : Result LspIn Refusal) → IsReading told wanted → AsksOver (messages.asked self.old wanted) (λ bodies. record { state = self.new; bodies = bodies }) result
+        ensures { (wanted : Result LspIn Refusal) → IsReading told wanted
+            → AsksOver (messages.asked self.old wanted)
+            (λ bodies. record { state = self.new; bodies = bodies }) result
             (B.calls library.old) (B.calls library.new) (B.faults library.old) (B.faults library.new) }
     {
         match told {

@@ -1,11 +1,13 @@
 //! The bodies that a session writes (JSON-RPC 2.0, "Response object"; LSP 3.17, `ErrorCodes`).
-ghost use Rattle.std.specs.Prelude.{◌≡◌, ◌≢◌, ◌++◌, [], ◌∷◌, false, None, IfOk, OnOk, OnErr, codes, encode_utf8_all, string_bytes, IsSome, Some};
+ghost use Rattle.std.specs.Prelude.{◌≡◌, ◌≢◌, ◌++◌, [], ◌∷◌, false, None, IfOk, OnOk, OnErr};
+ghost use Rattle.std.specs.Prelude.{codes, encode_utf8_all, string_bytes, IsSome, Some};
 ghost use Rattle.serde_json.specs.View.{view};
 ghost use Rattle.serde_json.specs.Written.{has_float};
 ghost use Rattle.session_core.specs.Debugging.{debug_body};
 ghost use Rattle.session_core.specs.Inside.{list_told};
 ghost use Rattle.std.specs.Str.{chars};
-ghost use Rattle.session_core.specs.Replies.{initialize_reply, shutdown_reply, refusal, parse_error, invalid_request, not_initialized, unknown_method, bad_parameter, log_line, logged_line, bad_params, refusal_of, list_body};
+ghost use Rattle.session_core.specs.Replies.{initialize_reply, shutdown_reply, refusal, parse_error, invalid_request, not_initialized};
+ghost use Rattle.session_core.specs.Replies.{unknown_method, bad_parameter, log_line, logged_line, bad_params, refusal_of, list_body};
 
 use document_store::StoreFault;
 use hl_base::{OutOfMemory, Text};

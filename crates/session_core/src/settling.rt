@@ -92,7 +92,7 @@ impl Standing {
     {
         let bodies = self.farewells(alloc)?;
         let programs = open_programs(alloc, &self.folders, &self.store)?;
-        forget_members(&mut self.listed, &mut self.index);
+        forget_members(&mut self.listed, &mut self.index, &mut self.names);
         keep_queued(&mut self.queue, &programs);
         keep_published(&mut self.published, &programs);
         Ok(bodies)

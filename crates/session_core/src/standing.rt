@@ -19,13 +19,14 @@ use group_members::MemberIndex;
 use hl_base::{Ledger, OutOfMemory, PathId, Steps, Text};
 use library_folders::{Configuration, Folder};
 use lsp_messages::{Diagnostic, Diagnostics};
+use program_names::AssembledNames;
 use std::alloc::Global;
 use std::marker::Model;
 use waiting_requests::Waiting;
 
 /// How far the session has come, the folder of the client, the budget of a program, the configuration, the documents and
-/// files, the queue, what was published, of which programs that is the list as it is now, the debug sessions, and the requests
-/// that wait. Contracts see the state.
+/// files, the queue, what was published, of which programs that is the list as it is now, where members are found, what the
+/// programs tell of names, the debug sessions, and the requests that wait. Contracts see the state.
 #[derive(Drop)]
 pub(crate) struct Standing {
     pub(crate) stage: Stage,
@@ -41,11 +42,14 @@ pub(crate) struct Standing {
     pub(crate) listed: Vec<PathId>,
     // Where each folder's members are found, unless it is to be made anew.
     pub(crate) index: Option<MemberIndex>,
+    // What the open programs tell of names, unless it is to be found anew.
+    pub(crate) names: Option<Vec<AssembledNames>>,
     pub(crate) debuggers: DebugSessions,
     pub(crate) waiting: Waiting,
 }
 
 impl Model for Standing {
+    ghost use Rattle.std.specs.Option.{option_map};
     ghost use Rattle.session_core.specs.Codes.{state_code};
     ghost use Rattle.session_core.specs.Inside.{IsWhole};
     ghost use Rattle.session_core.specs.State.{State};
@@ -66,7 +70,7 @@ impl Model for Standing {
       waiting = s.waiting;
     } };
 
-    ghost invariant = { λ s. IsWhole s.listed.items s.folders.items s.index
+    ghost invariant = { λ s. IsWhole s.listed.items s.folders.items s.index (option_map (λ names. names.items) s.names)
         (record { root = s.root; configuration = s.configuration; budget = s.budget }) s.store.store s.published.items };
 }
 
@@ -126,6 +130,7 @@ impl Standing {
             published: Vec::new(alloc),
             listed: Vec::new(alloc),
             index: None,
+            names: None,
             debuggers: DebugSessions::new(alloc),
             waiting: Waiting::new(alloc),
         }

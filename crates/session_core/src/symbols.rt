@@ -1,6 +1,6 @@
 //! Requests on symbols, which wait until no program is queued, and their cancelling (LSP 3.17, "Language Features",
 //! "Cancellation Support"). After an `Err` the state is not to be used.
-ghost use Rattle.std.specs.Prelude.{◌≡◌, ◌++◌, Ok, IfOk, OnOk};
+ghost use Rattle.std.specs.Prelude.{◌≡◌, ◌++◌, [], Ok, IfOk, OnOk};
 ghost use Rattle.std.specs.List.{flat_map};
 ghost use Rattle.group_members.specs.Members.{Indexes};
 ghost use Rattle.lsp_messages.specs.declared.incoming.LspIn.TheVariants as said;
@@ -9,6 +9,7 @@ ghost use Rattle.session_core.specs.Message as messages;
 ghost use Rattle.session_core.specs.Names.{names_at, program_names};
 ghost use Rattle.session_core.specs.Step.{Acts, IsEffect};
 ghost use Rattle.session_core.specs.Turn.{answer_waiting};
+ghost use Rattle.waiting_requests.specs.Bodies.{replies_to};
 
 use crate::bodies::Bodies;
 use crate::lists::Surroundings;
@@ -17,12 +18,13 @@ use crate::requests::{out_of_place, too_early};
 use crate::settling::open_programs;
 use crate::standing::Standing;
 use crate::state::Stage;
+use document_store::DocumentStore;
 use group_members::MemberIndex;
 use hl_base::{Ledger, OutOfMemory, PathId, Steps, Text};
 use lsp_messages::Id;
 use program_names::AssembledNames;
 use std::alloc::Global;
-use waiting_requests::{ProgramNames, Question, Request};
+use waiting_requests::{ProgramNames, Question, Request, Waiting};
 
 /// What programs tell of names, lent.
 fn lent<'a>(
@@ -36,6 +38,21 @@ fn lent<'a>(
         programs.push(one.lend())?;
     }
     Ok(programs)
+}
+
+/// Answers requests that wait, from what programs tell of names. Then none waits.
+fn answer_over(
+    alloc: Global,
+    store: &DocumentStore,
+    names: &[AssembledNames],
+    waiting: &mut Waiting,
+) -> Result<Bodies, OutOfMemory>
+    ensures bodies { IfOk result (λ bodies. bodies ≡ replies_to store.now.store names.now waiting.old) }
+    ensures waiting { OnOk result (waiting.new ≡ []) }
+{
+    let programs = lent(alloc, names)?;
+    let bodies = waiting.answer(alloc, store, &programs)?;
+    Ok(Bodies::of(bodies))
 }
 
 impl Standing {
@@ -136,8 +153,23 @@ impl Standing {
         }
     }
 
-    /// Answers the requests that wait, if no program is queued. The programs are assembled for it, so it costs nothing where none
-    /// waits.
+    /// What the open programs tell of names, in order of opening, out of its place: as it was kept, or found anew.
+    fn taken_names<L: Ledger>(
+        &mut self,
+        alloc: Global,
+        steps: &mut Steps<L>,
+    ) -> Result<Vec<AssembledNames>, OutOfMemory>
+        ensures names { IfOk result (λ names. names.items ≡ program_names self.old) }
+        ensures same { self.new ≡ self.old }
+    {
+        match self.names.take() {
+            Some(names) => Ok(names),
+            None => self.program_names(alloc, steps),
+        }
+    }
+
+    /// Answers the requests that wait, if no program is queued. The programs are assembled for it where that was not done since
+    /// documents and files are as they are; so it costs nothing where none waits.
     fn answer_waiting<L: Ledger>(
         &mut self,
         alloc: Global,
@@ -151,10 +183,10 @@ impl Standing {
         if self.waiting.is_empty() {
             return Ok(Bodies::none(alloc));
         }
-        let names = self.program_names(alloc, steps)?;
-        let programs = lent(alloc, &names)?;
-        let bodies = self.waiting.answer(alloc, &self.store, &programs)?;
-        Ok(Bodies::of(bodies))
+        let names = self.taken_names(alloc, steps)?;
+        let bodies = answer_over(alloc, &self.store, &names, &mut self.waiting)?;
+        self.names = Some(names);
+        Ok(bodies)
     }
 
     /// Answers, behind what is written for an event, the requests that wait, if no program is queued.

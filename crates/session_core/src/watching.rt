@@ -122,7 +122,7 @@ impl Standing {
         ensures few { length result.store.documents ≤ 64 }
         ensures left { self.new ≡ record self.old { store = empty_store } }
     {
-        forget_members(&mut self.listed, &mut self.index);
+        forget_members(&mut self.listed, &mut self.index, &mut self.names);
         std::mem::replace(&mut self.store, DocumentStore::new(alloc))
     }
 
@@ -139,7 +139,7 @@ impl Standing {
     {
         let folders = folders_in(alloc, self.root.as_ref(), &configuration)?;
         documents_have_numbers(&store);
-        forget_members(&mut self.listed, &mut self.index);
+        forget_members(&mut self.listed, &mut self.index, &mut self.names);
         self.store = store;
         self.configuration = configuration;
         self.folders = folders;
@@ -154,11 +154,12 @@ impl Standing {
         watch: &mut Watch,
     ) -> Result<(), OutOfMemory>
         requires few { length store.store.documents ≤ 64 }
-        ensures { IfOk result (λ _. messages.after_member (watched_so_far self.old watch.old) (record { store = store.store; log = watch.old.logs })
+        ensures { IfOk result (λ _. messages.after_member (watched_so_far self.old watch.old)
+            (record { store = store.store; log = watch.old.logs })
             ≡ watched_so_far self.new watch.new) }
     {
         documents_have_numbers(&store);
-        forget_members(&mut self.listed, &mut self.index);
+        forget_members(&mut self.listed, &mut self.index, &mut self.names);
         self.store = store;
         watch.take(alloc, Bodies::none(alloc))
     }
@@ -188,7 +189,8 @@ impl Standing {
         library: &mut B,
         watch: &mut Watch,
     ) -> Result<(), OutOfMemory>
-        ensures { AsksOver (configured_where self.old.root (watched_so_far self.old watch.old)) (λ _. watched_so_far self.new watch.new) result
+        ensures { AsksOver (configured_where self.old.root (watched_so_far self.old watch.old))
+            (λ _. watched_so_far self.new watch.new) result
             (B.calls library.old) (B.calls library.new) (B.faults library.old) (B.faults library.new) }
     {
         let Some(root) = &self.root else {
@@ -239,7 +241,8 @@ impl Standing {
         library: &mut B,
         watch: &mut Watch,
     ) -> Result<(), OutOfMemory>
-        ensures { AsksOver (messages.member_changed (chars path.now) kind (watched_so_far self.old watch.old)) (λ _. watched_so_far self.new watch.new) result
+        ensures { AsksOver (messages.member_changed (chars path.now) kind (watched_so_far self.old watch.old))
+            (λ _. watched_so_far self.new watch.new) result
             (B.calls library.old) (B.calls library.new) (B.faults library.old) (B.faults library.new) }
     {
         match kind {
@@ -258,7 +261,8 @@ impl Standing {
         library: &mut B,
         watch: &mut Watch,
     ) -> Result<(), OutOfMemory>
-        ensures { AsksOver (messages.change_told self.old.root (Some (chars path.now)) kind (watched_so_far self.old watch.old)) (λ _. watched_so_far self.new watch.new) result
+        ensures { AsksOver (messages.change_told self.old.root (Some (chars path.now)) kind (watched_so_far self.old watch.old))
+            (λ _. watched_so_far self.new watch.new) result
             (B.calls library.old) (B.calls library.new) (B.faults library.old) (B.faults library.new) }
     {
         let Some(root) = &self.root else {
@@ -282,7 +286,8 @@ impl Standing {
         library: &mut B,
         watch: &mut Watch,
     ) -> Result<(), OutOfMemory>
-        ensures { AsksOver (messages.change_told self.old.root (path_of change.now.uri) change.now.kind (watched_so_far self.old watch.old)) (λ _. watched_so_far self.new watch.new) result
+        ensures { AsksOver (messages.change_told self.old.root (path_of change.now.uri) change.now.kind (watched_so_far self.old watch.old))
+            (λ _. watched_so_far self.new watch.new) result
             (B.calls library.old) (B.calls library.new) (B.faults library.old) (B.faults library.new) }
     {
         let named = path_named(alloc, &change.uri)?;
@@ -318,7 +323,8 @@ impl Standing {
         library: &mut B,
         watch: &mut Watch,
     ) -> Result<(), OutOfMemory>
-        ensures { AsksOver (messages.changes_told changes.now (watched_so_far self.old watch.old)) (λ _. watched_so_far self.new watch.new) result
+        ensures { AsksOver (messages.changes_told changes.now (watched_so_far self.old watch.old))
+            (λ _. watched_so_far self.new watch.new) result
             (B.calls library.old) (B.calls library.new) (B.faults library.old) (B.faults library.new) }
     {
         for change in changes {
@@ -334,7 +340,8 @@ impl Standing {
         changes: &[FileChange],
         library: &mut B,
     ) -> Result<Bodies, OutOfMemory>
-        ensures { AsksOver (messages.effect self.old (said.DidChangeWatchedFiles changes.now)) (λ bodies. record { state = self.new; bodies = bodies }) result
+        ensures { AsksOver (messages.effect self.old (said.DidChangeWatchedFiles changes.now))
+            (λ bodies. record { state = self.new; bodies = bodies }) result
             (B.calls library.old) (B.calls library.new) (B.faults library.old) (B.faults library.new) }
     {
         let mut watch = Watch::new(alloc);
@@ -349,7 +356,8 @@ impl Standing {
         changes: &[FileChange],
         library: &mut B,
     ) -> Result<Bodies, OutOfMemory>
-        ensures { AsksOver (messages.asked self.old (Ok (said.DidChangeWatchedFiles changes.now))) (λ bodies. record { state = self.new; bodies = bodies }) result
+        ensures { AsksOver (messages.asked self.old (Ok (said.DidChangeWatchedFiles changes.now)))
+            (λ bodies. record { state = self.new; bodies = bodies }) result
             (B.calls library.old) (B.calls library.new) (B.faults library.old) (B.faults library.new) }
     {
         if !self.is_active() {

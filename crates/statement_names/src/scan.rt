@@ -92,6 +92,9 @@ fn is_free(is_joined: bool, is_quoted: bool, text: &str, length: usize) -> bool
 fn symbol(is_joined: bool, is_quoted: bool, text: &str) -> Result<Option<Named>, OutOfMemory>
     ensures { IfOk result (λ found. found ≡ names.symbol_with is_joined is_quoted (chars text.now)) }
 {
+    if is_joined || is_quoted {
+        return Ok(None);
+    }
     let length = word_length(text);
     if !is_free(is_joined, is_quoted, text, length) {
         return Ok(None);
@@ -100,15 +103,23 @@ fn symbol(is_joined: bool, is_quoted: bool, text: &str) -> Result<Option<Named>,
     Ok(named(NameKind::Symbol, count, name_of(before(text, length))))
 }
 
-/// The sequence symbol that begins with a character and is all that is left, if one does.
+/// The sequence symbol that begins with a character and is all that is left, if one does. What is left is counted only where it is
+/// a name, so a long text costs nothing at each of its periods.
 fn reference(c: char, behind: &str) -> Result<Option<Named>, OutOfMemory>
     ensures { IfOk result (λ found. found ≡ names.reference_with c (chars behind.now)) }
 {
     if c != '.' {
         return Ok(None);
     }
+    let Some(name) = name_of(behind) else {
+        return Ok(None);
+    };
     let count = advance(1, character_count(behind))?;
-    Ok(named(NameKind::SequenceReference, count, name_of(behind)))
+    Ok(Some(Named {
+        kind: NameKind::SequenceReference,
+        count,
+        name,
+    }))
 }
 
 /// The variable symbol that begins with a character, or else the sequence symbol.

@@ -16,9 +16,9 @@ names-requires g c =
     let has = shown_text s.store s.pool c.args.path c.args.document.now (Some (member.File c.in-Some-File.text)) c.requires.shown is in
     record { given = c.requires.given; index = c.requires.index; live = has.1.live }
 
-pub returns-in-Some-File : goal.returns-in-Some-File
+pub returns : goal.returns
 unfolding names_of
-returns-in-Some-File g c =
+returns g c =
     let s = c.args.self.now.store.now in
     let is = subst (λ (m : MemberText). IsPresent s.pool (present_at s.store c.args.path.0) (Some m)) c.in-Some-File.field-0-is c.in-Some-File.ensures in
     if_ok c.names.result (λ names made. λ document found shows.

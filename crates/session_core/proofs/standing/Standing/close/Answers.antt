@@ -14,14 +14,14 @@ pub invariant_of-self-in_err-queue_programs-in-Ok : goal.invariant_of-self-in_er
 invariant_of-self-in_err-queue_programs-in-Ok c =
     let fields = c.self.inside in
     let path = c.in_ok-path.ensures ∙ ap (number_named fields.store.store) (c.as_str.ensures.characters ∙ sym c.as_str-3.ensures.characters) in
-    whole_closed fields.listed.items _ fields.folders.items _ fields.index _ fields.store.store c.close.new.self.store fields.published.items _ _ _ _
+    whole_closed fields.listed.items _ fields.folders.items _ fields.index _ _ fields.store.store c.close.new.self.store fields.published.items _ _ _ _
     c.in-Ok.ensures.answer c.deref.ensures.value (tells_same _ _ _ _ (c.as_str-2.ensures.characters ∙ sym c.as_str-3.ensures.characters) c.in_ok-member.ensures) path c.forget_lists.ensures c.forget.ensures.published c.self.invariant
 
 pub invariant_of-self-in-Ok : goal.invariant_of-self-in-Ok
 invariant_of-self-in-Ok c =
     let fields = c.self.inside in
     let path = c.in_ok-path.ensures ∙ ap (number_named fields.store.store) (c.as_str.ensures.characters ∙ sym c.as_str-3.ensures.characters) in
-    whole_closed fields.listed.items _ fields.folders.items _ fields.index _ fields.store.store c.close.new.self.store fields.published.items _ _ _ _
+    whole_closed fields.listed.items _ fields.folders.items _ fields.index _ _ fields.store.store c.close.new.self.store fields.published.items _ _ _ _
     c.in-Ok.ensures.answer c.deref.ensures.value (tells_same _ _ _ _ (c.as_str-2.ensures.characters ∙ sym c.as_str-3.ensures.characters) c.in_ok-member.ensures) path c.forget_lists.ensures c.forget.ensures.published c.self.invariant
 
 pub returns-in-Err : goal.returns-in-Err

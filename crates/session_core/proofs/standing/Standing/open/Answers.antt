@@ -15,13 +15,13 @@ queue_programs-requires c = record { few = few_opened c.self.inside.store.store 
 pub invariant_of-self-in_err-queue_programs-in-Ok : goal.invariant_of-self-in_err-queue_programs-in-Ok
 invariant_of-self-in_err-queue_programs-in-Ok c =
     let fields = c.self.inside in
-    whole_opened fields.listed.items _ fields.folders.items _ fields.index _ fields.store.store c.open_text.new.self.store fields.published.items _ _ _ _ _ _
+    whole_opened fields.listed.items _ fields.folders.items _ fields.index _ _ fields.store.store c.open_text.new.self.store fields.published.items _ _ _ _ _ _
     c.in-Ok.ensures.answer c.deref.ensures.value c.in_ok-member.ensures c.in_ok-path.ensures c.forget_lists.ensures c.self.invariant
 
 pub invariant_of-self-in-Ok : goal.invariant_of-self-in-Ok
 invariant_of-self-in-Ok c =
     let fields = c.self.inside in
-    whole_opened fields.listed.items _ fields.folders.items _ fields.index _ fields.store.store c.open_text.new.self.store fields.published.items _ _ _ _ _ _
+    whole_opened fields.listed.items _ fields.folders.items _ fields.index _ _ fields.store.store c.open_text.new.self.store fields.published.items _ _ _ _ _ _
     c.in-Ok.ensures.answer c.deref.ensures.value c.in_ok-member.ensures c.in_ok-path.ensures c.forget_lists.ensures c.self.invariant
 
 pub returns-in-Err : goal.returns-in-Err

@@ -57,6 +57,7 @@ invariant_of-self-then-is_published g c =
           (sound_again s fields.listed.items n shown list is old c.self.invariant.sound);
       folders_are = c.self.invariant.folders_are;
       index_is = c.in_ok-index.ensures.index;
+      names_are = c.self.invariant.names_are;
     }
 
 pub invariant_of-self-2 : goal.invariant_of-self-2
@@ -77,6 +78,7 @@ invariant_of-self-2 g c =
           (sound_new s fields.listed.items n shown list c.keep_list.new.published.items is kept c.self.invariant.sound);
       folders_are = c.self.invariant.folders_are;
       index_is = c.in_ok-index.ensures.index;
+      names_are = c.self.invariant.names_are;
     }
 
 pub returns : goal.returns

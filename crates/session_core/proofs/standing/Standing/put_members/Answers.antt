@@ -1,4 +1,6 @@
 use Rattle.std.proofs.Common.{◌++◌, map, sym, ap, ◌∙◌}
+use Rattle.std.specs.Prelude.{vec_items}
+use Rattle.std.specs.Option.{option_map}
 use Rattle.session_core.specs.Inside.{watched_so_far}
 use Rattle.session_core.specs.Replies.{logged_line}
 use Rattle.session_core.specs.State.{State}
@@ -9,7 +11,7 @@ use Rattle.session_core.proofs.standing.Standing.put_members.Goals as goal
 
 pub invariant_of-self : goal.invariant_of-self
 invariant_of-self c =
-    whole_put _ _ _ _ _ _ c.forget_members.ensures.listed c.forget_members.ensures.index c.requires.few c.documents_have_numbers.ensures c.self.invariant.folders_are
+    whole_put _ _ _ _ _ _ _ c.forget_members.ensures.listed c.forget_members.ensures.index (ap (option_map vec_items) c.forget_members.ensures.names) c.requires.few c.documents_have_numbers.ensures c.self.invariant.folders_are
 
 pub returns : goal.returns
 returns c =

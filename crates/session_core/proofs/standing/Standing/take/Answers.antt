@@ -1,4 +1,4 @@
-use Rattle.std.proofs.Common.{Ok, IfOk, subst, sym}
+use Rattle.std.proofs.Common.{Ok, IfOk, rules, subst, sym}
 use Rattle.lsp_messages.specs.declared.incoming.LspIn.{LspIn}
 use Rattle.session_core.specs.Message.{asked}
 use Rattle.session_core.specs.Step.{Acts}
@@ -16,15 +16,13 @@ returns-in-Initialize g c =
 pub returns-in-DidOpen : goal.returns-in-DidOpen
 returns-in-DidOpen g c =
     let s = c.args.self.now in
-    let acts : IfOk c.opened.result (λ bodies. Acts (asked s (Ok c.args.message)) c.opened.new.self bodies) =
-    subst (λ (m : LspIn). IfOk c.opened.result (λ bodies. Acts (asked s (Ok m)) c.opened.new.self bodies)) (sym c.in-DidOpen.is) c.opened.ensures in
+    let acts : IfOk c.opened.result (λ bodies. Acts (asked s (Ok c.args.message)) c.opened.new.self bodies) = search rules in
     over_none (asked s (Ok c.args.message)) c.opened.new.self c.opened.result _ _ (short_asked s (Ok c.args.message)) acts
 
 pub returns-in-DidChange : goal.returns-in-DidChange
 returns-in-DidChange g c =
     let s = c.args.self.now in
-    let acts : IfOk c.changed.result (λ bodies. Acts (asked s (Ok c.args.message)) c.changed.new.self bodies) =
-    subst (λ (m : LspIn). IfOk c.changed.result (λ bodies. Acts (asked s (Ok m)) c.changed.new.self bodies)) (sym c.in-DidChange.is) c.changed.ensures in
+    let acts : IfOk c.changed.result (λ bodies. Acts (asked s (Ok c.args.message)) c.changed.new.self bodies) = search rules in
     over_none (asked s (Ok c.args.message)) c.changed.new.self c.changed.result _ _ (short_asked s (Ok c.args.message)) acts
 
 pub returns-in-DidClose : goal.returns-in-DidClose
