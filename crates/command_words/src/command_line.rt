@@ -19,8 +19,10 @@ const ABOUT: &str =
     "A language server for HLASM, the IBM High Level Assembler, over standard input and output";
 
 const COMMANDS: &str = "Commands:
-  serve    The session of an editor, which starts it so
-  bulk     A session of its own with a program of N macro calls and ten edits, of which six lines are told";
+  serve    The session of an editor, which starts it so";
+
+const BUDGET: &str =
+    "How many statements a program may be given: 1 to 400000, 100000 if it is left out";
 
 /// An option with a number.
 fn number_option<'a>(alloc: Global, name: &'a str, help: &'a str) -> Arg<'a>
@@ -38,18 +40,14 @@ fn position<'a>(alloc: Global, name: &'a str, help: &'a str) -> Arg<'a>
     Arg::new(alloc, name).help(help)
 }
 
-/// The command line.
+/// The command line. Its help shows neither a count nor a file, which the program has no command for yet.
 pub(crate) fn command_line<'a>(alloc: Global) -> Result<Command<'a>, OutOfMemory>
     ensures { IfOk result (λ line. app_of line ≡ command_line) }
 {
-    let budget = number_option(
-        alloc,
-        "budget",
-        "How many statements a program may be given: 1 to 400000, 100000 if it is left out",
-    );
-    let count = number_option(alloc, "count", "How many calls: 1 to 10000");
-    let command = position(alloc, "command", "serve or bulk");
-    let file = position(alloc, "file", "No command takes one yet");
+    let budget = number_option(alloc, "budget", BUDGET);
+    let count = number_option(alloc, "count", "How many calls: 1 to 10000").hide(true);
+    let command = position(alloc, "command", "serve");
+    let file = position(alloc, "file", "A source file").hide(true);
     let program = Command::new(alloc, "hlasm_ls")
         .no_binary_name(true)
         .version(VERSION)

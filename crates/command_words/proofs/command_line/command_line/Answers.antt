@@ -7,7 +7,7 @@ use Rattle.command_words.proofs.command_line.command_line.Goals as goal
 pub returns : goal.returns
 unfolding command_line
 returns c =
-    let program_is : app_of c.after_help.result ≡ program_named (codes "hlasm_ls") = search rules in
+    let program_is : app_of c.after_help-program.result ≡ program_named (codes "hlasm_ls") = search rules in
     c.in_ok-arg-4.ensures.shape (search rules)
     ∙ ap₂ with_rule (c.in_ok-arg-3.ensures.shape (search rules)
     ∙ ap₂ with_rule (c.in_ok-arg-2.ensures.shape (search rules)
