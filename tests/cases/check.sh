@@ -8,6 +8,7 @@ program_of() {
     case $1 in
         json | json_bytes | members | messages | parameters | responses | ids | bodies) echo message_cases ;;
         sources | sinks | libraries) echo io_cases ;;
+        command_lines) echo word_cases ;;
         readings) echo reading_cases ;;
         debug_requests | debug_arguments | debug_bodies) echo message_cases ;;
         debug_sessions) echo debug_cases ;;
