@@ -76,13 +76,13 @@ fn texts_at(
     Ok(texts)
 }
 
-/// The occurrences of the program of a path and a text of the store, whose members are in this folder.
+/// The occurrences of the program of a path and a text of the store, whose members are in these folders.
 fn standing_of<L: Ledger>(
     alloc: Global,
     store: &DocumentStore,
     path: PathId,
     text: TextId,
-    folder: &str,
+    folders: &[Text],
     blank: Blank,
 ) -> Result<Standing, OutOfMemory>
     requires live { IsLive store.now.pool text.0 }
@@ -90,10 +90,8 @@ fn standing_of<L: Ledger>(
     requires parts { blank.parts ≡ L.parts }
     requires one { blank.parts ≡ 1 }
 {
-    let mut folders = Vec::new(alloc);
-    folders.push(Text::of(alloc, folder)?)?;
     let index = MemberIndex::of(alloc, store)?;
-    let members = GroupMembers::new(store, &index, folders.as_slice());
+    let members = GroupMembers::new(store, &index, folders);
     let machine = Expander::new(HlasmLanguage);
     let mut memo: Memo<Expander> = Memo::new(alloc);
     let mut arena: TraceArena<TraceItem> = TraceArena::new(alloc);
@@ -119,7 +117,9 @@ fn standing_at(
     let Some(MemberText::File(text)) = store.present(number) else {
         return Ok(Standing::new(alloc));
     };
-    standing_of::<Brand>(alloc, store, number, text, folder, Blank::new(1))
+    let mut folders = Vec::new(alloc);
+    folders.push(Text::of(alloc, folder)?)?;
+    standing_of::<Brand>(alloc, store, number, text, &folders, Blank::new(1))
 }
 
 /// The scene of texts, of the path of a program and of the folder that has its members.
