@@ -40,6 +40,6 @@ hover, _ = question("hover", (LINES - 3, 20), {}, b'"contents"')
 found, _ = question("definition", (LINES - 3, 20), {}, b'"range"')
 print(f"hover in {LINES} lines with {LINES * 4} occurrences: {hover:.2f} ms (at most 5)")
 print(f"definition there: {found:.2f} ms (at most 5)")
-places, output = question("references", (2, 1), {"context": {"includeDeclaration": True}}, b'"id"', many=12)
+places, output = question("references", (1, 1), {"context": {"includeDeclaration": True}}, b'"id"', many=12)
 print(f"references to {output.count(b'range') // 12} places: {places:.1f} ms (at most 60)")
 RUNS
