@@ -1,4 +1,4 @@
-//! What is said to a person whose words are no command.
+//! What is said to a person whose words are not a command.
 use crate::command_line::command_line;
 use clap::Error;
 use clap::error::ErrorKind;
