@@ -25,11 +25,11 @@ SaysFault found (At at) = found ≡ Err at
 SaysFault found OutOfMemory = Unit {0}
 
 abbrev pub Says : Result Tree ℕ → Result Formula SyntaxFault → Type 0
-Says found (Ok formula) = found ≡ Ok (tree_of formula.tree)
+Says found (Ok formula) = found ≡ Ok (tree_of formula.tree.value)
 Says found (Err fault) = SaysFault found fault
 
 abbrev pub tree_in : Formula → Tree
-tree_in formula = tree_of formula.tree
+tree_in formula = tree_of formula.tree.value
 
 abbrev pub tree_if : Option Formula → Option Tree
 tree_if found = option_map tree_in found

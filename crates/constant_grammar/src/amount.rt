@@ -73,7 +73,7 @@ fn enclosed(alloc: Global, text: &str) -> Result<Option<AmountFront>, OutOfMemor
 {
     match parse_front(alloc, Grammar::Ordinary, text) {
         Ok(front) => Ok(Some(AmountFront {
-            amount: Amount::Computed(Formula { tree: front.tree }),
+            amount: Amount::Computed(Formula::new(alloc, front.tree)?),
             count: front.before.checked_add(2).ok_or(OutOfMemory)?,
         })),
         Err(SyntaxFault::At(_)) => Ok(None),

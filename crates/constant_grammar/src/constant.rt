@@ -1,11 +1,11 @@
 //! Operands of DC and DS.
-ghost use Rattle.std.specs.Prelude.{◌≡◌, IfOk};
+ghost use Rattle.std.specs.Prelude.{◌≡◌, Some, IfOk};
 ghost use Rattle.std.specs.Str.{chars};
 ghost use Rattle.std.specs.Option.{option_map};
 ghost use Rattle.constant_grammar.specs.Constants as constants;
-ghost use Rattle.constant_grammar.specs.Views.{constant_of, optional_amount_of, optional_nominal_of};
+ghost use Rattle.constant_grammar.specs.Views.{constant_of, optional_amount_of, optional_nominal_of, optional_of};
 
-use crate::amount::{Amount, behind_amount, explicit_length, factor};
+use crate::amount::{Amount, OptionalAmount, behind_amount, explicit_length, factor};
 use crate::character::{behind, head};
 use crate::letters::{Spelled, type_front};
 use crate::nominal::{Nominal, read_nominal};
@@ -39,6 +39,27 @@ fn values(
     }
 }
 
+/// A constant with this factor and this explicit length, which stands behind the type.
+fn with_length(
+    alloc: Global,
+    factor: Option<Amount>,
+    kind: ConstantType,
+    length: OptionalAmount,
+    text: &str,
+) -> Result<Option<Constant>, OutOfMemory>
+    ensures { IfOk result (λ constant. option_map constant_of constant ≡ constants.with_length (optional_amount_of factor) kind (Some (optional_of length)) (chars text.now)) }
+{
+    match values(alloc, kind, behind_amount(text, &length))? {
+        Some(nominal) => Ok(Some(Constant {
+            factor,
+            kind,
+            length: length.amount,
+            nominal,
+        })),
+        None => Ok(None),
+    }
+}
+
 /// What stands behind the type, of a constant with this factor.
 fn behind_type(
     alloc: Global,
@@ -48,16 +69,8 @@ fn behind_type(
 ) -> Result<Option<Constant>, OutOfMemory>
     ensures { IfOk result (λ constant. option_map constant_of constant ≡ constants.behind_type (optional_amount_of factor) kind (chars text.now)) }
 {
-    let Some(length) = explicit_length(alloc, text)? else {
-        return Ok(None);
-    };
-    match values(alloc, kind, behind_amount(text, &length))? {
-        Some(nominal) => Ok(Some(Constant {
-            factor,
-            kind,
-            length: length.amount,
-            nominal,
-        })),
+    match explicit_length(alloc, text)? {
+        Some(length) => with_length(alloc, factor, kind, length, text),
         None => Ok(None),
     }
 }

@@ -1,9 +1,12 @@
 //! What stands in the parentheses of an address constant (SC26-4940, "Address constants").
-ghost use Rattle.std.specs.Prelude.{◌≡◌, IfOk};
+ghost use Rattle.std.specs.Prelude.{◌≡◌, ◌≤◌, Ok, IfOk};
 ghost use Rattle.std.specs.Str.{chars};
 ghost use Rattle.std.specs.Option.{option_map};
 ghost use Rattle.expression_grammar.specs.declared.character.Grammar.TheVariants.{Ordinary};
 ghost use Rattle.expression_grammar.specs.Readings.{read};
+ghost use Rattle.expression_grammar.specs.Spelling.{most_parts};
+ghost use Rattle.expression_grammar.specs.Trees.{size};
+ghost use Rattle.expression_grammar.specs.Views.{tree_of};
 ghost use Rattle.constant_grammar.specs.Elements as elements;
 ghost use Rattle.constant_grammar.specs.Views.{amount_front_of, element_of, Says, tree_if};
 
@@ -11,7 +14,7 @@ use crate::amount::{Amount, AmountFront, amount_front};
 use crate::character::{before, behind, character_count};
 use crate::tree::Formula;
 use constant_table::ValueKind;
-use expression_grammar::{SyntaxFault, parse_ordinary};
+use expression_grammar::{Expr, SyntaxFault, parse_ordinary};
 use hl_base::{Name, OutOfMemory, Text};
 use std::alloc::Global;
 
@@ -23,12 +26,23 @@ pub enum Element {
     Address(Formula, Option<Formula>),
 }
 
+/// An expression with this tree, in the words of its reader.
+fn read_tree(alloc: Global, tree: Expr) -> Result<Formula, SyntaxFault>
+    requires { size (tree_of tree) ≤ most_parts }
+    ensures { Says (Ok (tree_of tree)) result }
+{
+    match Formula::new(alloc, tree) {
+        Ok(formula) => Ok(formula),
+        Err(_) => Err(SyntaxFault::OutOfMemory),
+    }
+}
+
 /// Reads an ordinary expression.
 pub fn read_formula(alloc: Global, text: &str) -> Result<Formula, SyntaxFault>
     ensures { Says (read Ordinary (chars text.now)) result }
 {
     match parse_ordinary(alloc, text) {
-        Ok(tree) => Ok(Formula { tree }),
+        Ok(tree) => read_tree(alloc, tree),
         Err(fault) => Err(fault),
     }
 }

@@ -43,7 +43,7 @@ pub(crate) fn read_closed(alloc: Global, text: &str) -> Result<FrontReading, Out
     ensures { IfOk result (λ reading. front_reading_of reading ≡ read_front Ordinary (chars text.now)) }
 {
     match parse_front(alloc, Grammar::Ordinary, text) {
-        Ok(front) => Ok(FrontReading::Tree(Formula { tree: front.tree }, front.before)),
+        Ok(front) => Ok(FrontReading::Tree(Formula::new(alloc, front.tree)?, front.before)),
         Err(SyntaxFault::At(at)) => Ok(FrontReading::At(at)),
         Err(SyntaxFault::OutOfMemory) => Err(OutOfMemory),
     }

@@ -125,7 +125,7 @@ pub fn equate(
 {
     let Formula { tree } = formula;
     if symbols.first_unknown(&tree).is_some() {
-        return equate_later(alloc, symbols, equating, tree, rows);
+        return equate_later(alloc, symbols, equating, Box::into_inner(tree), rows);
     }
     equate_now(alloc, symbols, equating, &tree, rows)
 }

@@ -1,13 +1,19 @@
+use Rattle.std.proofs.Common.{ℕ, sym, subst}
+use Rattle.std.specs.Prelude.{Result}
 use Rattle.std.specs.Str.{chars}
+use Rattle.expression_grammar.specs.Trees.{Tree}
 use Rattle.expression_grammar.specs.Views.{tree_of}
+use Rattle.constant_grammar.specs.Views.{Says}
 use Rattle.constant_grammar.proofs.ExpressionLaws.{reads_ordinary, fails_ordinary}
 use Rattle.constant_grammar.proofs.element.read_formula.Goals as goal
 
-pub invariant_of-result : goal.invariant_of-result
-invariant_of-result c = record { small = c.in-Ok.ensures.small }
+pub read_tree-requires : goal.read_tree-requires
+read_tree-requires c = c.in-Ok.ensures.small
 
 pub returns-in-Ok : goal.returns-in-Ok
-returns-in-Ok c = reads_ordinary (chars c.args.text.now) (tree_of c.in-Ok.tree) c.in-Ok.ensures
+returns-in-Ok c =
+    let is = reads_ordinary (chars c.args.text.now) (tree_of c.in-Ok.tree) c.in-Ok.ensures in
+    subst (λ (found : Result Tree ℕ). Says found c.read_tree.result) (sym is) c.read_tree.ensures
 
 pub returns-in-Err : goal.returns-in-Err
 returns-in-Err c = fails_ordinary (chars c.args.text.now) c.in-Err.fault c.in-Err.ensures
