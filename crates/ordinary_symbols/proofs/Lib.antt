@@ -6,3 +6,4 @@ pub mod Endings
 pub mod Places
 pub mod Counts
 pub mod Settling
+pub mod TermLaws

@@ -1,5 +1,6 @@
 pub mod Known
 pub mod Sections
+pub mod SingleTerms
 pub mod Values
 pub mod Table
 pub mod Rounds

@@ -10,7 +10,7 @@ use Rattle.ordinary_symbols.specs.Table as table
 
 abbrev pub standing_of : Standing → table.Standing
 standing_of standing.Settled = table.Settled
-standing_of (standing.Deferred deferred) = table.Deferred deferred.sized (tree_of deferred.expression) deferred.here
+standing_of (standing.Deferred deferred) = table.Deferred deferred.value.sized (tree_of deferred.value.expression) deferred.value.here
 standing_of standing.Faulty = table.Faulty
 
 abbrev pub entry_of : Held → table.Entry

@@ -121,9 +121,8 @@ impl Symbols {
         self.is_absolute(left, here) && self.is_absolute(right, here)
     }
 
-    /// The value of an expression that stands at a place, if there is one. Any expression that `parse_ordinary` gives is
-    /// small enough. It takes no memory.
-    pub fn eval(&self, e: &Expr, here: Option<Reloc>) -> Result<Reloc, EvalFault>
+    /// The value of an expression by all its terms.
+    fn value_by_terms(&self, e: &Expr, here: Option<Reloc>) -> Result<Reloc, EvalFault>
         requires { size (tree_of e.now) ≤ most_parts }
         ensures { result ≡ values.value (known (table_of self.now)) here (tree_of e.now) }
     {
@@ -141,6 +140,19 @@ impl Symbols {
             section: Some(section),
             value,
         })
+    }
+
+    /// The value of an expression that stands at a place, if there is one. Any expression that `parse_ordinary` gives is
+    /// small enough. It takes no memory.
+    #[tactic(auto, using(crate::proofs::TermLaws::comes_to))]
+    pub fn eval(&self, e: &Expr, here: Option<Reloc>) -> Result<Reloc, EvalFault>
+        requires { size (tree_of e.now) ≤ most_parts }
+        ensures { result ≡ values.value (known (table_of self.now)) here (tree_of e.now) }
+    {
+        match self.simple_value(e, here) {
+            Some(value) => Ok(value),
+            None => self.value_by_terms(e, here),
+        }
     }
 
     /// The first symbol of an expression of which nothing is known.

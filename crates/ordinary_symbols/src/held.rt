@@ -17,11 +17,12 @@ pub(crate) struct Deferred {
     ghost small: { size (tree_of expression) ≤ most_parts },
 }
 
-/// How a symbol stands: its row is all there is to say, or its EQU waits, or its EQU was tried and has no value.
+/// How a symbol stands: its row is all there is to say, or its EQU waits, or its EQU was tried and has no value. Few symbols wait, so
+/// what is held of an EQU stands apart.
 #[derive(Drop)]
 pub(crate) enum Standing {
     Settled,
-    Deferred(Deferred),
+    Deferred(Box<Deferred>),
     Faulty,
 }
 

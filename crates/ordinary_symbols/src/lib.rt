@@ -16,6 +16,7 @@ mod known;
 pub mod laws;
 mod resolve;
 mod sections;
+mod sums;
 mod symbols;
 
 pub use fault::{DefineFault, EvalFault, Trouble};

@@ -119,23 +119,16 @@ impl Symbols {
         ensures kept { OnErr result (table_of self.new ≡ table_of self.old) }
         ensures only { IfErr result (λ fault. (fault ≡ AlreadyDefined) ⊎ (fault ≡ OutOfMemory)) }
     {
-        let SymbolRow {
-            name,
-            value: _,
-            attr,
-            stack,
-        } = row;
-        let row = SymbolRow {
-            name,
-            value: None,
-            attr,
-            stack,
-        };
-        let standing = Standing::Deferred(Deferred {
+        if self.place(&row.name).is_some() {
+            return Err(DefineFault::AlreadyDefined);
+        }
+        let deferred = Deferred {
             sized,
             expression: e,
             here,
-        });
+        };
+        let standing = Standing::Deferred(Box::new(alloc, deferred)?);
+        let row = without_value(row);
         self.admit(alloc, Held { row, standing })
     }
 
@@ -155,6 +148,15 @@ impl Symbols {
         push_within(&mut self.rows, held);
         Ok(())
     }
+}
+
+/// The row of a symbol that has no value yet.
+fn without_value(row: SymbolRow) -> SymbolRow
+    ensures { result ≡ record row { value = None } }
+{
+    let mut row = row;
+    row.value = None;
+    row
 }
 
 /// A symbol goes last, for which there is room.
