@@ -1,5 +1,5 @@
 //! A library over std's file system.
-ghost use Rattle.std.specs.Prelude.{◌≡◌, ◌≢◌, ℕ, ◌^◌, ◌≤◌, Some, None, Ok, IfOk, IfErr, IfSome, IsErr, vec_len};
+ghost use Rattle.std.specs.Prelude.{◌≡◌, ◌≢◌, ℕ, ◌^◌, ◌≤◌, Some, None, Ok, IfOk, IfErr, IfSome, IsErr, OnOk, length, vec_len};
 ghost use Rattle.std.specs.IoError.{error_kind};
 ghost use Rattle.io_edge.specs.LibraryCall.{HasLibraryCause};
 
@@ -14,8 +14,8 @@ use std::{fs, io};
 /// How many bytes a file may have, so that none takes the memory of all others.
 const LONGEST_FILE: u64 = 0x400_0000;
 
-/// The room that is made for a file that does not tell its length: most need no more.
-const USUAL_LENGTH: usize = 0x1000;
+/// The room into which files are read first: most need no more.
+const USUAL_ROOM: usize = 0x1_0000;
 
 /// A library over a file system. It tells nothing of what it reads.
 ///
@@ -25,6 +25,9 @@ const USUAL_LENGTH: usize = 0x1000;
 #[derive(Drop)]
 pub struct FolderLibrary<R: Files + AllocGlobal + Clone + Drop> {
     files: R,
+    // The room into which each file is read first, empty until one is read. It serves all files, so that no room is set to zero
+    // for each of them.
+    room: Vec<u8>,
     refusals: u64,
 }
 
@@ -111,18 +114,81 @@ fn names_in<R: Files + AllocGlobal + Clone + Drop>(
     Ok(Some(names))
 }
 
-/// The room that is made for the bytes of a file: as much as it says that it needs, and a byte more, at which its end shows.
+/// Reads a file until the room is full or the file ends, and answers how many bytes were read.
+fn fill<F: Read>(file: &mut F, room: &mut [u8]) -> io::Result<usize>
+    ensures { IfOk result (λ filled. filled ≤ length room.new) }
+{
+    let mut filled = 0;
+    for _ in 0..u64::MAX {
+        if filled >= room.len() {
+            break;
+        }
+        match file.read(&mut room[filled..]) {
+            Ok(0) => break,
+            Ok(count) => filled += count,
+            Err(error) if error.kind() == ErrorKind::Interrupted => {}
+            Err(error) => return Err(error),
+        }
+    }
+    Ok(filled)
+}
+
+/// The room that a long file needs: as much as it says, and a byte more, at which its end shows.
 fn room_for<F: OpenFile>(file: &F) -> usize {
     match file.metadata() {
         Ok(found) => found.len().min(LONGEST_FILE) as usize + 1,
-        Err(_) => USUAL_LENGTH,
+        Err(_) => 0,
     }
+}
+
+/// The bytes of a file of which these were read, and which has more.
+fn long_bytes<F: Read + OpenFile + Drop>(
+    alloc: Global,
+    file: F,
+    front: &[u8],
+) -> Result<Vec<u8>, LibraryFault>
+    ensures { IfOk result (λ bytes. vec_len bytes ≤ 2 ^ 26) }
+{
+    let mut bytes = Vec::with_capacity(alloc, room_for(&file).max(front.len()))?;
+    bytes.extend_from_slice(front)?;
+    match file.take(LONGEST_FILE).read_to_end(&mut bytes) {
+        Ok(_) if bytes.len() as u64 <= LONGEST_FILE => Ok(bytes),
+        Ok(_) => Err(LibraryFault::Failed),
+        Err(error) => Err(fault_of(&error)),
+    }
+}
+
+/// The bytes of a file.
+fn bytes_of<F: Read + OpenFile + Drop>(
+    alloc: Global,
+    mut file: F,
+    room: &mut [u8],
+) -> Result<Vec<u8>, LibraryFault>
+    requires { length room.old ≤ USUAL_ROOM }
+    ensures { IfOk result (λ bytes. vec_len bytes ≤ 2 ^ 26) }
+{
+    match fill(&mut file, room) {
+        Ok(filled) if filled < room.len() => Ok(Vec::from_slice(alloc, &room[..filled])?),
+        Ok(_) => long_bytes(alloc, file, room),
+        Err(error) => Err(fault_of(&error)),
+    }
+}
+
+/// Makes the room, if there is none.
+fn make_room(room: &mut Vec<u8>) -> Result<(), LibraryFault>
+    ensures { OnOk result (vec_len room.new ≡ USUAL_ROOM) }
+{
+    if room.len() != USUAL_ROOM {
+        room.resize(USUAL_ROOM, 0)?;
+    }
+    Ok(())
 }
 
 /// The bytes of the file at a path.
 fn bytes_at<R: Files + AllocGlobal + Clone + Drop>(
     alloc: Global,
     files: &R,
+    room: &mut Vec<u8>,
     path: &str,
 ) -> Result<Option<Vec<u8>>, LibraryFault>
     ensures { IfOk result (λ found. IfSome found (λ bytes. vec_len bytes ≤ 2 ^ 26)) }
@@ -130,12 +196,8 @@ fn bytes_at<R: Files + AllocGlobal + Clone + Drop>(
     let Some(file) = unless_absent(fs::open(files, path))? else {
         return Ok(None);
     };
-    let mut bytes = Vec::with_capacity(alloc, room_for(&file))?;
-    match file.take(LONGEST_FILE + 1).read_to_end(&mut bytes) {
-        Ok(count) if count as u64 <= LONGEST_FILE => Ok(Some(bytes)),
-        Ok(_) => Err(LibraryFault::Failed),
-        Err(error) => Err(fault_of(&error)),
-    }
+    make_room(room)?;
+    Ok(Some(bytes_of(alloc, file, room.as_mut_slice())?))
 }
 
 impl<R: Files + AllocGlobal + Clone + Drop> FolderLibrary<R> {
@@ -145,7 +207,11 @@ impl<R: Files + AllocGlobal + Clone + Drop> FolderLibrary<R> {
     pub fn new(files: R) -> FolderLibrary<R>
         ensures { result ≡ 0 }
     {
-        FolderLibrary { files, refusals: 0 }
+        FolderLibrary {
+            room: Vec::new(files.alloc()),
+            files,
+            refusals: 0,
+        }
     }
 
     /// How many calls failed, or the greatest u64.
@@ -187,7 +253,7 @@ impl<R: Files + AllocGlobal + Clone + Drop> Library for FolderLibrary<R> {
         ensures counts { self.new ≡ refusals_after result self.old }
         ensures longest { IfOk result (λ found. IfSome found (λ bytes. vec_len bytes ≤ 2 ^ 26)) }
     {
-        let answer = bytes_at(alloc, &self.files, path);
+        let answer = bytes_at(alloc, &self.files, &mut self.room, path);
         self.count(&answer);
         answer
     }
