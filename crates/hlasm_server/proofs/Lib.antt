@@ -4,4 +4,3 @@ pub mod OutputLaws
 pub mod SendingLaws
 pub mod ServeLaws
 pub mod WaitingLaws
-pub mod WordLaws

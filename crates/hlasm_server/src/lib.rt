@@ -16,7 +16,6 @@ pub mod laws;
 mod sending;
 mod serving;
 mod status;
-mod words;
 
 pub use serving::run;
 pub use status::Status;
