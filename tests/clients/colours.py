@@ -161,7 +161,8 @@ def faults_of_lists():
     }
     for path, found in machines.items():
         if found != machine:
-            yield f"{path}: {len(found & machine)} instructions: missing {sorted(machine - found)[:9]}, none are {sorted(found - machine)[:9]}"
+            lacking, wrong = sorted(machine - found)[:9], sorted(found - machine)[:9]
+            yield f"{path}: {len(found & machine)} instructions, not {lacking}, and {wrong}, which are none"
         lacking = {word for word in other if not re.search(rf"\b{word}\b", read(os.path.join(CLIENTS, path)))}
         if lacking:
             yield f"{path}: operations missing {sorted(lacking)}"
