@@ -180,10 +180,10 @@ def printed_by(script):
 
 
 def processor():
-    """The name of this machine's processors."""
+    """How many processors this machine has, and their name."""
     with open("/proc/cpuinfo", encoding="utf-8") as file:
         names = re.findall(r"model name\s*:\s*(.*)", file.read())
-    return f"{len(names)} of {names[0]}" if names else platform.machine()
+    return f"{len(names)} processors, {names[0]}" if names else f"processors {platform.machine()}"
 
 
 def figures(busy):
@@ -191,7 +191,7 @@ def figures(busy):
     rows = [row.text(printed_by(row.script)) for row in ROWS]
     note = ", while it was busy" if busy else ""
     day = datetime.date.today().isoformat()
-    lines = [f"Measured on {day}, on a machine with processors {processor()}{note}.", "",
+    lines = [f"Measured on {day}, on a machine with {processor()}{note}.", "",
              "| What | Figure | Peer | Goal | Met |", "|---|---|---|---|---|", *(text for text, _ in rows)]
     return "\n".join(lines) + "\n", sum(not met for _, met in rows)
 

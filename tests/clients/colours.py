@@ -3,7 +3,7 @@
 kate-syntax-highlighter). colours/example.hlasm has each sort of statement, and colours/example.txt a letter for each of its
 characters, worked out from the rules: N name, O operation, P operand, Q quoted text, V variable symbol, R remarks, C comment,
 M a mark in column 72, S what stands behind, E text before column 16 of a continuation line. Also, each editor knows the
-operations that are built in. If no editor is there it ends with 77: skipped.
+operations that are built in, each machine instruction among them, and no other one. If no editor is there it ends with 77: skipped.
 """
 import html
 import json
@@ -132,25 +132,40 @@ def read_all(folder):
     return "\n".join(read(os.path.join(folder, name)) for name in sorted(os.listdir(folder)))
 
 
+def words_of_list(path, form):
+    """The words of a list of a file of colours."""
+    found = re.search(form, read(os.path.join(CLIENTS, path)), re.DOTALL)[1]
+    return set(re.findall(r"\b[A-Z][A-Z0-9]*\b", re.sub("<[^>]*>", " ", found)))
+
+
+def words_of_expression(path, form, words):
+    """Which of these words an expression of a file of colours takes; Vim's continuation lines and its groups are written plainly."""
+    found = re.search(form, read(os.path.join(CLIENTS, path)), re.DOTALL)[1]
+    if path.endswith(".vim"):
+        for old, new in (("\n      \\", ""), (r"\%(", "(?:"), (r"\|", "|"), (r"\)", ")"), (r"\=", "?")):
+            found = found.replace(old, new)
+    return {word for word in words if re.fullmatch(found, word)}
+
+
 def faults_of_lists():
-    """Which files of colours lack an operation of the assembler, know fewer instructions than the 168 of every day, or know an
-    operation that is none. The other instructions are coloured as macro calls."""
-    wanted, machine = other_operations(), machine_instructions()
-    lists = {
-        "neovim/syntax/hlasm.vim": r"(?m)(?:\\\||^ +\\)([A-Z]+)(?=\\\||$)",
-        "emacs/hlasm-mode.el": r"\b([A-Z]+)\b",
-        "vscode/syntaxes/hlasm.tmLanguage.json": r"(?<=[:|])([A-Z]+)(?=[|)])",
-        "kate/hlasm.xml": "<item>([A-Z]+)</item>",
+    """Which files of colours do not know an operation of the assembler or a machine instruction, or know one that is none."""
+    other, machine = other_operations(), machine_instructions()
+    near = {word[:-1] for word in machine} | {word + last for word in machine for last in "AEHRZ"} | {word[1:] for word in machine}
+    tried = (near - {""}) | machine
+    vim, vscode = "neovim/syntax/hlasm.vim", "vscode/syntaxes/hlasm.tmLanguage.json"
+    machines = {
+        vim: words_of_expression(vim, r"hlasmMachine contained [^\n]*\n +\\(.*?)\n +\\\\\)\\S", tried),
+        vscode: words_of_expression(vscode, r'"machine": .*?\(\?i:(.*?)\)\)\(\?=', tried),
+        "emacs/hlasm-mode.el": words_of_list("emacs/hlasm-mode.el", r'hlasm--machine-operations\s+\(split-string "(.*?)"\)'),
+        "kate/hlasm.xml": words_of_list("kate/hlasm.xml", r'<list name="machine">(.*?)</list>'),
     }
-    for path, form in lists.items():
-        text = read(os.path.join(CLIENTS, path))
-        if path.endswith(".el"):
-            text = " ".join(re.findall(r'\(split-string "([A-Z\s]+)"\)', text))
-        found = set(re.findall(form, text))
-        if wanted - found or found - wanted - machine:
-            yield f"{path}: operations missing {sorted(wanted - found)}, and too many {sorted(found - wanted - machine)}"
-        if len(found & machine) < 168:
-            yield f"{path}: {len(found & machine)} instructions only"
+    for path, found in machines.items():
+        if found != machine:
+            lacking, wrong = sorted(machine - found)[:9], sorted(found - machine)[:9]
+            yield f"{path}: {len(found & machine)} instructions, not {lacking}, and {wrong}, which are none"
+        lacking = {word for word in other if not re.search(rf"\b{word}\b", read(os.path.join(CLIENTS, path)))}
+        if lacking:
+            yield f"{path}: operations missing {sorted(lacking)}"
 
 
 def main():

@@ -6,6 +6,7 @@ Usage: debug.py [--server PATH]
 import argparse
 import json
 import os
+import shutil
 import subprocess
 import sys
 import tempfile
@@ -214,6 +215,28 @@ class Debugging(unittest.TestCase):
             editor.ask("stepIn")
             self.assertEqual("ADD", self.stop(editor)[0])
             self.assertEqual(0, editor.end())
+
+    def answered_by(self, path):
+        """What the adapter says at once, or the name of the server that it starts, where none is named to it."""
+        adapter = os.path.join(self.folder, "bin/hlasm-debug")
+        ran = subprocess.run([sys.executable, adapter], cwd=self.folder, env={"PATH": path}, stdin=subprocess.DEVNULL,
+                             capture_output=True, encoding="utf-8", timeout=60)
+        return ran.stderr
+
+    def server_at(self, name):
+        """A program that tells its name and ends."""
+        self.write(name, f"#!/bin/sh\necho {name} >&2\n")
+        os.chmod(os.path.join(self.folder, name), 0o755)
+
+    def test_the_server_is_the_one_beside_the_adapter_or_on_the_path(self):
+        os.mkdir(os.path.join(self.folder, "bin"))
+        shutil.copy(ADAPTER, os.path.join(self.folder, "bin/hlasm-debug"))
+        path = f"{self.folder}/else:/usr/bin:/bin"
+        self.assertEqual("hlasm-debug: no program hlasm_ls was found; name it with --server PROGRAM\n", self.answered_by(path))
+        self.server_at("else/hlasm_ls")
+        self.assertIn("else/hlasm_ls\n", self.answered_by(path))
+        self.server_at("bin/hlasm_ls")
+        self.assertIn("bin/hlasm_ls\n", self.answered_by(path))
 
     def test_a_server_that_ends_ends_the_program(self):
         editor = self.editor("--server", "/bin/false")

@@ -1,6 +1,6 @@
 #!/usr/bin/env python3
 """Whether the pages agree with the repository: each crate has one row, with the libraries that crates.txt gives it; what a row
-cites is there; no row stands twice; and what is counted is as many.
+cites is there; no row stands twice; what is counted is as many; and the version and the pages that are named are there.
 """
 import collections
 import glob
@@ -192,9 +192,26 @@ def counts(faults):
     faults += [f"tests/cases/README.md: there is no table {name}" for name in sorted(said - tables)]
 
 
+def version(faults):
+    """README.md shows the tarball of the version that there is."""
+    said = set(re.findall(r"hlasm_ls-([\d.]+)-linux", read("README.md")))
+    if said != {read("VERSION").strip()}:
+        faults.append(f"README.md: the tarball is of the versions {sorted(said)}")
+
+
+def pages(faults):
+    """README.md names each page of docs/, and no page names one that is not there."""
+    first = read("README.md")
+    names = {os.path.basename(path) for path in glob.glob(f"{TOP}/docs/*.md")}
+    faults += [f"README.md does not name docs/{name}" for name in sorted(names) if f"docs/{name}" not in first]
+    for path in ["README.md", *(f"docs/{name}" for name in sorted(names))]:
+        named = re.findall(r"(?<![\w/])(?:docs/)?([A-Z]+\.md)\b", read(path))
+        faults += [f"{path} names {name}" for name in sorted({*named} - names - {"README.md"})]
+
+
 def main():
     faults = []
-    for check in (layers, proved, first_page, definitions, laws, decisions, counts):
+    for check in (layers, proved, first_page, definitions, laws, decisions, counts, version, pages):
         check(faults)
     for fault in faults:
         print(f"FAIL {fault}")

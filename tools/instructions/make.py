@@ -301,7 +301,7 @@ def page(rows):
             "|---|---|---|",
             *kinds,
             "",
-            "An operand in brackets may be left out, and then all that follow it are left out too. What is written behind an "
+            "An operand in brackets may be left out, and then all that follow it are left out too. What is written after an "
             "instruction without operands (`-`) is a remark.",
             "",
             "## Formats",
