@@ -141,7 +141,7 @@ fn room_for<F: OpenFile>(file: &F) -> usize {
     }
 }
 
-/// The bytes of a file of which these were read, and which has more.
+/// The bytes of a file of which these were read, and which may have more.
 fn long_bytes<F: Read + OpenFile + Drop>(
     alloc: Global,
     file: F,
