@@ -6,12 +6,12 @@ use Rattle.hlasm_server.proofs.serving.run.Goals as goal
 
 pub returns-in-Ok-Serve-clause-plain : goal.returns-in-Ok-Serve-clause-plain
 returns-in-Ok-Serve-clause-plain g c = λ budget told.
-    let same : c.in-Ok-Serve.budget ≡ budget = cc (told, c.in-Ok-Serve.ensures.command, c.in-Ok-Serve.field-0-is, c.in-Ok-Serve.budget-is) in
+    let same : c.in-Ok-Serve.budget ≡ budget = cc (told, c.in-Ok-Serve.ensures.command, c.in-Ok-Serve.field-0-is) in
     rw same at c.serve.ensures.plain
 
 pub returns-in-Ok-Serve-clause-complete : goal.returns-in-Ok-Serve-clause-complete
 returns-in-Ok-Serve-clause-complete g c = λ budget told no_read no_write.
-    let same : c.in-Ok-Serve.budget ≡ budget = cc (told, c.in-Ok-Serve.ensures.command, c.in-Ok-Serve.field-0-is, c.in-Ok-Serve.budget-is) in
+    let same : c.in-Ok-Serve.budget ≡ budget = cc (told, c.in-Ok-Serve.ensures.command, c.in-Ok-Serve.field-0-is) in
     let plain = rw same at c.serve.ensures.plain in
     completes _ _ _ _ _ _ _ _ _ _ _ _ _ _ plain c.serve.ensures.cause no_read no_write
 
