@@ -2,7 +2,12 @@
 ghost use Rattle.std.specs.Prelude.{◌≡◌, IfOk};
 ghost use Rattle.std.specs.Str.{chars};
 ghost use Rattle.std.specs.Option.{option_map};
+ghost use Rattle.layout_statements.specs.Bases.{any_reads_place as any_place, using_reads_place as using_place};
+ghost use Rattle.layout_statements.specs.Equates as equates;
+ghost use Rattle.layout_statements.specs.Expressions.{reading_at};
+ghost use Rattle.layout_statements.specs.Lists as lists;
 ghost use Rattle.layout_statements.specs.Statements as spec;
+ghost use Rattle.layout_statements.specs.Symbols.{symbol_readings};
 ghost use Rattle.layout_statements.specs.Views.{statement_of, task_of};
 
 use crate::bases::{any_reads_place, using_reads_place};
@@ -11,7 +16,7 @@ use crate::expressions::{Reading, read_at};
 use crate::kind::{Kind, kind_of};
 use crate::lists::{ReadLiteral, read_constants, read_literals};
 use crate::symbols::{ReadSymbol, read_symbols};
-use constant_operands::ConstantOperand;
+use constant_operands::{ConstantOperand, ConstantUse};
 use hl_base::{Line, Name, OutOfMemory, Text};
 use instruction_table::Format;
 use operand_list::split_operands;
@@ -53,7 +58,76 @@ pub struct LayoutStatement {
     pub task: Task,
 }
 
-/// What an operation of this kind asks for with an operand field.
+/// What a machine instruction asks for.
+fn instruction(alloc: Global, format: Format, operands: &[Text]) -> Result<Task, OutOfMemory>
+    ensures { IfOk result (λ task. task_of task ≡ spec.Instruction format (lists.literals operands.now)) }
+{
+    Ok(Task::Instruction(format, read_literals(alloc, operands)?))
+}
+
+/// What DC and DS ask for.
+fn constants(alloc: Global, used: ConstantUse, operands: &[Text]) -> Result<Task, OutOfMemory>
+    ensures { IfOk result (λ task. task_of task ≡ spec.Constants (lists.constants used operands.now)) }
+{
+    Ok(Task::Constants(read_constants(alloc, used, operands)?))
+}
+
+/// What EQU asks for.
+fn equate(
+    alloc: Global,
+    op: &OpMeaning,
+    field: &str,
+    operands: &[Text],
+) -> Result<Task, OutOfMemory>
+    ensures { IfOk result (λ task. task_of task ≡ spec.Equate (equates.equate op.now (chars field.now) operands.now)) }
+{
+    Ok(Task::Equate(read_equate(alloc, op, field, operands)?))
+}
+
+/// What ORG asks for.
+fn org(alloc: Global, operands: &[Text]) -> Result<Task, OutOfMemory>
+    ensures { IfOk result (λ task. task_of task ≡ spec.Org (reading_at 0 operands.now)) }
+{
+    Ok(Task::Org(read_at(alloc, operands, 0)?))
+}
+
+/// What EXTRN and WXTRN ask for.
+fn externals(alloc: Global, operands: &[Text]) -> Result<Task, OutOfMemory>
+    ensures { IfOk result (λ task. task_of task ≡ spec.Externals (symbol_readings operands.now)) }
+{
+    Ok(Task::Externals(read_symbols(alloc, operands)?))
+}
+
+/// What ENTRY asks for.
+fn entries(alloc: Global, operands: &[Text]) -> Result<Task, OutOfMemory>
+    ensures { IfOk result (λ task. task_of task ≡ spec.Entries (symbol_readings operands.now)) }
+{
+    Ok(Task::Entries(read_symbols(alloc, operands)?))
+}
+
+/// What END asks for.
+fn end(alloc: Global, operands: &[Text]) -> Result<Task, OutOfMemory>
+    ensures { IfOk result (λ task. task_of task ≡ spec.End (reading_at 0 operands.now)) }
+{
+    Ok(Task::End(read_at(alloc, operands, 0)?))
+}
+
+/// What USING asks for.
+fn using(alloc: Global, operands: &[Text]) -> Result<Task, OutOfMemory>
+    ensures { IfOk result (λ task. task_of task ≡ spec.Bases (using_place operands.now)) }
+{
+    Ok(Task::Bases(using_reads_place(alloc, operands)?))
+}
+
+/// What DROP asks for.
+fn dropping(alloc: Global, operands: &[Text]) -> Result<Task, OutOfMemory>
+    ensures { IfOk result (λ task. task_of task ≡ spec.Bases (any_place operands.now)) }
+{
+    Ok(Task::Bases(any_reads_place(alloc, operands)?))
+}
+
+/// What an operation of this kind asks for with an operand field. Each kind is read by a function of its own, so that no call
+/// makes room for the readings of all.
 fn read_task(
     alloc: Global,
     op: &OpMeaning,
@@ -63,18 +137,18 @@ fn read_task(
     ensures { IfOk result (λ task. task_of task ≡ spec.task op.now (chars field.now) operands.now) }
 {
     match kind_of(op) {
-        Kind::Instruction(format) => Ok(Task::Instruction(format, read_literals(alloc, operands)?)),
-        Kind::Constants(used) => Ok(Task::Constants(read_constants(alloc, used, operands)?)),
+        Kind::Instruction(format) => instruction(alloc, format, operands),
+        Kind::Constants(used) => constants(alloc, used, operands),
         Kind::ControlSection => Ok(Task::ControlSection),
         Kind::DummySection => Ok(Task::DummySection),
-        Kind::Equate => Ok(Task::Equate(read_equate(alloc, op, field, operands)?)),
-        Kind::Org => Ok(Task::Org(read_at(alloc, operands, 0)?)),
+        Kind::Equate => equate(alloc, op, field, operands),
+        Kind::Org => org(alloc, operands),
         Kind::Pool => Ok(Task::Pool),
-        Kind::Externals => Ok(Task::Externals(read_symbols(alloc, operands)?)),
-        Kind::Entries => Ok(Task::Entries(read_symbols(alloc, operands)?)),
-        Kind::End => Ok(Task::End(read_at(alloc, operands, 0)?)),
-        Kind::Using => Ok(Task::Bases(using_reads_place(alloc, operands)?)),
-        Kind::Drop => Ok(Task::Bases(any_reads_place(alloc, operands)?)),
+        Kind::Externals => externals(alloc, operands),
+        Kind::Entries => entries(alloc, operands),
+        Kind::End => end(alloc, operands),
+        Kind::Using => using(alloc, operands),
+        Kind::Drop => dropping(alloc, operands),
         Kind::Other => Ok(Task::Other),
     }
 }
