@@ -21,4 +21,5 @@ returns-in-Err-OutOfMemory-clause-plain g c = λ budget _. ends_at_once budget _
 
 pub returns-in-Err-OutOfMemory-clause-complete : goal.returns-in-Err-OutOfMemory-clause-complete
 returns-in-Err-OutOfMemory-clause-complete g c = λ budget _ no_read no_write.
-    completes OutOfMemory budget _ _ _ _ _ _ _ _ _ _ _ _ (ends_at_once budget _ _ _ _) tt no_read no_write
+    let plain = ends_at_once budget (g.S.Source.left c.args.source.now) (g.K.Sink.held c.args.sink.now) (g.S.Source.waits c.args.source.now) (g.B.Library.calls c.args.library.now) in
+    completes OutOfMemory _ _ _ _ _ _ _ _ _ _ _ _ _ plain tt no_read no_write
