@@ -1,5 +1,5 @@
 //! Literals in operands.
-ghost use Rattle.std.specs.Prelude.{◌≡◌, ◌∷◌, [], IfOk, MatchOption, is_some};
+ghost use Rattle.std.specs.Prelude.{◌≡◌, ◌∷◌, [], Some, IfOk, MatchOption, is_some};
 ghost use Rattle.std.specs.Str.{chars};
 ghost use Rattle.std.specs.Option.{option_map};
 ghost use Rattle.constant_operands.specs.Operands.{operand};
@@ -91,6 +91,13 @@ fn literal(alloc: Global, body: &str) -> Result<LiteralOperand<'_>, OutOfMemory>
     up_to(alloc, pair, body, constant)
 }
 
+/// The literal behind an equals sign.
+fn some_literal(alloc: Global, body: &str) -> Result<Option<LiteralOperand<'_>>, OutOfMemory>
+    ensures { IfOk result (λ found. option_map literal_of found ≡ Some (literals.literal (chars body.now))) }
+{
+    Ok(Some(literal(alloc, body)?))
+}
+
 /// The literal in an operand of a machine instruction; `None` exactly where the operand does not begin with an equals sign.
 pub fn literal_operand(
     alloc: Global,
@@ -99,7 +106,7 @@ pub fn literal_operand(
     ensures { IfOk result (λ found. option_map literal_of found ≡ literals.literal_in (chars operand.now)) }
 {
     match head(operand) {
-        Some(('=', body)) => Ok(Some(literal(alloc, body)?)),
+        Some(('=', body)) => some_literal(alloc, body),
         _ => Ok(None),
     }
 }
