@@ -1,4 +1,5 @@
 pub mod Forms
 pub mod Parts
+pub mod Terms
 pub mod Operands
 pub mod Views

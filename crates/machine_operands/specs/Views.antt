@@ -55,4 +55,4 @@ written_of forms.NoLiteral = spec.no_literal
 written_of (forms.Wrong count) = spec.wrong count
 
 abbrev pub machine_operand_of : operand.MachineOperand → spec.Operand
-machine_operand_of one = record { literal = option_map constants.operand_of one.literal; written = written_of one.written }
+machine_operand_of one = record { literal = option_map (λ literal. constants.operand_of literal.value) one.literal; written = written_of one.written }

@@ -14,6 +14,7 @@ mod form;
 mod operand;
 mod parts;
 mod reading;
+mod term;
 mod text;
 
 pub use form::{AddressForm, OperandForm, form_of};

@@ -1,5 +1,5 @@
 //! Operands.
-ghost use Rattle.std.specs.Prelude.{◌≡◌, IfOk};
+ghost use Rattle.std.specs.Prelude.{◌≡◌, ◌&&◌, None, IfOk};
 ghost use Rattle.std.specs.Option.{option_map};
 ghost use Rattle.std.specs.Str.{chars};
 ghost use Rattle.constant_operands.specs.Views.{operand_of};
@@ -48,10 +48,11 @@ pub enum Written {
     Wrong(u32),
 }
 
-/// An operand of a machine instruction, and the literal with which it begins, if one may stand there.
+/// An operand of a machine instruction, and the literal with which it begins, if one may stand there. Few operands have one, so it
+/// stands apart.
 #[derive(Drop)]
 pub struct MachineOperand {
-    pub literal: Option<ConstantOperand>,
+    pub literal: Option<Box<ConstantOperand>>,
     pub written: Written,
 }
 
@@ -137,7 +138,7 @@ fn with_literal(
 {
     let written = literal_written(alloc, form, &constant, text, literal, behind)?;
     Ok(MachineOperand {
-        literal: Some(constant),
+        literal: Some(Box::new(alloc, constant)?),
         written,
     })
 }
@@ -174,8 +175,8 @@ fn literal_if(
     Ok(None)
 }
 
-/// An operand of a form.
-fn read_form(
+/// An operand of a form that begins with a literal or not.
+fn read_either(
     alloc: Global,
     form: OperandForm,
     targets: bool,
@@ -190,6 +191,40 @@ fn read_form(
             written: plain(alloc, form, text)?,
         }),
     }
+}
+
+/// Whether an operand of a form begins with an equals sign where a literal may stand.
+fn has_literal(form: OperandForm, targets: bool, text: &str) -> bool
+    ensures { result ≡ (spec.takes_literal form targets && spec.begins_literal (chars text.now)) }
+{
+    takes_literal(form, targets) && begins_literal(text)
+}
+
+/// An operand of a form without literal.
+fn read_plain(alloc: Global, form: OperandForm, text: &str) -> Result<MachineOperand, OutOfMemory>
+    ensures { IfOk result (λ operand. machine_operand_of operand ≡ spec.operand_by form (chars text.now) None) }
+{
+    let written = plain(alloc, form, text)?;
+    Ok(MachineOperand {
+        literal: None,
+        written,
+    })
+}
+
+/// An operand of a form.
+#[tactic(auto, using(crate::proofs::LiteralLaws::without_literal))]
+fn read_form(
+    alloc: Global,
+    form: OperandForm,
+    targets: bool,
+    text: &str,
+) -> Result<MachineOperand, OutOfMemory>
+    ensures { IfOk result (λ operand. machine_operand_of operand ≡ spec.operand_of_form form targets (chars text.now)) }
+{
+    if has_literal(form, targets, text) {
+        return read_either(alloc, form, targets, text);
+    }
+    read_plain(alloc, form, text)
 }
 
 impl MachineOperand {

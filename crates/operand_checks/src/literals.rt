@@ -106,10 +106,10 @@ pub fn address_notes(
 pub(crate) fn push_within(
     setting: &Setting<'_>,
     place: Option<Reloc>,
-    literal: &Option<ConstantOperand>,
+    literal: &Option<Box<ConstantOperand>>,
     rows: &mut Vec<Row>,
 ) -> Result<(), OutOfMemory>
-    ensures { OnOk result (rows.new.items ≡ rows.old.items ++ once_behind rows.old.items (spec.said_within (setting_of setting.now) place (option_map operand_of literal.now))) }
+    ensures { OnOk result (rows.new.items ≡ rows.old.items ++ once_behind rows.old.items (spec.said_within (setting_of setting.now) place (option_map (λ one. operand_of one.value) literal.now))) }
 {
     match place {
         Some(_) => match literal {
