@@ -3,7 +3,7 @@
 set -u -o pipefail
 cd "$(dirname "$0")/.."
 crates=$(grep -c '^[a-z]' crates.txt)
-echo "make test: $crates crates. Each is proved from nothing, which takes about an hour on four processors that do nothing else."
+echo "make test: $crates crates. Each is proved from nothing, which takes about two hours on four processors that do nothing else."
 .ci/run 2>&1 | awk -v crates="$crates" -v from="$(date +%s)" '
     { print; fflush() }
     /^rt: [a-z0-9_]+ proved$/ {

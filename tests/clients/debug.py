@@ -162,6 +162,24 @@ class Debugging(unittest.TestCase):
         editor.ask("continue", threadId=1)
         self.assertEqual(("terminated", None), editor.event())
 
+    def test_the_session_of_the_page_on_editors(self):
+        """docs/EDITORS.md, "Stepping through macros": a fault of examples/library is found by a breakpoint in its macro."""
+        self.folder = os.path.join(TOP, "examples/library")
+        editor = self.editor()
+        editor.ask("initialize")
+        editor.ask("launch", program="totals.hlasm", stopOnEntry=True)
+        member = os.path.join(self.folder, "macros/FIELD.mac")
+        editor.ask("setBreakpoints", source={"path": member}, breakpoints=[{"line": 5}])
+        editor.ask("configurationDone")
+        editor.ask("continue")
+        frames = editor.ask("stackTrace")["body"]["stackFrames"]
+        found = [f"{it['name']:<13}{os.path.relpath(it['source']['path'], self.folder)}:{it['line']}" for it in frames]
+        found += [f"{name:<8}{value}".rstrip() for name, value in self.variables(editor, 1, "Locals").items()]
+        heads = ["Stack".ljust(17), " " * 17, "Locals   ", " " * 9, " " * 9]
+        with open(os.path.join(TOP, "docs/EDITORS.md"), encoding="utf-8") as file:
+            self.assertIn("".join(f"    {head}{line}\n" for head, line in zip(heads, found)), file.read())
+        self.assertEqual({}, self.variables(editor, 1, "Globals"))
+
     def test_a_breakpoint_in_a_macro(self):
         editor = self.launched()
         member = os.path.join(self.folder, "macros/ADD.mac")

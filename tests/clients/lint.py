@@ -312,6 +312,17 @@ class Lint(unittest.TestCase):
             if value is not None:
                 self.file(f".hlasmplugin/{name}", value if isinstance(value, str) else json.dumps(value))
 
+    def test_a_workspace_below_a_folder(self):
+        """Its settings do not count, and it is said how they would."""
+        self.file("a.hlasm", END)
+        os.makedirs(os.path.join(self.folder, "inner/.hlasmplugin"))
+        self.file("inner/b.hlasm", END)
+        said = "hlasm-lint: {0}: has settings of its own, which count with --root {0}\n"
+        self.assertEqual((0, [], said.format("./inner")), lint(".", folder=self.folder))
+        self.assertEqual((0, [], said.format("inner")), lint("inner", folder=self.folder))
+        self.assertEqual((0, [], ""), lint("--root", "inner", "inner", folder=self.folder))
+        self.assertEqual((0, [], ""), lint("inner/b.hlasm", folder=self.folder))
+
     def test_a_member_of_a_library_is_no_program(self):
         self.folder_of(".", "a.hlasm", "lib/b.hlasm", "lib/below/c.hlasm", "copy/d.hlasm")
         groups = {"pgroups": [{"name": "G", "libs": ["lib/", {"path": "./copy", "optional": True}]}]}
