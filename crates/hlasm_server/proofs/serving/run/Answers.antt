@@ -1,4 +1,4 @@
-use Rattle.std.proofs.Common.{◌≡◌, ℕ}
+use Rattle.std.proofs.Common.{◌≡◌}
 use Rattle.hlasm_server.specs.declared.status.Status.TheVariants.{OutOfMemory}
 use Rattle.hlasm_server.proofs.HeadlineLaws.{completes}
 use Rattle.hlasm_server.proofs.ServeLaws.{ends_at_once}
