@@ -95,6 +95,7 @@ ROWS = [
         most=10),
     Row("session.sh", "a keystroke with 20 open programs", r"one of 20 open programs.*: ([\d.]+) ms", "ms", "with one",
         r"one of 1 open programs.*: ([\d.]+) ms", most=1.1),
+    Row("session.sh", "10,000 changes in one message read, and none made", r"none made.* (\d+) copies", "copies of the text"),
     Row("session.sh", "10,000 changes in one message, downwards", r"downwards.* (\d+) copies", "copies of the text", most=100),
     Row("session.sh", "10,000 changes in one message, upwards", r"upwards.* (\d+) copies", "copies of the text", most=100),
     Row("definitions.sh", "a definition of 60,000 statements", r"(?m)^a definition of 60000 statements: read in ([\d.]+) ms", "ms",

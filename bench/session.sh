@@ -37,10 +37,11 @@ def keystroke(number, line):
     return frame({"method": "textDocument/didChange", "params": {
         "textDocument": {"uri": uri, "version": number + 2}, "contentChanges": [change]}})
 
-# So many changes in one message: a character comes into each of the first lines, downwards or upwards.
-def changes(count, downwards):
+# So many changes in one message: a character comes into each of the first lines, downwards or upwards. Those of a document
+# that is not open are read, and none is made.
+def changes(count, downwards, document=uri):
     places = ({"line": line, "character": 30} for line in (range(count) if downwards else reversed(range(count))))
-    return frame({"method": "textDocument/didChange", "params": {"textDocument": {"uri": uri, "version": 2},
+    return frame({"method": "textDocument/didChange", "params": {"textDocument": {"uri": document, "version": 2},
         "contentChanges": [{"range": {"start": at, "end": at}, "text": "x"} for at in places]}})
 
 # A session with one message behind the opening of a text of 10,000 lines of 80 characters.
@@ -88,6 +89,11 @@ for _ in range(1000):
     bytearray(words)
 copy = time.perf_counter() - start
 few = min(run(served, one_message("few", changes(1, True)))[2] for _ in range(3))
+unopened = "file:///w/unopened.hlasm"
+least = min(run(served, one_message("least", changes(1, True, unopened)))[2] for _ in range(3))
+read = min(run(served, one_message("read", changes(10000, True, unopened)))[2] for _ in range(3))
+print(f"10000 changes of one message read, and none made: {(read - least) * 1000:.0f} ms, "
+      f"{(read - least) / (copy / 1000):.0f} copies of 800 KB")
 for name, downwards in (("downwards", True), ("upwards", False)):
     many = min(run(served, one_message("many", changes(10000, downwards)))[2] for _ in range(3))
     print(f"10000 changes in one message, {name}, in 800 KB: {(many - few) * 1000:.0f} ms with the reading of the message, "

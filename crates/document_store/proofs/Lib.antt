@@ -17,5 +17,6 @@ pub mod HoldLemmas
 pub mod BlockLemmas
 pub mod PartLemmas
 pub mod SplitLemmas
+pub mod MoveLemmas
 pub mod SeekLemmas
 pub mod ChangeLemmas

@@ -1,5 +1,5 @@
 -- Two texts, one behind the other: where a line of both begins between them, and changes of the second.
-use Rattle.std.proofs.Common.{◌≡◌, ◌∙◌, ℕ, zero, suc, ◌+◌, ◌-◌, ◌<◌, ◌≤◌, Bool, true, false, cond, List, [], ◌∷◌, ◌++◌, length, take, drop, get_or, map, refl, sym, inl, inr, ap, arith, length-append, length-drop, append_assoc, get_or-drop, zero-add, Option, Some, None}
+use Rattle.std.proofs.Common.{◌≡◌, ◌∙◌, ℕ, zero, suc, ◌+◌, ◌-◌, ◌<◌, ◌≤◌, Bool, true, false, cond, List, [], ◌∷◌, ◌++◌, length, take, drop, get_or, map, refl, sym, inl, inr, ap, arith, length-append, length-drop, append_assoc, append-nil, get_or-drop, zero-add, Option, Some, None}
 use Rattle.std.proofs.Math.Nat.{suc-add}
 use Rattle.std.proofs.Math.Seq.{take-add, take-append-add, drop-append-add, drop-append_seam}
 use Rattle.std.proofs.lemmas.Bool.{cases_Bool, cases_lt, le-ltb}
@@ -278,3 +278,22 @@ pub backward-behind : (n : ℕ) (from to : Option Position) → n ≤ first_line
 backward-behind n (Some from) (Some to) behind order = after-behind n from to behind order
 backward-behind n (Some from) None behind order = refl
 backward-behind n None to behind order = refl
+
+-- ---- a line that begins within the first
+
+behind-first : (c : ℕ) (rest : List ℕ) (x : ℕ) (xs ys : List ℕ) → ends_behind c rest (x ∷ xs) ≡ ends_behind c rest (x ∷ ys)
+behind-first c [] x xs ys = refl
+behind-first c (d ∷ rest) x xs ys = behind-first d rest x xs ys
+
+parted-first : (front : List ℕ) (x : ℕ) (xs ys : List ℕ) → parted front (x ∷ xs) ≡ parted front (x ∷ ys)
+parted-first [] x xs ys = refl
+parted-first (c ∷ rest) x xs ys = behind-first c rest x xs ys
+
+parted-longer : (front over back : List ℕ) → parted front over ≡ true → parted (front ++ over) back ≡ true → parted front (over ++ back) ≡ true
+parted-longer front [] back h g = ap (λ (xs : List ℕ). parted xs back) (sym (append-nil front)) ∙ g
+parted-longer front (x ∷ xs) back h g = parted-first front x (xs ++ back) xs ∙ h
+
+-- what begins a line of the first begins it of both, where the second begins a line
+pub BeginsLine-within : (n m : ℕ) (front over back : List ℕ) → BeginsLine n front over → BeginsLine m (front ++ over) back → BeginsLine n front (over ++ back)
+BeginsLine-within n m front over back h g =
+    BeginsLine-other n front over (over ++ back) h (parted-longer front over back (parted-begins n front over h) (parted-begins m (front ++ over) back g))

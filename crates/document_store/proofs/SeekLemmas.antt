@@ -13,7 +13,7 @@ use Rattle.document_store.specs.Positions.{whole_lines, ends_line}
 use Rattle.document_store.proofs.BlockLemmas.{line_ends-next}
 use Rattle.document_store.proofs.DocumentLemmas.{bit}
 use Rattle.document_store.proofs.FromLemmas.{split_at_line}
-use Rattle.document_store.proofs.PartLemmas.{line_ends-encodes, BeginsLine-back, BeginsLine-other}
+use Rattle.document_store.proofs.PartLemmas.{line_ends-encodes, BeginsLine-back, BeginsLine-other, BeginsLine-within}
 
 -- ---- a line end at a byte
 
@@ -175,3 +175,22 @@ ends-of text bytes at next ends is within is_next h =
     line_ends-next at text ends within
     (h ∙ ap (λ n. (get_or bytes at 0 == 10 || get_or bytes at 0 == 13) && not (get_or bytes at 0 == 13 && n == 10)) is_next
     ∙ ap (λ bs. (get_or bs at 0 == 10 || get_or bs at 0 == 13) && not (get_or bs at 0 == 13 && slice_index bs (at + 1) == 10)) is)
+
+-- ---- a line of the first part
+
+pub within_bytes : (front back : List ℕ) (at line wanted : ℕ) → IsUtf8 front → IsUtf8 back → IsCharBoundary front at →
+    whole_lines (chars back) ≡ drop line (whole_lines (chars (front ++ back))) → whole_lines (chars (drop at front)) ≡ drop wanted (whole_lines (chars front)) →
+    whole_lines (chars (drop at front ++ back)) ≡ drop wanted (whole_lines (chars (take at front ++ (drop at front ++ back))))
+within_bytes front back at line wanted u v cut h g =
+    let before : IsUtf8 (take at front) = IsUtf8-take front at u cut in
+    let behind : IsUtf8 (drop at front) = IsUtf8-drop front at u cut in
+    let first : List ℕ = chars (take at front) in
+    let over : List ℕ = chars (drop at front) in
+    let parts : chars front ≡ first ++ over = ap chars (sym (take-append-drop at front)) ∙ chars-append (take at front) (drop at front) before in
+    let whole : chars (front ++ back) ≡ (first ++ over) ++ chars back = chars-append front back u ∙ ap (λ ys. ys ++ chars back) parts in
+    let rest : chars (drop at front ++ back) ≡ over ++ chars back = chars-append (drop at front) back behind in
+    let all : chars (take at front ++ (drop at front ++ back)) ≡ first ++ (over ++ chars back) =
+    chars-append (take at front) (drop at front ++ back) before ∙ ap (λ ys. first ++ ys) rest in
+    ap whole_lines rest
+    ∙ BeginsLine-within wanted line first over (chars back) (g ∙ ap (λ t. drop wanted (whole_lines t)) parts) (h ∙ ap (λ t. drop line (whole_lines t)) whole)
+    ∙ ap (λ t. drop wanted (whole_lines t)) (sym all)

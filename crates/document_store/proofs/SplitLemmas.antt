@@ -27,11 +27,11 @@ take_take : (n m : ℕ) (xs : List ℕ) → n ≤ m → take n (take m xs) ≡ t
 take_take n m xs h = take-take n m xs h
 
 -- bytes that were pasted behind the first n are not among them
-take-before : (xs ys : List ℕ) (n at : ℕ) → n ≤ at → at ≤ length xs → take n (take at xs ++ ys) ≡ take n xs
+pub take-before : (xs ys : List ℕ) (n at : ℕ) → n ≤ at → at ≤ length xs → take n (take at xs ++ ys) ≡ take n xs
 take-before xs ys n at h within =
     take-append-le n (take at xs) ys (omega (arith, length-take at xs)) ∙ take_take n at xs h
 
-drop-at : (xs ys : List ℕ) (at : ℕ) → at ≤ length xs → drop at (take at xs ++ ys) ≡ ys
+pub drop-at : (xs ys : List ℕ) (at : ℕ) → at ≤ length xs → drop at (take at xs ++ ys) ≡ ys
 drop-at xs ys at within =
     let size : length (take at xs) ≡ at = omega (arith, length-take at xs) in
     ap (λ k. drop k (take at xs ++ ys)) (sym size) ∙ drop-append_seam (take at xs) ys

@@ -9,7 +9,7 @@ ghost use Rattle.document_store.specs.Places.{GivesText, IsBadRange};
 
 use crate::StoreFault;
 use crate::place::span_of;
-use crate::seeking::{seek, settle};
+use crate::seeking::{line_start, seek, settle};
 use crate::split_text::SplitText;
 use hl_base::{Edit, Position};
 use std::alloc::Global;
@@ -104,6 +104,14 @@ fn room_for(edits: &[Edit]) -> usize
     room.min(LONGEST_TEXT)
 }
 
+/// The first line that the first of these changes speaks of.
+fn first_line(edits: &[Edit]) -> u32 {
+    match edits.first() {
+        Some(edit) => first_line_of(edit.from),
+        None => 0,
+    }
+}
+
 /// The text after these changes in turn, each made in the one copy, where the one before was made. The first that is refused
 /// refuses all.
 pub fn after_edits(alloc: Global, text: &str, edits: &[Edit]) -> Result<String, StoreFault>
@@ -111,8 +119,10 @@ pub fn after_edits(alloc: Global, text: &str, edits: &[Edit]) -> Result<String, 
     ensures given { GivesText (changes.after_edits edits.now 0 (chars text.now)) result }
     ensures short { IfOk result (λ t. string_len t ≤ LONGEST_TEXT) }
 {
-    let mut changed = SplitText::new(alloc, "", room_for(edits), text)?;
-    let mut line = 0;
+    let first = line_start(text, first_line(edits));
+    let (front, back) = text.split_at(first.at);
+    let mut changed = SplitText::new(alloc, front, room_for(edits), back)?;
+    let mut line = first.line;
     for (index, edit) in edits.iter().enumerate() {
         line = make_edit(alloc, &mut changed, line, index, edit)?;
     }

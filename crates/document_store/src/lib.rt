@@ -21,6 +21,7 @@ mod laws;
 mod limits;
 mod lines;
 mod members;
+mod moving;
 mod opening;
 mod paths;
 mod place;

@@ -8,8 +8,8 @@ ghost use Rattle.document_store.specs.Positions.{whole_lines};
 use crate::lines::{ends_at, from_line};
 use crate::split_text::SplitText;
 
-/// At most so many lines are gone back; further ones are found from the front of the text.
-const NEAR: u32 = 1000;
+/// Lines are counted from the front so many times as fast as back.
+const FASTER: u32 = 8;
 
 /// The byte of a place; 0 behind the last.
 fn byte_at(bytes: &[u8], at: usize) -> u8
@@ -121,6 +121,9 @@ fn advance_lines(text: &mut SplitText, line: u32, wanted: u32) -> u32
     ensures before { IsBeforeLine result text.new }
     ensures reached { result ≤ wanted }
 {
+    if line == wanted {
+        return line;
+    }
     let back = text.back();
     let Some(rest) = from_line(back, wanted - line) else {
         return line;
@@ -130,8 +133,25 @@ fn advance_lines(text: &mut SplitText, line: u32, wanted: u32) -> u32
     wanted
 }
 
+/// Goes back to the beginning of a line, which is sought from the front; where the text was split is for the contract alone.
+fn return_to_line(text: &mut SplitText, _line: u32, wanted: u32) -> u32
+    requires before { IsBeforeLine _line text.old }
+    ensures text { text_in text.new ≡ text_in text.old }
+    ensures size { length text.new.front + length text.new.back ≡ length text.old.front + length text.old.back }
+    ensures before { IsBeforeLine result text.new }
+    ensures reached { result ≤ wanted }
+{
+    let front = text.front();
+    let Some(rest) = from_line(front, wanted) else {
+        return go_to_front(text);
+    };
+    let at = bytes_over(front, rest, wanted);
+    text.go_back(at);
+    wanted
+}
+
 /// Splits the text before a line, or before an earlier one where it has no such line; where it was split before, the lines
-/// are sought from there.
+/// are sought from there, unless they are sooner found from the front.
 pub(crate) fn seek(text: &mut SplitText, line: u32, wanted: u32) -> u32
     requires before { IsBeforeLine line text.old }
     ensures text { text_in text.new ≡ text_in text.old }
@@ -142,12 +162,32 @@ pub(crate) fn seek(text: &mut SplitText, line: u32, wanted: u32) -> u32
     if line <= wanted {
         return advance_lines(text, line, wanted);
     }
-    let near = if line - wanted > NEAR {
-        go_to_front(text)
-    } else {
-        go_back_lines(text, line, wanted)
-    };
+    if line - wanted > wanted / FASTER {
+        return return_to_line(text, line, wanted);
+    }
+    let near = go_back_lines(text, line, wanted);
     advance_lines(text, near, wanted)
+}
+
+/// Where a line begins, in bytes, and which it is.
+#[derive(Clone, Copy)]
+pub(crate) struct LineStart {
+    pub(crate) at: usize,
+    pub(crate) line: u32,
+}
+
+/// The beginning of a line of a text, or its front where it has no such line.
+pub(crate) fn line_start(text: &str, wanted: u32) -> LineStart
+    ensures cut { IsCharBoundary text.now result.at }
+    ensures line { whole_lines (chars (drop result.at text.now)) ≡ drop result.line (whole_lines (chars text.now)) }
+{
+    match from_line(text, wanted) {
+        Some(rest) => LineStart {
+            at: bytes_over(text, rest, wanted),
+            line: wanted,
+        },
+        None => LineStart { at: 0, line: 0 },
+    }
 }
 
 /// Splits a text before a line again, whose second part was changed.

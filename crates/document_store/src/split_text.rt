@@ -4,6 +4,7 @@ ghost use Rattle.std.specs.Prelude.{◌≡◌, ◌+◌, ◌-◌, ◌≤◌, ◌+
 ghost use Rattle.std.specs.Str.{IsCharBoundary, IsUtf8};
 ghost use Rattle.std.specs.String.{string_bytes};
 
+use crate::moving::move_bytes;
 use std::alloc::{AllocError, Global};
 use std::marker::Model;
 use std::str::from_utf8_unchecked;
@@ -73,7 +74,7 @@ impl SplitText {
         ensures { self.new ≡ record { front = self.old.front ++ take count self.old.back; room = self.old.room; back = drop count self.old.back } }
     {
         let bytes = self.bytes.as_mut_slice();
-        bytes.copy_within(self.start..self.start + count, self.end);
+        move_bytes(bytes, self.start, self.start + count, self.end);
         self.start += count;
         self.end += count;
     }
@@ -86,7 +87,7 @@ impl SplitText {
     {
         let start = self.start - (self.end - at);
         let bytes = self.bytes.as_mut_slice();
-        bytes.copy_within(at..self.end, start);
+        move_bytes(bytes, at, self.end, start);
         self.start = start;
         self.end = at;
     }
@@ -124,7 +125,7 @@ impl SplitText {
     {
         let start = self.start + (to - from) - text.len();
         let bytes = self.bytes.as_mut_slice();
-        bytes.copy_within(self.start..self.start + from, start);
+        move_bytes(bytes, self.start, self.start + from, start);
         bytes[start + from..self.start + to].copy_from_slice(text.as_bytes());
         self.start = start;
     }
@@ -156,9 +157,7 @@ impl SplitText {
     {
         let mut bytes = self.bytes;
         let length = bytes.as_slice().len();
-        bytes
-            .as_mut_slice()
-            .copy_within(self.start..length, self.end);
+        move_bytes(bytes.as_mut_slice(), self.start, length, self.end);
         bytes.truncate(self.end + (length - self.start));
         unsafe { String::from_utf8_unchecked(bytes) }
     }

@@ -9,12 +9,12 @@ use Rattle.document_store.proofs.split_text.SplitText.advance.Goals as goal
 pub invariant_of-self : goal.invariant_of-self
 invariant_of-self c =
     (holds_advanced _ _ _ _ c.args.count c.self.invariant
-    (subst (λ (p : Parts). IsCharBoundary p.back c.args.count) (sym c.self.view_is) c.requires) (with_items_is c.self.inside.bytes c.copy_within.new.self (c.copy_within.ensures.len ∙ c.as_mut_slice-bytes.ensures.len)
-    ∙ c.copy_within.ensures.after ∙ ap (λ bs. copy_within bs c.self.inside.start (c.self.inside.start + c.args.count) c.self.inside.end) c.as_mut_slice-bytes.ensures.value)).are
+    (subst (λ (p : Parts). IsCharBoundary p.back c.args.count) (sym c.self.view_is) c.requires) (with_items_is c.self.inside.bytes c.move_bytes.new.bytes (c.move_bytes.ensures.len ∙ c.as_mut_slice-bytes.ensures.len)
+    ∙ c.move_bytes.ensures.after ∙ ap (λ bs. copy_within bs c.self.inside.start (c.self.inside.start + c.args.count) c.self.inside.end) c.as_mut_slice-bytes.ensures.value)).are
 
 pub returns : goal.returns
 returns c =
     (holds_advanced _ _ _ _ c.args.count c.self.invariant
-    (subst (λ (p : Parts). IsCharBoundary p.back c.args.count) (sym c.self.view_is) c.requires) (with_items_is c.self.inside.bytes c.copy_within.new.self (c.copy_within.ensures.len ∙ c.as_mut_slice-bytes.ensures.len)
-    ∙ c.copy_within.ensures.after ∙ ap (λ bs. copy_within bs c.self.inside.start (c.self.inside.start + c.args.count) c.self.inside.end) c.as_mut_slice-bytes.ensures.value)).is
+    (subst (λ (p : Parts). IsCharBoundary p.back c.args.count) (sym c.self.view_is) c.requires) (with_items_is c.self.inside.bytes c.move_bytes.new.bytes (c.move_bytes.ensures.len ∙ c.as_mut_slice-bytes.ensures.len)
+    ∙ c.move_bytes.ensures.after ∙ ap (λ bs. copy_within bs c.self.inside.start (c.self.inside.start + c.args.count) c.self.inside.end) c.as_mut_slice-bytes.ensures.value)).is
     ∙ ap (λ (p : Parts). record { front = p.front ++ take c.args.count p.back; room = p.room; back = drop c.args.count p.back }) c.self.view_is

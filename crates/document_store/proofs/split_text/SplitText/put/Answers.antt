@@ -39,19 +39,19 @@ pub invariant_of-self : goal.invariant_of-self
 invariant_of-self c =
     let s = c.self.inside in
     let put : ℕ = s.start + (c.args.to - c.args.from) - length c.args.text.now in
-    (written s.bytes c.copy_within.new.self c.copy_from_slice.new.self c.args.text.now s.end s.start c.args.from c.args.to c.args.self.now c.self.invariant c.self.view_is
+    (written s.bytes c.move_bytes.new.bytes c.copy_from_slice.new.self c.args.text.now s.end s.start c.args.from c.args.to c.args.self.now c.self.invariant c.self.view_is
     c.requires.order c.requires.first c.requires.last c.utf8.text c.requires.room
-    (c.copy_within.ensures.after ∙ ap (λ bs. copy_within bs s.start (s.start + c.args.from) put) c.as_mut_slice-bytes.ensures.value)
-    (c.copy_within.ensures.len ∙ c.as_mut_slice-bytes.ensures.len) (c.copy_from_slice.ensures.after ∙ c.as_bytes.ensures.value)).are
+    (c.move_bytes.ensures.after ∙ ap (λ bs. copy_within bs s.start (s.start + c.args.from) put) c.as_mut_slice-bytes.ensures.value)
+    (c.move_bytes.ensures.len ∙ c.as_mut_slice-bytes.ensures.len) (c.copy_from_slice.ensures.after ∙ c.as_bytes.ensures.value)).are
 
 pub returns : goal.returns
 returns c =
     let s = c.self.inside in
     let put : ℕ = s.start + (c.args.to - c.args.from) - length c.args.text.now in
-    (written s.bytes c.copy_within.new.self c.copy_from_slice.new.self c.args.text.now s.end s.start c.args.from c.args.to c.args.self.now c.self.invariant c.self.view_is
+    (written s.bytes c.move_bytes.new.bytes c.copy_from_slice.new.self c.args.text.now s.end s.start c.args.from c.args.to c.args.self.now c.self.invariant c.self.view_is
     c.requires.order c.requires.first c.requires.last c.utf8.text c.requires.room
-    (c.copy_within.ensures.after ∙ ap (λ bs. copy_within bs s.start (s.start + c.args.from) put) c.as_mut_slice-bytes.ensures.value)
-    (c.copy_within.ensures.len ∙ c.as_mut_slice-bytes.ensures.len) (c.copy_from_slice.ensures.after ∙ c.as_bytes.ensures.value)).is
+    (c.move_bytes.ensures.after ∙ ap (λ bs. copy_within bs s.start (s.start + c.args.from) put) c.as_mut_slice-bytes.ensures.value)
+    (c.move_bytes.ensures.len ∙ c.as_mut_slice-bytes.ensures.len) (c.copy_from_slice.ensures.after ∙ c.as_bytes.ensures.value)).is
     ∙ ap
     (λ (p : Parts). record { front = p.front; room = p.room + (c.args.to - c.args.from) - length c.args.text.now; back = take c.args.from p.back ++ c.args.text.now ++ drop c.args.to p.back })
     c.self.view_is
