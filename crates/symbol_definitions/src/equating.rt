@@ -111,6 +111,24 @@ fn equate_now(
     push_row(rows, said)
 }
 
+/// EQU with this tree.
+fn equate_tree(
+    alloc: Global,
+    symbols: &mut Symbols,
+    equating: Equating,
+    tree: Expr,
+    rows: &mut Vec<Row>,
+) -> Result<(), OutOfMemory>
+    requires { size (tree_of tree) ≤ most_parts }
+    ensures defined { OnOk result (table_of symbols.new ≡ spec.equated equating (tree_of tree) (table_of symbols.old)) }
+    ensures said { OnOk result (rows.new.items ≡ rows.old.items ++ spec.said_of_equate equating (tree_of tree) (table_of symbols.old)) }
+{
+    if symbols.first_unknown(&tree).is_some() {
+        return equate_later(alloc, symbols, equating, tree, rows);
+    }
+    equate_now(alloc, symbols, equating, &tree, rows)
+}
+
 /// EQU: defines the symbol of its label by an expression, and says what there is to say of the name and of the value. Where a
 /// symbol of the expression has no value yet, its own waits. An `Err` may leave it defined.
 pub fn equate(
@@ -124,10 +142,7 @@ pub fn equate(
     ensures said { OnOk result (rows.new.items ≡ rows.old.items ++ spec.said_of_equate equating (tree_in formula) (table_of symbols.old)) }
 {
     let Formula { tree } = formula;
-    if symbols.first_unknown(&tree).is_some() {
-        return equate_later(alloc, symbols, equating, Box::into_inner(tree), rows);
-    }
-    equate_now(alloc, symbols, equating, &tree, rows)
+    equate_tree(alloc, symbols, equating, Box::into_inner(tree), rows)
 }
 
 /// EQU whose expression cannot be read: its symbol is defined and has no value.
