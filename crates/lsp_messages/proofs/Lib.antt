@@ -1,3 +1,4 @@
 pub mod ListLaws
 pub mod MessageLaws
+pub mod TokenLaws
 pub mod WrittenLaws

@@ -9,11 +9,7 @@ use Rattle.lsp_messages.specs.declared.outgoing.Relation.{Relation}
 use Rattle.lsp_messages.specs.declared.outgoing.Diagnostic.{Diagnostic}
 use Rattle.lsp_messages.specs.declared.outgoing.LspOut.{LspOut}
 use Rattle.lsp_messages.specs.declared.outgoing.LspOut.TheVariants.{Reply, Fault, Log, Published, Dap}
-use Rattle.lsp_messages.specs.declared.outgoing.Location.{Location}
-use Rattle.lsp_messages.specs.declared.outgoing.DocumentSymbol.{DocumentSymbol}
-use Rattle.lsp_messages.specs.declared.outgoing.SymbolAnswer.{SymbolAnswer}
-use Rattle.lsp_messages.specs.declared.outgoing.SymbolAnswer.TheVariants.{Nothing, Place, Places, Hover, Symbols}
-use Rattle.lsp_messages.specs.Written.{id_value, answered_value, relation_value, report_value, diagnostic_value, version_member, place_value, symbol_value, answer_value, value_of, has_fraction}
+use Rattle.lsp_messages.specs.Written.{id_value, answered_value, relation_value, report_value, diagnostic_value, version_member, value_of, has_fraction}
 
 pub is_float-of_integer : (z : ℤ) → is_float (of_integer z) ≡ false
 is_float-of_integer (pos n) = refl
@@ -42,22 +38,6 @@ items_have_float-diagnostics (d ∷ ds) = rw (has_float-report_value d d.related
 pub members_have_float-version_member : (version : Option ℤ) → members_have_float (version_member version) ≡ false
 members_have_float-version_member None = refl
 members_have_float-version_member (Some version) = rw (is_float-of_integer version) refl
-
-pub items_have_float-places : (ps : List Location) → items_have_float (items_of (map place_value ps)) ≡ false
-items_have_float-places [] = refl
-items_have_float-places (p ∷ ps) = items_have_float-places ps
-
-pub items_have_float-symbols : (ss : List DocumentSymbol) → items_have_float (items_of (map symbol_value ss)) ≡ false
-items_have_float-symbols [] = refl
-items_have_float-symbols (s ∷ ss) = items_have_float-symbols ss
-
--- no answer to a request on symbols has a float
-pub has_float-answer_value : (answer : SymbolAnswer) → has_float (answer_value answer) ≡ false
-has_float-answer_value Nothing = refl
-has_float-answer_value (Place place) = refl
-has_float-answer_value (Places places) = items_have_float-places places
-has_float-answer_value (Hover text) = refl
-has_float-answer_value (Symbols symbols) = items_have_float-symbols symbols
 
 -- no message has a float but for one in the result of a reply or in a debug message
 pub has_float-value_of : (message : LspOut) → has_fraction message ≡ false → has_float (value_of message) ≡ false

@@ -2,4 +2,5 @@ pub mod Codes
 pub mod Messages
 pub mod Parameters
 pub mod Shapes
+pub mod Tokens
 pub mod Written

@@ -1,16 +1,13 @@
 //! The bodies that are written.
 ghost use Rattle.std.specs.Prelude.{◌≡◌, ◌≢◌, ◌≤◌, [], false, codes, Some, IfOk, map};
-ghost use Rattle.serde_json.specs.Written.{has_float};
 ghost use Rattle.serde_json.specs.Data.{array, depth};
 ghost use Rattle.serde_json.specs.Read.{max_depth};
 ghost use Rattle.serde_json.specs.View.{view, items_of};
 ghost use Rattle.json_view.specs.Texts.{reading};
-ghost use Rattle.lsp_messages.specs.Written.{id_value, answered_value, reply_value, error_value, fault_value, notification_value, log_params, position_value, span_value, location_value, relation_value, report_value, placed_value, diagnostic_value, published_params, value_of, text_of, has_fraction, sync_value, capabilities_value, server_value, initialize_result_value, dap_params, place_value, hover_value, kind_number, symbol_value, answer_value};
+ghost use Rattle.lsp_messages.specs.Written.{id_value, answered_value, reply_value, error_value, fault_value, notification_value, log_params, position_value, span_value, location_value, relation_value, report_value, placed_value, diagnostic_value, published_params, value_of, text_of, has_fraction, sync_value, capabilities_value, server_value, initialize_result_value, dap_params};
 
 use crate::incoming::Id;
-use crate::outgoing::{
-    Diagnostic, DocumentSymbol, Location, LspOut, Relation, Span, SymbolAnswer, SymbolKind,
-};
+use crate::outgoing::{Diagnostic, LspOut, Relation, Span};
 use hl_base::{OutOfMemory, Position, Text};
 use json_view::compact;
 use serde_json::{Value, json};
@@ -249,81 +246,6 @@ fn position_json(alloc: Global, position: Position) -> Result<Value, OutOfMemory
     ensures { IfOk result (λ v. view v ≡ position_value position) }
 {
     Ok(json!(in alloc; {"character": position.character, "line": position.line})?)
-}
-
-/// The result of a request on symbols. It has no number with a point or an exponent.
-pub fn answer_result(alloc: Global, answer: &SymbolAnswer) -> Result<Value, OutOfMemory>
-    ensures value { IfOk result (λ v. view v ≡ answer_value answer.now) }
-    ensures whole { IfOk result (λ v. has_float (view v) ≡ false) }
-{
-    answer_json(alloc, answer)
-}
-
-fn answer_json(alloc: Global, answer: &SymbolAnswer) -> Result<Value, OutOfMemory>
-    ensures { IfOk result (λ v. view v ≡ answer_value answer.now) }
-{
-    match answer {
-        SymbolAnswer::Nothing => Ok(Value::Null),
-        SymbolAnswer::Place(place) => place_json(alloc, place),
-        SymbolAnswer::Places(places) => places_json(alloc, places.as_slice()),
-        SymbolAnswer::Hover(text) => hover_json(alloc, text),
-        SymbolAnswer::Symbols(symbols) => symbols_json(alloc, symbols.as_slice()),
-    }
-}
-
-fn place_json(alloc: Global, place: &Location) -> Result<Value, OutOfMemory>
-    ensures { IfOk result (λ v. view v ≡ place_value place.now) }
-{
-    location_json(alloc, &place.uri, place.range)
-}
-
-fn places_json(alloc: Global, places: &[Location]) -> Result<Value, OutOfMemory>
-    ensures { IfOk result (λ v. view v ≡ array (items_of (map place_value places.now))) }
-{
-    let mut values = Vec::with_capacity(alloc, places.len())?;
-    for place in places {
-        values.push(place_json(alloc, place)?)?;
-    }
-    Ok(Value::Array(values))
-}
-
-fn hover_json(alloc: Global, text: &Text) -> Result<Value, OutOfMemory>
-    ensures { IfOk result (λ v. view v ≡ hover_value text.now) }
-{
-    let contents = json!(in alloc; {"kind": "plaintext", "value": text.as_str()})?;
-    Ok(json!(in alloc; {"contents": contents})?)
-}
-
-fn symbols_json(alloc: Global, symbols: &[DocumentSymbol]) -> Result<Value, OutOfMemory>
-    ensures { IfOk result (λ v. view v ≡ array (items_of (map symbol_value symbols.now))) }
-{
-    let mut values = Vec::with_capacity(alloc, symbols.len())?;
-    for symbol in symbols {
-        values.push(symbol_json(alloc, symbol)?)?;
-    }
-    Ok(Value::Array(values))
-}
-
-fn kind_number(kind: SymbolKind) -> u32
-    ensures { result ≡ kind_number kind }
-{
-    match kind {
-        SymbolKind::Variable => 13,
-        SymbolKind::Constant => 14,
-    }
-}
-
-fn symbol_json(alloc: Global, symbol: &DocumentSymbol) -> Result<Value, OutOfMemory>
-    ensures { IfOk result (λ v. view v ≡ symbol_value symbol.now) }
-{
-    let kind = kind_number(symbol.kind);
-    let range = span_json(alloc, symbol.range)?;
-    Ok(json!(in alloc; {
-        "kind": kind,
-        "name": symbol.name.as_str(),
-        "range": &range,
-        "selectionRange": &range
-    })?)
 }
 
 /// The result of `initialize`: what the server offers, its name and its version.

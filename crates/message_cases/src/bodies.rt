@@ -4,7 +4,7 @@ use crate::json::value;
 use crate::messages::id_worded;
 use crate::reports::reports;
 use hl_base::{OutOfMemory, Text};
-use lsp_messages::{Id, LspOut, answer_result, initialize_result};
+use lsp_messages::{Id, LspOut, answer_text, initialize_result};
 use serde_json::Value;
 use std::alloc::Global;
 
@@ -60,8 +60,8 @@ fn list(alloc: Global, uri: &str, version: &str, fields: &[String]) -> Result<St
 /// The answer to a request on symbols.
 fn answered(alloc: Global, id: &str, kind: &str, fields: &[String]) -> Result<String, OutOfMemory> {
     let id = id_worded(alloc, id)?;
-    let result = answer_result(alloc, &answer(alloc, kind, fields)?)?;
-    text(alloc, &LspOut::Reply { id, result })
+    let body = answer_text(alloc, &id, &answer(alloc, kind, fields)?)?;
+    Ok(String::from_utf8_lossy(alloc, body.as_slice())?)
 }
 
 /// A message of a debug session.

@@ -7,7 +7,7 @@ use crate::names::ProgramNames;
 use crate::request::Request;
 use document_store::DocumentStore;
 use hl_base::{OutOfMemory, Text};
-use lsp_messages::{Id, LspOut, SymbolAnswer, answer_result};
+use lsp_messages::{Id, LspOut, answer_text};
 use std::alloc::Global;
 
 /// The code of a request that was cancelled (LSP 3.17, `RequestCancelled`).
@@ -27,15 +27,6 @@ pub(crate) fn cancelled(alloc: Global, id: Id) -> Result<Vec<u8>, OutOfMemory>
     fault.text(alloc)
 }
 
-/// The reply that has this answer.
-#[tactic(auto, unfolding(lsp_messages::specs::Written::text_of, lsp_messages::specs::Written::value_of))]
-fn answered(alloc: Global, id: Id, answer: &SymbolAnswer) -> Result<Vec<u8>, OutOfMemory>
-    ensures { IfOk result (λ body. body.items ≡ bodies.answered id answer.now) }
-{
-    let result = answer_result(alloc, answer)?;
-    LspOut::Reply { id, result }.text(alloc)
-}
-
 /// The reply to a request.
 pub(crate) fn reply(
     alloc: Global,
@@ -46,5 +37,5 @@ pub(crate) fn reply(
     ensures { IfOk result (λ body. body.items ≡ bodies.reply_to store.now.store programs.now request) }
 {
     let answer = answer_of(alloc, store, programs, &request)?;
-    answered(alloc, request.id, &answer)
+    answer_text(alloc, &request.id, &answer)
 }
