@@ -8,7 +8,7 @@ ghost use Rattle.operand_checks.specs.Settings.{setting_of};
 
 use crate::Setting;
 use crate::displacements::{displacement_note, displacements};
-use crate::expressions::{push_fault, push_part};
+use crate::expressions::{push_fault, push_part, value_of};
 use constant_grammar::Formula;
 use expression_notes::push_row;
 use hl_base::OutOfMemory;
@@ -27,7 +27,7 @@ pub(crate) fn push_displacement(
 ) -> Result<(), OutOfMemory>
     ensures { OnOk result (rows.new.items ≡ rows.old.items ++ once_behind rows.old.items (spec.said_of_displacement (setting_of setting.now) kind is_based (tree_in formula.now))) }
 {
-    match setting.symbols.eval(&formula.tree, setting.here) {
+    match value_of(setting, formula) {
         Ok(place) => push_row(
             rows,
             displacement_note(setting.ranges, displacements(kind), is_based, place),

@@ -4,6 +4,7 @@ ghost use Rattle.constant_grammar.specs.Views.{tree_if, tree_in};
 ghost use Rattle.expression_notes.specs.Repeating.{once_behind};
 ghost use Rattle.operand_checks.specs.Expressions as spec;
 ghost use Rattle.operand_checks.specs.Settings.{setting_of};
+ghost use Rattle.ordinary_symbols.specs.Values as values;
 
 use crate::Setting;
 use constant_grammar::Formula;
@@ -12,7 +13,15 @@ use hl_base::OutOfMemory;
 use instruction_table::Kind;
 use machine_check::{target_note, value_note};
 use note_rows::Row;
+use ordinary_symbols::EvalFault;
 use trace_values::Reloc;
+
+/// The value of an expression, where the statement stands.
+pub(crate) fn value_of(setting: &Setting<'_>, formula: &Formula) -> Result<Reloc, EvalFault>
+    ensures { result ≡ values.value (setting_of setting.now).known (setting_of setting.now).here (tree_in formula.now) }
+{
+    setting.symbols.eval(&formula.tree, setting.here)
+}
 
 /// Says why an expression has no value.
 #[tactic(auto, unfolding(crate::specs::Expressions::said_of_fault))]
@@ -41,7 +50,7 @@ pub(crate) fn push_value(
 ) -> Result<(), OutOfMemory>
     ensures { OnOk result (rows.new.items ≡ rows.old.items ++ once_behind rows.old.items (spec.said_of_value (setting_of setting.now) kind (tree_in formula.now))) }
 {
-    match setting.symbols.eval(&formula.tree, setting.here) {
+    match value_of(setting, formula) {
         Ok(place) => push_row(rows, value_note(kind, Ok(place))),
         Err(_) => push_fault(setting, formula, rows),
     }
@@ -80,7 +89,7 @@ fn push_target(
 ) -> Result<(), OutOfMemory>
     ensures { OnOk result (rows.new.items ≡ rows.old.items ++ once_behind rows.old.items (spec.said_of_target (setting_of setting.now) (tree_in formula.now))) }
 {
-    match setting.symbols.eval(&formula.tree, setting.here) {
+    match value_of(setting, formula) {
         Ok(place) => push_row(rows, target_note_from(setting.here, place)),
         Err(_) => push_fault(setting, formula, rows),
     }
