@@ -4,3 +4,4 @@ pub mod OutputLaws
 pub mod SendingLaws
 pub mod ServeLaws
 pub mod WaitingLaws
+pub mod WordLaws

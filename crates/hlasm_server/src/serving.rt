@@ -1,16 +1,15 @@
 //! The top call: from the bytes that come in to the bytes that go out.
-ghost use Rattle.std.specs.Prelude.{◌≡◌, ◌≢◌, ◌≤◌, ◌⊎◌, ℕ, Some, false, map, string_bytes};
+ghost use Rattle.std.specs.Prelude.{◌≡◌, ◌≢◌, ◌≤◌, ◌↔◌, ℕ, Some, None, map, string_bytes};
 ghost use Rattle.hlasm_server.specs.Status.{status_of};
 ghost use Rattle.io_edge.specs.Told.{HasRisen};
-ghost use Rattle.command_words.specs.Commands.{command_of};
-ghost use Rattle.command_words.specs.declared.command.Command.TheVariants.{Serve as ServeCommand};
+ghost use Rattle.hlasm_server.specs.declared.words.Command.TheVariants.{Serve as ServeCommand};
 ghost use Rattle.hlasm_server.specs.Headline.{IsPlainRun, HasStatusCause, Completes};
-ghost use Rattle.hlasm_server.specs.Words.{asks_for_session};
+ghost use Rattle.hlasm_server.specs.Words.{command_of};
 
 use crate::Status;
 use crate::feeding::{LARGEST_PIECE, Next, next_body};
 use crate::sending::{Stop, hear};
-use command_words::{Command, WordsFault, read_words};
+use crate::words::{Command, read_words};
 use hl_base::{Ledger, OutOfMemory, Steps};
 use io_edge::{Library, Sink, Source};
 use rpc_framing::FrameReader;
@@ -81,11 +80,11 @@ fn serve<S: Source, K: Sink, B: Library, L: Ledger>(
     }
 }
 
-/// Runs the command that the words after the program's name ask for: `serve` reads messages from the source and writes the
+/// Runs the command that the words after the program's name give: `serve` reads messages from the source and writes the
 /// answers to the sink, one byte at a time in a header and then at most the missing bytes of the body, so that nothing
 /// of the next message is held. After each message it makes Turns, until no program is queued; where fewer than 32
 /// messages came since the last Turn, it asks the source first whether more input waits, and then makes none. Any other
-/// words are `BadWords`, unless there is no memory to read them, and nothing is read or written.
+/// words are `BadWords`, and nothing is read or written.
 ///
 /// Messages ask the library for folders and files. A call that fails is an answer as any other, and ends nothing. An assembly
 /// counts in the steps; how much is not said.
@@ -103,9 +102,7 @@ pub fn run<S: Source, K: Sink, B: Library, L: Ledger>(
         (S.left source.old) (S.left source.new) (K.held sink.old) (K.held sink.new) result }
 
     // Each fault has its cause.
-    ensures bad_words { result ≡ Status.BadWords → asks_for_session (map string_bytes words.now) ≡ false }
-    ensures no_session { asks_for_session (map string_bytes words.now) ≡ false
-        → (result ≡ Status.BadWords) ⊎ (result ≡ Status.OutOfMemory) }
+    ensures bad_words { (result ≡ Status.BadWords) ↔ (command_of (map string_bytes words.now) ≡ None) }
     ensures cause { HasStatusCause result (S.faults source.old) (S.faults source.new) (K.faults sink.old) (K.faults sink.new) }
 
     // A whole session is answered whole.
@@ -115,24 +112,20 @@ pub fn run<S: Source, K: Sink, B: Library, L: Ledger>(
         → Completes budget (S.waits source.old) (S.waits source.new) (B.calls library.old) (B.calls library.new)
         (S.left source.old) (S.left source.new) (K.held sink.old) (K.held sink.new) result }
 
-    // With words that ask for no session nothing is read, asked, written or counted.
-    ensures unread { asks_for_session (map string_bytes words.now) ≡ false
-        → (S.left source.new ≡ S.left source.old) × (S.faults source.new ≡ S.faults source.old) }
-    ensures unasked { asks_for_session (map string_bytes words.now) ≡ false → S.waits source.new ≡ S.waits source.old }
-    ensures unwritten { asks_for_session (map string_bytes words.now) ≡ false
-        → (K.held sink.new ≡ K.held sink.old) × (K.faults sink.new ≡ K.faults sink.old) }
-    ensures uncalled { asks_for_session (map string_bytes words.now) ≡ false
-        → (B.calls library.new ≡ B.calls library.old) × (B.faults library.new ≡ B.faults library.old) }
-    ensures uncounted { asks_for_session (map string_bytes words.now) ≡ false → steps.new ≡ steps.old }
+    // With wrong words nothing is read, asked, written or counted.
+    ensures unread { result ≡ Status.BadWords → (S.left source.new ≡ S.left source.old) × (S.faults source.new ≡ S.faults source.old) }
+    ensures unasked { result ≡ Status.BadWords → S.waits source.new ≡ S.waits source.old }
+    ensures unwritten { result ≡ Status.BadWords → (K.held sink.new ≡ K.held sink.old) × (K.faults sink.new ≡ K.faults sink.old) }
+    ensures uncalled { result ≡ Status.BadWords → (B.calls library.new ≡ B.calls library.old) × (B.faults library.new ≡ B.faults library.old) }
+    ensures uncounted { result ≡ Status.BadWords → steps.new ≡ steps.old }
 
     // The counts of faults never fall.
     ensures later_source { S.faults source.old ≤ S.faults source.new }
     ensures later_sink { K.faults sink.old ≤ K.faults sink.new }
     ensures later_library { B.faults library.old ≤ B.faults library.new }
 {
-    match read_words(alloc, words) {
-        Ok(Command::Serve { budget }) => serve(alloc, budget, source, sink, library, steps),
-        Ok(Command::Bulk { .. }) | Err(WordsFault::BadWords) => Status::BadWords,
-        Err(WordsFault::OutOfMemory) => Status::OutOfMemory,
+    match read_words(words) {
+        Some(Command::Serve { budget }) => serve(alloc, budget, source, sink, library, steps),
+        None => Status::BadWords,
     }
 }
