@@ -11,7 +11,7 @@ sys.path.insert(0, bench)
 sys.dont_write_bytecode = True
 from replay import frame, opened, run, write_session
 uri = "file:///w/a.hlasm"
-LINES, OFTEN, FEW, MANY = 50_000, 10_000, 2, 202
+LINES, OFTEN, FEW, MANY = 50_000, 10_000, 2, 1_002
 
 # Each line has its label and three symbols: one of them is the same in every fifth line.
 def text():
@@ -40,6 +40,6 @@ hover, _ = question("hover", (LINES - 3, 20), {}, b'"contents"')
 found, _ = question("definition", (LINES - 3, 20), {}, b'"range"')
 print(f"hover in {LINES} lines with {LINES * 4} occurrences: {hover:.2f} ms (at most 5)")
 print(f"definition there: {found:.2f} ms (at most 5)")
-places, output = question("references", (1, 1), {"context": {"includeDeclaration": True}}, b'"id"', many=12)
-print(f"references to {output.count(b'range') // 12} places: {places:.1f} ms (at most 60)")
+places, output = question("references", (1, 1), {"context": {"includeDeclaration": True}}, b'"id"', many=52)
+print(f"references to {output.count(b'range') // 52} places: {places:.1f} ms (at most 60)")
 RUNS

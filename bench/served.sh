@@ -5,4 +5,4 @@ server=$top/crates/hlasm_ls/out/hlasm_ls
 work=$(mktemp -d)
 trap 'rm -rf "$work"' EXIT
 cd "$top/crates/hlasm_ls"
-rt run -- serve < stdin > "$work/built" || { cat "$work/built" >&2; exit 1; }
+"$top/tools/build.py" hlasm_ls > "$work/built" || { cat "$work/built" >&2; exit 1; }

@@ -7,30 +7,31 @@ cd "$(dirname "$0")" || exit 1
 program_of() {
     case $1 in
         json | json_bytes | members | messages | parameters | responses | ids | bodies) echo message_cases ;;
-        sources | sinks | libraries) echo io_cases ;;
-        command_lines) echo word_cases ;;
-        readings) echo reading_cases ;;
+        sources | sinks | libraries | readings) echo io_cases ;;
+        command_lines | statement_names) echo io_cases ;;
         debug_requests | debug_arguments | debug_bodies) echo message_cases ;;
         debug_sessions) echo debug_cases ;;
         config_groups | config_programs | config_choices) echo message_cases ;;
-        nodes | chains | variables) echo trace_cases ;;
+        library_folders | library_paths | program_groups) echo message_cases ;;
+        nodes | chains | variables | set_symbols) echo trace_cases ;;
+        names | member_names | lines | widths | character_bytes | text_orders) echo base_cases ;;
+        nesting | grown_texts | copies | notes | operands | sublists | number_forms) echo base_cases ;;
+        file_paths | file_uris | path_parts | folder_paths) echo base_cases ;;
         frames | pieces | written_frames) echo text_cases ;;
         statements | fields | places) echo text_cases ;;
         changes | columns | positions | store) echo text_cases ;;
         instructions | operation_names | operand_counts | operand_values) echo text_cases ;;
-        arithmetic_trees | ordinary_trees | character_trees | logical_trees) echo expression_cases ;;
-        numbers | truths | texts | note_texts) echo expression_cases ;;
-        attributes | defining_operations) echo attribute_cases ;;
+        attributes | defining_operations) echo layout_cases ;;
         constants | literals | layout_statements | layout) echo layout_cases ;;
         expression_notes | symbol_definitions | constant_expressions) echo layout_cases ;;
-        statement_names) echo name_cases ;;
         statement_checks) echo layout_cases ;;
-        using_statements) echo using_cases ;;
-        machine_operands | operand_checks | instruction_operands) echo operand_cases ;;
+        machine_operands | operand_checks | instruction_operands | using_statements) echo operand_cases ;;
+        arithmetic_trees | ordinary_trees | character_trees | logical_trees) echo statement_cases ;;
+        numbers | truths | texts | note_texts) echo statement_cases ;;
         declarations | branches | templates | field_ends | operations | effects | calls) echo statement_cases ;;
-        expansions) echo expansion_cases ;;
-        symbol_answers) echo answer_cases ;;
-        occurrences) echo occurrence_cases ;;
+        expansions | footprints | held_footprints) echo expansion_cases ;;
+        symbol_answers | related_places | same_lists | group_members) echo answer_cases ;;
+        occurrences | figures) echo occurrence_cases ;;
         prototypes | bindings | parameter_values) echo definition_cases ;;
         definitions | defining_members | comparisons) echo definition_cases ;;
     esac

@@ -3,8 +3,8 @@
 
 conversations.json has a list; each element says what it shows, the words after the program's name (`words`; `serve` where
 it has none), the bodies that are sent (`says`), the bodies that are written (`hears`) and the name of the status (`ends`). The body
-`initialize` stands for a whole such request, and `offer` for its answer. Beside the name of the status, standard error has nothing,
-or after BadWords two lines on how the program is started. Each was worked out by hand from LSP 3.17 and JSON-RPC 2.0.
+`initialize` stands for a whole such request, and `offer` for its answer. Standard error has the name of the status, unless it is Done.
+Each was worked out by hand from LSP 3.17 and JSON-RPC 2.0. The words have a table of their own, in tests/words.
 
 Each body is sent when the program has read the one before, so that nothing waits behind a message, and no Turn is held back. With
 `at_once` all are in a file, of 8 KiB at most, which the program reads ahead as a whole: so something waits behind each message but
@@ -31,13 +31,7 @@ INITIALIZE = '{"id":1,"jsonrpc":"2.0","method":"initialize","params":{}}'
 OFFER = ('{"id":1,"jsonrpc":"2.0","result":{"capabilities":{"definitionProvider":true,"documentSymbolProvider":true,'
          '"hoverProvider":true,"positionEncoding":"utf-16","referencesProvider":true,"textDocumentSync":{"change":2,"openClose":true}},'
          '"serverInfo":{"name":"hlasm_ls","version":"1"}}}')
-STATUSES = {"Done": 0, "NoShutdown": 1, "InputEnded": 2, "BadWords": 7}
-# What is printed on standard error, beside the name of the status.
-USAGE = [
-    "An editor starts it as: hlasm_ls serve, or hlasm_ls serve --budget N with N from 1 to 400000 (docs/EDITORS.md).",
-    "To list what it reports of files, run: hlasm-lint FILE or FOLDER (docs/PIPELINE.md).",
-]
-PRINTED = {"Done": [], "BadWords": ["BadWords", *USAGE]}
+STATUSES = {"Done": 0, "NoShutdown": 1, "InputEnded": 2}
 
 
 def framed(bodies):
@@ -106,7 +100,7 @@ def difference(server, row):
         return f"wrote {output!r}, not {hears!r}"
     if status != STATUSES[row["ends"]]:
         return f"ended with status {status}, not {row['ends']}"
-    if printed.splitlines() != PRINTED.get(row["ends"], [row["ends"]]):
+    if printed.splitlines() != [row["ends"]] * (row["ends"] != "Done"):
         return f"printed {printed!r} on standard error"
     return None
 

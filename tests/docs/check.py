@@ -176,13 +176,15 @@ def decisions(faults):
 
 
 def counts(faults):
-    """What is counted: small programs, conversations, tables of cases."""
+    """What is counted: small programs, conversations, lists of words, tables of cases."""
     tables = {os.path.basename(it)[:-4] for it in glob.glob(f"{TOP}/tests/cases/*.txt")}
     small = {name: len(re.findall(r"(?m)^== ", read(f"tests/programs/{name}.txt"))) for name in SMALL}
     conversations = len(json.loads(read("tests/conversations/conversations.json")))
+    lists = re.findall(r"(?m)^[^#\n]*=> (\w+)", read("tests/words/words.txt"))
+    refused = len(lists) - lists.count("serve") - lists.count("bulk")
     wanted = [f"{count} {SMALL[name]}" for name, count in small.items()]
     first = [f"{sum(small.values())} small programs"]
-    second = [f"{len(tables)} tables", f"{conversations} whole conversations"]
+    second = [f"{len(tables)} tables", f"{conversations} whole conversations", f"{len(lists)} lists of words, {refused} of which"]
     for page, more in (("README.md", first), ("docs/PROOFS.md", second)):
         faults += [f"{page} does not say: {words}" for words in wanted + more if words not in read(page)]
     said = {name for row in rows(read("tests/cases/README.md")) for name in ticked(row[0])}

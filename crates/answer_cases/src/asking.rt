@@ -8,7 +8,7 @@ use std::alloc::{AllocError, Global};
 use symbol_answers::{definition, document_symbols, hover, references};
 
 /// `LINE.UNIT-LINE.UNIT`.
-fn span_worded(alloc: Global, span: Span) -> Result<String, AllocError> {
+pub fn span_worded(alloc: Global, span: Span) -> Result<String, AllocError> {
     format!(in alloc;
         "{}.{}-{}.{}",
         span.start.line, span.start.character, span.end.line, span.end.character

@@ -38,15 +38,28 @@ fn short(text: &str) -> Option<&str>
     Some(text)
 }
 
-/// `open URI TEXT`, `file PATH TEXT` or `unreadable PATH`.
+/// `open URI TEXT`, `file PATH TEXT` or `unreadable PATH`; also `at PATH: TEXT`, a file whose path may have blanks.
 fn add_text(alloc: Global, store: &mut DocumentStore, words: &str) -> Result<(), OutOfMemory> {
     let (kind, words) = cut(words);
     let (name, text) = cut(words);
     match kind {
         "open" => unless_full(store.open_text(alloc, name, "hlasm", 1, text)),
         "file" => unless_full(store.set_member(alloc, name, short(text))),
+        "at" => {
+            let (path, text) = words.split_once(": ").unwrap_or((words, ""));
+            unless_full(store.set_member(alloc, path, short(text)))
+        }
         _ => unless_full(store.set_member(alloc, name, None)),
     }
+}
+
+/// The store of texts, with semicolons between them.
+pub fn store_of(alloc: Global, texts: &str) -> Result<DocumentStore, OutOfMemory> {
+    let mut store = DocumentStore::new(alloc);
+    for part in texts.split("; ") {
+        add_text(alloc, &mut store, part)?;
+    }
+    Ok(store)
 }
 
 /// A value: a number, an offset behind the number of a section, or none.
@@ -152,10 +165,7 @@ pub fn scene_of(
     symbols: &str,
     places: &str,
 ) -> Result<Scene, OutOfMemory> {
-    let mut store = DocumentStore::new(alloc);
-    for part in texts.split("; ") {
-        add_text(alloc, &mut store, part)?;
-    }
+    let store = store_of(alloc, texts)?;
     let mut rows = SymbolRows::new(alloc);
     let mut sections = Sections::new(alloc);
     for part in symbols.split("; ") {

@@ -15,6 +15,3 @@ mod wording;
 
 pub use diagnostics::published;
 pub use same::is_same_list;
-
-#[cfg(test)]
-mod tests;

@@ -23,6 +23,3 @@ pub use laws::{
 };
 pub use machine::{Action, AskMachine, Given};
 pub use world::World;
-
-#[cfg(test)]
-mod tests;

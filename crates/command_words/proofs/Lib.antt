@@ -1,2 +1,3 @@
-pub mod WordLaws
+pub mod NumberLaws
 pub mod ShapeLaws
+pub mod WordLaws

@@ -19,10 +19,13 @@ const ABOUT: &str =
     "A language server for HLASM, the IBM High Level Assembler, over standard input and output";
 
 const COMMANDS: &str = "Commands:
-  serve    The session of an editor, which starts it so";
+  serve    The session of an editor, which starts it so
+  bulk     A session with a large program, and six lines of what came of it";
 
 const BUDGET: &str =
     "How many statements a program may be given: 1 to 400000, 100000 if it is left out";
+
+const COUNT: &str = "How many calls the large program has: 1 to 10000";
 
 /// An option with a number.
 fn number_option<'a>(alloc: Global, name: &'a str, help: &'a str) -> Arg<'a>
@@ -40,13 +43,13 @@ fn position<'a>(alloc: Global, name: &'a str, help: &'a str) -> Arg<'a>
     Arg::new(alloc, name).help(help)
 }
 
-/// The command line. Its help shows neither a count nor a file, which the program has no command for yet.
+/// The command line. Its help shows no file, which the program has no command for yet.
 pub(crate) fn command_line<'a>(alloc: Global) -> Result<Command<'a>, OutOfMemory>
     ensures { IfOk result (λ line. app_of line ≡ command_line) }
 {
     let budget = number_option(alloc, "budget", BUDGET);
-    let count = number_option(alloc, "count", "How many calls: 1 to 10000").hide(true);
-    let command = position(alloc, "command", "serve");
+    let count = number_option(alloc, "count", COUNT);
+    let command = position(alloc, "command", "serve or bulk");
     let file = position(alloc, "file", "A source file").hide(true);
     let program = Command::new(alloc, "hlasm_ls")
         .no_binary_name(true)

@@ -1,5 +1,5 @@
 //! Laws of the definitions, each the contract of a function with no body.
-ghost use Rattle.std.specs.Prelude.{◌≡◌, ◌∷◌, [], List, Some, None, true, codes};
+ghost use Rattle.std.specs.Prelude.{◌≡◌, ◌<◌, ◌≤◌, ◌∷◌, [], ℕ, List, Some, None, true, codes};
 ghost use Rattle.clap.specs.Walk.{Text};
 ghost use Rattle.clap.specs.Faults.{is_simple_and_free};
 ghost use Rattle.command_words.specs.CommandLine.{command_line};
@@ -10,6 +10,12 @@ ghost use Rattle.command_words.specs.declared.command.Command.TheVariants.{Serve
 /// and none depends on another.
 pub fn the_command_line_is_simple()
     ensures { is_simple_and_free command_line ≡ true }
+{}
+
+/// A budget that is asked for is 1 to 400,000, and a count 1 to 10,000.
+pub fn numbers_are_within()
+    ensures budget { (words : List Text) (budget : ℕ) → command_of words ≡ Some (ServeCommand budget) → (0 < budget) × (budget ≤ 400000) }
+    ensures count { (words : List Text) (count : ℕ) → command_of words ≡ Some (BulkCommand count) → (0 < count) × (count ≤ 10000) }
 {}
 
 /// Options stand before the command or behind it, and their numbers behind a blank or an equals sign.

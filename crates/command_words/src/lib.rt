@@ -20,6 +20,3 @@ pub use command::Command;
 pub use fault::WordsFault;
 pub use reading::read_words;
 pub use usage::advice;
-
-#[cfg(test)]
-mod tests;

@@ -1,8 +1,9 @@
 -- Elements read one after the other, and elements with their numbers.
 use Rattle.std.proofs.Common.{◌≡◌, ℕ, ◌+◌, ◌<◌, ◌≤◌, List, [], ◌∷◌, ◌++◌, length, map, take, drop, get_or, Result, Ok, Err, suc, refl, ap, sym, ◌∙◌, add-one, append_assoc, drop-cons, add_comm}
-use Rattle.std.proofs.lemmas.List.{take_more, take_all}
+use Rattle.std.proofs.lemmas.List.{take_more, take_all, map_more}
 use Rattle.std.proofs.lemmas.List.FromFn.{length-enumerate_from, get_or-enumerate_from}
 use Rattle.std.specs.List.{enumerate_from}
+use Rattle.serde_json.specs.Data.{Data}
 use Rattle.json_view.specs.declared.members.MemberFault.{MemberFault}
 use Rattle.dap_messages.specs.Arguments.{◌>>=◌, each}
 
@@ -59,3 +60,14 @@ take-enumerated xs i x more is_next =
 -- all elements with their numbers
 pub take-all-enumerated : {A : Type 0} (xs : List A) (i : ℕ) → length xs ≤ i → take i (enumerate_from 1 xs) ≡ enumerate_from 1 xs
 take-all-enumerated xs i all = take_all i _ (rw (length-enumerate_from 1 xs) all)
+
+-- ---- values that are collected
+
+-- one more element's value was made
+pub map-next : {A : Type 0} (f : A → Data) (xs : List A) (i : ℕ) (x : A) (before after : List Data) → i < length xs → x ≡ get_or xs i x
+    → before ≡ map f (take i xs) → after ≡ before ++ f x ∷ [] → after ≡ map f (take (i + 1) xs)
+map-next f xs i x before after more is_next so_far added =
+    added
+    ∙ ap (λ ds. ds ++ f x ∷ []) so_far
+    ∙ ap (λ y. map f (take i xs) ++ f y ∷ []) is_next
+    ∙ sym (map_more f xs i x more)

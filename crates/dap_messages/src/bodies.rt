@@ -1,13 +1,17 @@
 //! What responses and events carry. None of it has a number with a fraction.
-ghost use Rattle.std.specs.Prelude.{◌≡◌, false, IfOk, map};
+ghost use Rattle.std.specs.Prelude.{◌≡◌, [], ◌∷◌, false, codes, IfOk, map};
 ghost use Rattle.std.specs.List.{enumerate_from};
 ghost use Rattle.serde_json.specs.Data.{array, object, member, no_members};
 ghost use Rattle.serde_json.specs.View.{view, items_of};
 ghost use Rattle.serde_json.specs.Written.{has_float};
-ghost use Rattle.dap_messages.specs.Written.{capabilities_value, breakpoint_value, breakpoints_value, threads_value, source_value, frame_value, counted_value, stack_value, scope_value, scopes_value, variable_value, variables_value, continued_value, reason_of, stopped_value};
+ghost use Rattle.dap_messages.specs.Written.{capabilities_value, breakpoint_value, breakpoints_value, thread_value, threads_value, source_value, frame_value, counted_value, stack_value, scope_value, scopes_value, variable_value, variables_value, continued_value, reason_of, stopped_value};
 
+use crate::members::{
+    no_members, object, with_count, with_flag, with_item, with_long, with_made, with_number,
+    with_text, with_value, with_word,
+};
 use hl_base::{OutOfMemory, Text};
-use serde_json::{Value, json};
+use serde_json::Value;
 use std::alloc::Global;
 
 /// A frame of the stack as a client shows it (Debug Adapter Protocol, `StackFrame`); lines count from 1.
@@ -38,7 +42,8 @@ pub fn capabilities_body(alloc: Global) -> Result<Value, OutOfMemory>
     ensures body { IfOk result (λ v. view v ≡ capabilities_value) }
     ensures whole { IfOk result (λ v. has_float (view v) ≡ false) }
 {
-    Ok(json!(in alloc; {"supportsConfigurationDoneRequest": true})?)
+    let name = "supportsConfigurationDoneRequest";
+    object(with_flag(alloc, no_members(alloc), name, true))
 }
 
 /// What `setBreakpoints` is answered: each line, taken as it is.
@@ -54,7 +59,7 @@ pub fn breakpoints_body(alloc: Global, lines: &[u32]) -> Result<Value, OutOfMemo
 fn named(alloc: Global, name: &str, list: Value) -> Result<Value, OutOfMemory>
     ensures { IfOk result (λ v. view v ≡ object (member name.now (view list) no_members)) }
 {
-    Ok(json!(in alloc; {name: list})?)
+    object(with_value(alloc, no_members(alloc), name, list))
 }
 
 fn breakpoints_json(alloc: Global, lines: &[u32]) -> Result<Value, OutOfMemory>
@@ -62,7 +67,7 @@ fn breakpoints_json(alloc: Global, lines: &[u32]) -> Result<Value, OutOfMemory>
 {
     let mut values = Vec::with_capacity(alloc, lines.len())?;
     for line in lines {
-        values.push(breakpoint_json(alloc, *line)?)?;
+        values = with_item(values, breakpoint_json(alloc, *line))?;
     }
     Ok(Value::Array(values))
 }
@@ -70,7 +75,8 @@ fn breakpoints_json(alloc: Global, lines: &[u32]) -> Result<Value, OutOfMemory>
 fn breakpoint_json(alloc: Global, line: u32) -> Result<Value, OutOfMemory>
     ensures { IfOk result (λ v. view v ≡ breakpoint_value line) }
 {
-    Ok(json!(in alloc; {"line": line, "verified": true})?)
+    let made = with_number(alloc, no_members(alloc), "line", line);
+    object(with_flag(alloc, made, "verified", true))
 }
 
 /// What `threads` is answered: the one thread.
@@ -78,7 +84,24 @@ pub fn threads_body(alloc: Global) -> Result<Value, OutOfMemory>
     ensures body { IfOk result (λ v. view v ≡ threads_value) }
     ensures whole { IfOk result (λ v. has_float (view v) ≡ false) }
 {
-    Ok(json!(in alloc; {"threads": [{"id": 1u32, "name": "assembly"}]})?)
+    let list = threads_json(alloc)?;
+    named(alloc, "threads", list)
+}
+
+/// The list of the one thread.
+fn threads_json(alloc: Global) -> Result<Value, OutOfMemory>
+    ensures { IfOk result (λ v. view v ≡ array (items_of (thread_value ∷ []))) }
+{
+    let list = with_item(Vec::new(alloc), thread_json(alloc))?;
+    Ok(Value::Array(list))
+}
+
+/// The one thread.
+fn thread_json(alloc: Global) -> Result<Value, OutOfMemory>
+    ensures { IfOk result (λ v. view v ≡ thread_value) }
+{
+    let made = with_number(alloc, no_members(alloc), "id", 1);
+    object(with_word(alloc, made, "name", "assembly"))
 }
 
 /// What `stackTrace` is answered: the frames, innermost first, numbered from 1.
@@ -94,7 +117,8 @@ pub fn stack_body(alloc: Global, frames: &[StackFrame]) -> Result<Value, OutOfMe
 fn counted(alloc: Global, list: Value, count: usize) -> Result<Value, OutOfMemory>
     ensures { IfOk result (λ v. view v ≡ counted_value (view list) count) }
 {
-    Ok(json!(in alloc; {"stackFrames": list, "totalFrames": count})?)
+    let made = with_value(alloc, no_members(alloc), "stackFrames", list);
+    object(with_count(alloc, made, "totalFrames", count))
 }
 
 fn frames_json(alloc: Global, frames: &[StackFrame]) -> Result<Value, OutOfMemory>
@@ -103,7 +127,7 @@ fn frames_json(alloc: Global, frames: &[StackFrame]) -> Result<Value, OutOfMemor
 {
     let mut values = Vec::with_capacity(alloc, frames.len())?;
     for (index, frame) in frames.iter().enumerate() {
-        values.push(frame_json(alloc, index + 1, frame)?)?;
+        values = with_item(values, frame_json(alloc, index + 1, frame))?;
     }
     Ok(Value::Array(values))
 }
@@ -112,20 +136,17 @@ fn frames_json(alloc: Global, frames: &[StackFrame]) -> Result<Value, OutOfMemor
 fn frame_json(alloc: Global, number: usize, frame: &StackFrame) -> Result<Value, OutOfMemory>
     ensures { IfOk result (λ v. view v ≡ frame_value (number, frame.now)) }
 {
-    let source = source_json(alloc, &frame.path)?;
-    Ok(json!(in alloc; {
-        "column": 1u32,
-        "id": number,
-        "line": frame.line,
-        "name": frame.name.as_str(),
-        "source": &source
-    })?)
+    let made = with_number(alloc, no_members(alloc), "column", 1);
+    let made = with_count(alloc, made, "id", number);
+    let made = with_number(alloc, made, "line", frame.line);
+    let made = with_text(alloc, made, "name", &frame.name);
+    object(with_made(alloc, made, "source", source_json(alloc, &frame.path)))
 }
 
 fn source_json(alloc: Global, path: &Text) -> Result<Value, OutOfMemory>
     ensures { IfOk result (λ v. view v ≡ source_value path.now) }
 {
-    Ok(json!(in alloc; {"path": path.as_str()})?)
+    object(with_text(alloc, no_members(alloc), "path", path))
 }
 
 /// What `scopes` is answered: the locals and the globals of the frame of a number; frames are numbered from 1.
@@ -134,15 +155,26 @@ pub fn scopes_body(alloc: Global, frame: u32) -> Result<Value, OutOfMemory>
     ensures whole { IfOk result (λ v. has_float (view v) ≡ false) }
 {
     let globals = 2 * u64::from(frame);
-    let locals = scope_json(alloc, "Locals", globals.saturating_sub(1))?;
-    let globals = scope_json(alloc, "Globals", globals)?;
-    Ok(json!(in alloc; {"scopes": [locals, globals]})?)
+    let list = scopes_json(alloc, globals.saturating_sub(1), globals)?;
+    named(alloc, "scopes", list)
+}
+
+/// The scopes whose variables are under these references.
+fn scopes_json(alloc: Global, locals: u64, globals: u64) -> Result<Value, OutOfMemory>
+    ensures { IfOk result (λ v. view v ≡ array (items_of
+        (scope_value (codes "Locals") locals ∷ scope_value (codes "Globals") globals ∷ []))) }
+{
+    let list = with_item(Vec::new(alloc), scope_json(alloc, "Locals", locals))?;
+    let list = with_item(list, scope_json(alloc, "Globals", globals))?;
+    Ok(Value::Array(list))
 }
 
 fn scope_json(alloc: Global, name: &str, reference: u64) -> Result<Value, OutOfMemory>
     ensures { IfOk result (λ v. view v ≡ scope_value name.now reference) }
 {
-    Ok(json!(in alloc; {"expensive": false, "name": name, "variablesReference": reference})?)
+    let made = with_flag(alloc, no_members(alloc), "expensive", false);
+    let made = with_word(alloc, made, "name", name);
+    object(with_long(alloc, made, "variablesReference", reference))
 }
 
 /// What `variables` is answered.
@@ -159,7 +191,7 @@ fn variables_json(alloc: Global, variables: &[Variable]) -> Result<Value, OutOfM
 {
     let mut values = Vec::with_capacity(alloc, variables.len())?;
     for variable in variables {
-        values.push(variable_json(alloc, variable)?)?;
+        values = with_item(values, variable_json(alloc, variable))?;
     }
     Ok(Value::Array(values))
 }
@@ -167,11 +199,9 @@ fn variables_json(alloc: Global, variables: &[Variable]) -> Result<Value, OutOfM
 fn variable_json(alloc: Global, variable: &Variable) -> Result<Value, OutOfMemory>
     ensures { IfOk result (λ v. view v ≡ variable_value variable.now) }
 {
-    Ok(json!(in alloc; {
-        "name": variable.name.as_str(),
-        "value": variable.value.as_str(),
-        "variablesReference": 0u32
-    })?)
+    let made = with_text(alloc, no_members(alloc), "name", &variable.name);
+    let made = with_text(alloc, made, "value", &variable.value);
+    object(with_number(alloc, made, "variablesReference", 0))
 }
 
 /// What `continue` is answered: the one thread goes on.
@@ -179,7 +209,7 @@ pub fn continued_body(alloc: Global) -> Result<Value, OutOfMemory>
     ensures body { IfOk result (λ v. view v ≡ continued_value) }
     ensures whole { IfOk result (λ v. has_float (view v) ≡ false) }
 {
-    Ok(json!(in alloc; {"allThreadsContinued": true})?)
+    object(with_flag(alloc, no_members(alloc), "allThreadsContinued", true))
 }
 
 impl StopReason {
@@ -200,6 +230,6 @@ pub fn stopped_body(alloc: Global, reason: StopReason) -> Result<Value, OutOfMem
     ensures body { IfOk result (λ v. view v ≡ stopped_value reason) }
     ensures whole { IfOk result (λ v. has_float (view v) ≡ false) }
 {
-    let word = reason.word();
-    Ok(json!(in alloc; {"reason": word, "threadId": 1u32})?)
+    let made = with_word(alloc, no_members(alloc), "reason", reason.word());
+    object(with_number(alloc, made, "threadId", 1))
 }

@@ -13,6 +13,7 @@
 mod arguments;
 mod bodies;
 mod commands;
+mod members;
 mod outgoing;
 mod reading;
 mod requests;

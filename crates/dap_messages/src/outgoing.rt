@@ -5,8 +5,11 @@ ghost use Rattle.serde_json.specs.View.{view};
 ghost use Rattle.serde_json.specs.Written.{has_float};
 ghost use Rattle.dap_messages.specs.Written.{response_value, refusal_value, event_value, body_of, value_of, has_fraction};
 
+use crate::members::{
+    no_members, object, with_copy, with_flag, with_integer, with_long, with_text, with_word,
+};
 use hl_base::{OutOfMemory, Text};
-use serde_json::{Value, json};
+use serde_json::Value;
 use std::alloc::Global;
 
 /// A message of the debugger, by the number that its session gives it; a request is known by the number that its client
@@ -90,27 +93,23 @@ fn answer_with(
     ensures { IfOk result (λ v. view v
         ≡ response_value command.now request seq (Some (view body.now))) }
 {
-    Ok(json!(in alloc; {
-        "body": body,
-        "command": command.as_str(),
-        "request_seq": request,
-        "seq": seq,
-        "success": true,
-        "type": "response"
-    })?)
+    let made = with_copy(alloc, no_members(alloc), "body", body);
+    let made = with_text(alloc, made, "command", command);
+    let made = with_integer(alloc, made, "request_seq", request);
+    let made = with_long(alloc, made, "seq", seq);
+    let made = with_flag(alloc, made, "success", true);
+    object(with_word(alloc, made, "type", "response"))
 }
 
 /// A response without a body.
 fn answer_alone(alloc: Global, command: &Text, request: i32, seq: u64) -> Result<Value, OutOfMemory>
     ensures { IfOk result (λ v. view v ≡ response_value command.now request seq None) }
 {
-    Ok(json!(in alloc; {
-        "command": command.as_str(),
-        "request_seq": request,
-        "seq": seq,
-        "success": true,
-        "type": "response"
-    })?)
+    let made = with_text(alloc, no_members(alloc), "command", command);
+    let made = with_integer(alloc, made, "request_seq", request);
+    let made = with_long(alloc, made, "seq", seq);
+    let made = with_flag(alloc, made, "success", true);
+    object(with_word(alloc, made, "type", "response"))
 }
 
 fn refusal(
@@ -122,14 +121,12 @@ fn refusal(
 ) -> Result<Value, OutOfMemory>
     ensures { IfOk result (λ v. view v ≡ refusal_value command.now request seq message.now) }
 {
-    Ok(json!(in alloc; {
-        "command": command.as_str(),
-        "message": message.as_str(),
-        "request_seq": request,
-        "seq": seq,
-        "success": false,
-        "type": "response"
-    })?)
+    let made = with_text(alloc, no_members(alloc), "command", command);
+    let made = with_text(alloc, made, "message", message);
+    let made = with_integer(alloc, made, "request_seq", request);
+    let made = with_long(alloc, made, "seq", seq);
+    let made = with_flag(alloc, made, "success", false);
+    object(with_word(alloc, made, "type", "response"))
 }
 
 /// An event.
@@ -142,11 +139,26 @@ fn happened(
     ensures { IfOk result (λ v. view v ≡ event_value event.now seq (body_of body.now)) }
 {
     match body {
-        Some(body) => {
-            Ok(
-                json!(in alloc; {"body": body, "event": event.as_str(), "seq": seq, "type": "event"})?,
-            )
-        }
-        None => Ok(json!(in alloc; {"event": event.as_str(), "seq": seq, "type": "event"})?),
+        Some(body) => told_with(alloc, event, seq, body),
+        None => told_alone(alloc, event, seq),
     }
+}
+
+/// An event with a body.
+fn told_with(alloc: Global, event: &Text, seq: u64, body: &Value) -> Result<Value, OutOfMemory>
+    ensures { IfOk result (λ v. view v ≡ event_value event.now seq (Some (view body.now))) }
+{
+    let made = with_copy(alloc, no_members(alloc), "body", body);
+    let made = with_text(alloc, made, "event", event);
+    let made = with_long(alloc, made, "seq", seq);
+    object(with_word(alloc, made, "type", "event"))
+}
+
+/// An event without a body.
+fn told_alone(alloc: Global, event: &Text, seq: u64) -> Result<Value, OutOfMemory>
+    ensures { IfOk result (λ v. view v ≡ event_value event.now seq None) }
+{
+    let made = with_text(alloc, no_members(alloc), "event", event);
+    let made = with_long(alloc, made, "seq", seq);
+    object(with_word(alloc, made, "type", "event"))
 }

@@ -2,6 +2,7 @@
 ghost use Rattle.std.specs.Prelude.{◌≡◌};
 ghost use Rattle.example_language.specs.Lines.{lists_by};
 
+use crate::footprints::{held, noted};
 use crate::reading::{Limits, lists};
 use crate::running::run;
 use crate::writing::written;
@@ -13,10 +14,17 @@ use std::alloc::Global;
 use std::marker::Brand;
 use std::sync::ledger::Blank;
 
-/// What a table's cases ask: what comes of list 0 of some lists.
+/// What a table's cases ask.
 #[derive(Clone, Copy, Drop)]
 pub enum Table {
+    /// What comes of list 0 of some lists.
     Expansions,
+
+    /// What is noted of answers.
+    Footprints,
+
+    /// Whether what was noted holds.
+    Held,
 }
 
 /// What comes of list 0, in a ledger that nothing else uses.
@@ -46,24 +54,36 @@ fn other_fields(alloc: Global) -> Result<String, OutOfMemory> {
     Ok(String::from_str(alloc, "of other fields than the table's")?)
 }
 
+/// What comes of list 0 of the lists that stand behind the limits.
+fn expansion(alloc: Global, fields: &[String]) -> Result<String, OutOfMemory> {
+    let Some((first, texts)) = fields.split_first() else {
+        return other_fields(alloc);
+    };
+    let Some(limits) = Limits::read(first.as_str()) else {
+        return other_fields(alloc);
+    };
+    match lists(alloc, texts)? {
+        Some(lists) => expand::<Brand, Brand>(alloc, lists, limits, Blank::new(1)),
+        None => other_fields(alloc),
+    }
+}
+
 impl CaseTable for Table {
     fn named(word: &str) -> Option<Table> {
         match word {
             "expansions" => Some(Table::Expansions),
+            "footprints" => Some(Table::Footprints),
+            "held_footprints" => Some(Table::Held),
             _ => None,
         }
     }
 
     fn answer(&self, alloc: Global, fields: &[String]) -> Result<String, OutOfMemory> {
-        let Some((first, texts)) = fields.split_first() else {
-            return other_fields(alloc);
-        };
-        let Some(limits) = Limits::read(first.as_str()) else {
-            return other_fields(alloc);
-        };
-        match lists(alloc, texts)? {
-            Some(lists) => expand::<Brand, Brand>(alloc, lists, limits, Blank::new(1)),
-            None => other_fields(alloc),
+        match (*self, fields) {
+            (Table::Expansions, fields) => expansion(alloc, fields),
+            (Table::Footprints, [words]) => noted(alloc, words.as_str()),
+            (Table::Held, [script]) => held(alloc, script.as_str()),
+            _ => other_fields(alloc),
         }
     }
 }

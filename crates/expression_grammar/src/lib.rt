@@ -24,6 +24,3 @@ pub use fault::SyntaxFault;
 pub use front::{Front, parse_front, parse_variable};
 pub use parse::{MOST_PARTS, parse_arith, parse_ordinary};
 pub use tree::{Attribute, Comparison, Expr, Form, Item, Operator, Reference, Sign, Symbol};
-
-#[cfg(test)]
-mod tests;

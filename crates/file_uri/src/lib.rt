@@ -20,9 +20,6 @@ use std::str;
 use thiserror::Error;
 use url::{ParseError, Url};
 
-#[cfg(test)]
-mod tests;
-
 /// Why there is no path of a URI.
 #[derive(Clone, Copy, Debug, PartialEq, Eq, Error)]
 pub enum UriFault {

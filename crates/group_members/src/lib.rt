@@ -14,6 +14,3 @@ mod members;
 
 pub use index::MemberIndex;
 pub use members::GroupMembers;
-
-#[cfg(test)]
-mod tests;

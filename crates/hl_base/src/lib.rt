@@ -33,6 +33,3 @@ pub use std::sync::ledger::Ledger;
 pub use steps::Steps;
 pub use symbol::{is_letter, is_symbol_character};
 pub use text::Text;
-
-#[cfg(test)]
-mod tests;

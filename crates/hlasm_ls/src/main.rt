@@ -2,13 +2,14 @@
 //!
 //! It hands the words after its name, standard input, standard output and the file system to `hlasm_server::run`, and ends
 //! with the number of the status. If the status is not `Done`, its name is printed on standard error, and after words that are not a
-//! command two lines that say how the program is started; standard output has nothing but the session's frames. What a run writes is
-//! the contract of `run`; here is only what it runs on.
+//! command two lines that say how the program is started, or the help or the version if they ask for that; standard output has
+//! nothing but the session's frames, or the lines of `bulk`. What a run writes is the contract of `run`; here is only what it runs on.
 #![tactic(auto)]
 
 ghost use Rattle.std.specs.Prelude.{◌≡◌, None, map, string_bytes, ◌⊎◌};
-ghost use Rattle.hlasm_server.specs.Words.{command_of};
+ghost use Rattle.command_words.specs.Commands.{command_of};
 
+use command_words::advice;
 use hl_base::{Ledger, OutOfMemory, Steps};
 use hlasm_server::{Status, run};
 use io_edge::{FolderLibrary, Library, StdSink, StdSource};
@@ -18,11 +19,6 @@ use std::io::{ErrorKind, Read, Write};
 use std::marker::Brand;
 use std::process::ExitCode;
 use std::sync::ledger::Blank;
-
-/// How the program is started: what is printed if the words are not a command.
-const USAGE: &str =
-    "An editor starts it as: hlasm_ls serve, or hlasm_ls serve --budget N with N from 1 to 400000 (docs/EDITORS.md).
-To list what it reports of files, run: hlasm-lint FILE or FOLDER (docs/PIPELINE.md).";
 
 /// The words after the program's name. Words that are no UTF-8 are no command.
 fn words_after_name(rt: &HostRuntime) -> Result<Vec<String>, Status> {
@@ -73,23 +69,32 @@ fn run_on_streams<I: Read + Drop, O: Write + Drop, B: Library + Drop, L: Ledger>
     )
 }
 
-fn main(rt: HostRuntime) -> ExitCode {
-    let status = match words_after_name(&rt) {
-        Ok(words) => run_on_streams::<_, _, _, Brand>(
-            rt.alloc(),
-            &words,
-            rt.stdin(),
-            rt.stdout(),
-            FolderLibrary::new(&rt),
-            Blank::new(1),
-        ),
-        Err(status) => status,
-    };
+/// Ends with a status. Its name is printed, unless it is `Done`, and after words that are not a command lines for whoever wrote
+/// them. What standard error does not take is lost.
+fn end(rt: &HostRuntime, words: &[String], status: Status) -> ExitCode {
     if status != Status::Done {
         let _ = rt.eprintln(status);
     }
     if status == Status::BadWords {
-        let _ = rt.eprintln(USAGE);
+        if let Ok(lines) = advice(rt.alloc(), words) {
+            let _ = rt.eprintln(lines.as_str());
+        }
     }
     ExitCode::from(status.number())
+}
+
+fn main(rt: HostRuntime) -> ExitCode {
+    let words = match words_after_name(&rt) {
+        Ok(words) => words,
+        Err(status) => return end(&rt, &[], status),
+    };
+    let status = run_on_streams::<_, _, _, Brand>(
+        rt.alloc(),
+        &words,
+        rt.stdin(),
+        rt.stdout(),
+        FolderLibrary::new(&rt),
+        Blank::new(1),
+    );
+    end(&rt, &words, status)
 }

@@ -1,3 +1,4 @@
+pub mod BulkLaws
 pub mod FeedingLaws
 pub mod HeadlineLaws
 pub mod OutputLaws

@@ -1,20 +1,29 @@
--- The number that digits write.
-use Rattle.std.proofs.Common.{◌≡◌, ℕ, ◌<◌, true, ◌&&◌, List, [], ◌∷◌, length, Result, Ok, refl, sym, ◌∙◌, ap, arith}
-use Rattle.std.specs.Char.{is_ascii_digit}
-use Rattle.std.specs.List.{list_all}
-use Rattle.std.specs.Str.{all_ascii_digits}
-use Rattle.std.specs.Str.Parse.{digits_value, ParsesUnsigned}
-use Rattle.std.proofs.lemmas.Str.Parse.{IsNumeralModel, numerals_by_value, tells_all_ascii_digits, parse_gives, digits_value_short}
+-- What words ask for: one command, or none.
+use Rattle.std.proofs.Common.{◌≡◌, ℕ, true, false, List, Some, None, sym, ap, ◌∙◌}
+use Rattle.command_words.specs.Commands.{command_of}
+use Rattle.command_words.specs.declared.command.Command.{Command}
+use Rattle.command_words.specs.declared.command.Command.TheVariants.{Serve, Bulk}
+use Rattle.hlasm_server.specs.Words.{asks_for_session, is_session}
 
-all_digits : (bytes : List ℕ) → list_all is_ascii_digit bytes ≡ all_ascii_digits bytes
-all_digits [] = refl
-all_digits (c ∷ cs) = ap (λ b. is_ascii_digit c && b) (all_digits cs)
+pub one_command : (words : List (List ℕ)) (one other : Command) → command_of words ≡ Some one → command_of words ≡ Some other → one ≡ other
+one_command words one other asked also = let both : Some one ≡ Some other = sym asked ∙ also in cc
 
-own : IsNumeralModel (λ ds. all_ascii_digits ds ≡ true) (digits_value 10)
-own = numerals_by_value _ tells_all_ascii_digits
+pub not_both : (words : List (List ℕ)) (budget count : ℕ) → command_of words ≡ Some (Bulk count) → command_of words ≡ Some (Serve budget) → ⊥
+not_both words budget count asked also = let same : Bulk count ≡ Serve budget = one_command words (Bulk count) (Serve budget) asked also in cc
 
--- 1 to 6 digits are read as the number that they write
-pub parsed : {E : Type 0} (word : List ℕ) (r : Result ℕ E) → ParsesUnsigned 32 10 word r → list_all is_ascii_digit word ≡ true → 0 < length word → length word < 7 → r ≡ Ok (digits_value 10 word)
-parsed word r read digits some few =
-    let all : all_ascii_digits word ≡ true = sym (all_digits word) ∙ digits in
-    parse_gives own 32 word r read all some (omega (arith, digits_value_short own word 6 all (omega arith)))
+pub not_none : (words : List (List ℕ)) (command : Command) → command_of words ≡ None → command_of words ≡ Some command → ⊥
+not_none words command none also = let same : None ≡ Some command = sym none ∙ also in cc
+
+-- ---- whether that is the session of an editor
+
+pub serve_asks : (words : List (List ℕ)) (budget : ℕ) → command_of words ≡ Some (Serve budget) → asks_for_session words ≡ false → ⊥
+unfolding asks_for_session
+serve_asks words budget asked none = let both : true ≡ false = sym (ap is_session asked) ∙ none in cc
+
+pub bulk_asks_no_session : (words : List (List ℕ)) (count : ℕ) → command_of words ≡ Some (Bulk count) → asks_for_session words ≡ false
+unfolding asks_for_session
+bulk_asks_no_session words count asked = ap is_session asked
+
+pub none_asks_no_session : (words : List (List ℕ)) → command_of words ≡ None → asks_for_session words ≡ false
+unfolding asks_for_session
+none_asks_no_session words none = ap is_session none

@@ -1,3 +1,4 @@
+pub mod Bulk
 pub mod Feeding
 pub mod Headline
 pub mod Hearing

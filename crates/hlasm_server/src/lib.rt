@@ -8,15 +8,15 @@
 //!
 //! It knows nothing of terminals, processes and file systems: the program `hlasm_ls` hands in the real ones. Within the crate,
 //! `feeding` takes the next body from the source, `sending` has the session hear it and puts what is written into the
-//! sink, and `serving` joins them. What a message does is `session_core`'s.
+//! sink, and `serving` joins them. What words ask for is `command_words`'s, and what a message does `session_core`'s.
 #![tactic(auto)]
 
+mod bulk;
 mod feeding;
 pub mod laws;
 mod sending;
 mod serving;
 mod status;
-mod words;
 
 pub use serving::run;
 pub use status::Status;

@@ -42,7 +42,7 @@ impl From<Failed> for Stop {
 }
 
 /// Puts all of the bytes into the sink; where a call is refused, it has a front of them.
-fn put_all<K: Sink>(sink: &mut K, bytes: &[u8]) -> Result<(), Failed>
+pub fn put_all<K: Sink>(sink: &mut K, bytes: &[u8]) -> Result<(), Failed>
     ensures ok { OnOk result (Gains (K.held sink.old) bytes.now (K.held sink.new)) }
     ensures err { OnErr result (PutsFront (K.held sink.old) bytes.now (K.held sink.new)) }
     ensures later { K.faults sink.old ≤ K.faults sink.new }

@@ -7,7 +7,7 @@ use std::fmt;
 /// How a run ended. Its number is the status that the process ends with.
 #[derive(Clone, Copy, Debug, PartialEq, Eq)]
 pub enum Status {
-    /// `exit` came after `shutdown` was answered.
+    /// `exit` came after `shutdown` was answered, or the lines of `bulk` are written.
     Done,
     /// `exit` came before `shutdown` was answered.
     NoShutdown,

@@ -52,10 +52,15 @@ pub fn is_positive(sizes: &[usize]) -> bool
     true
 }
 
+/// Adds a part behind the others, with a sign between them.
+pub fn add_part(parts: &mut String, sign: &str, part: &str) -> Result<(), AllocError> {
+    if !parts.is_empty() {
+        parts.push_str(sign)?;
+    }
+    parts.push_str(part)
+}
+
 /// Adds an answer behind the others.
 pub fn add_answer(answers: &mut String, answer: &str) -> Result<(), AllocError> {
-    if !answers.is_empty() {
-        answers.push_str("; ")?;
-    }
-    answers.push_str(answer)
+    add_part(answers, "; ", answer)
 }

@@ -1,5 +1,6 @@
-//! Compares tables of cases with what the crates that lay out statements and check them answer: `layout_cases TABLE` reads the
-//! cases of one table from standard input, prints each whose answer differs, and at the end `N passed, M failed`.
+//! Compares tables of cases with what `symbol_attributes` and the crates that lay out statements and check them answer:
+//! `layout_cases TABLE` reads the cases of one table from standard input, prints each whose answer differs, and at the end
+//! `N passed, M failed`.
 //!
 //! tests/cases/README.md says what each table reads. What the crates promise is said by their own contracts; this program only
 //! knows how an answer is written down.
@@ -8,6 +9,7 @@
 mod constants;
 mod definitions;
 mod expressions;
+mod labels;
 mod layouts;
 mod literals;
 mod numbers;

@@ -1,5 +1,5 @@
 //! The tables by their words.
-use crate::{constants, definitions, expressions, layouts, literals, numbers, statements};
+use crate::{constants, definitions, expressions, labels, layouts, literals, numbers, statements};
 use case_lines::CaseTable;
 use hl_base::OutOfMemory;
 use std::alloc::Global;
@@ -23,6 +23,72 @@ pub enum Table {
     Layout,
     /// What is said of generated statements that are laid out and checked.
     StatementChecks,
+    /// What a label means on an operation with its operands.
+    Attributes,
+    /// What an operation is to symbols.
+    DefiningOperations,
+}
+
+/// What is answered where the fields are not those of the table.
+fn other_fields(alloc: Global) -> Result<String, OutOfMemory> {
+    Ok(String::from_str(alloc, "of other fields than the table's")?)
+}
+
+/// What is answered to one field.
+fn answer_of_one(alloc: Global, table: Table, field: &str) -> Result<String, OutOfMemory> {
+    match table {
+        Table::SymbolDefinitions => definitions::after(alloc, field),
+        Table::Literals => literals::literal(alloc, field),
+        Table::StatementChecks => layouts::checked(alloc, field),
+        Table::DefiningOperations => labels::definition(alloc, field),
+        _ => other_fields(alloc),
+    }
+}
+
+/// What is answered to two fields.
+fn answer_of_two(
+    alloc: Global,
+    table: Table,
+    first: &str,
+    second: &str,
+) -> Result<String, OutOfMemory> {
+    match table {
+        Table::Constants => constants::measured(alloc, first, second, "", ""),
+        Table::Layout => layouts::laid_out(alloc, first, second),
+        Table::Attributes => labels::meaning(alloc, first, second),
+        _ => other_fields(alloc),
+    }
+}
+
+/// What is answered to three fields.
+fn answer_of_three(
+    alloc: Global,
+    table: Table,
+    first: &str,
+    second: &str,
+    third: &str,
+) -> Result<String, OutOfMemory> {
+    match table {
+        Table::ConstantExpressions => numbers::told_of(alloc, first, second, third),
+        Table::ExpressionNotes => expressions::said(alloc, first, second, third),
+        Table::LayoutStatements => statements::statement(alloc, first, second, third),
+        _ => other_fields(alloc),
+    }
+}
+
+/// What is answered to an operand of DC or DS, or to a literal, by what is told of its numbers.
+fn answer_of_numbers(
+    alloc: Global,
+    table: Table,
+    used: &str,
+    operand: &str,
+    factor: &str,
+    length: &str,
+) -> Result<String, OutOfMemory> {
+    match table {
+        Table::Constants => constants::measured(alloc, used, operand, factor, length),
+        _ => other_fields(alloc),
+    }
 }
 
 impl CaseTable for Table {
@@ -36,43 +102,32 @@ impl CaseTable for Table {
             "layout_statements" => Some(Table::LayoutStatements),
             "layout" => Some(Table::Layout),
             "statement_checks" => Some(Table::StatementChecks),
+            "attributes" => Some(Table::Attributes),
+            "defining_operations" => Some(Table::DefiningOperations),
             _ => None,
         }
     }
 
     fn answer(&self, alloc: Global, fields: &[String]) -> Result<String, OutOfMemory> {
-        match (self, fields) {
-            (Table::Constants, [used, operand]) => {
-                constants::measured(alloc, used.as_str(), operand.as_str(), "", "")
-            }
-            (Table::Constants, [used, operand, factor, length]) => constants::measured(
+        match fields {
+            [field] => answer_of_one(alloc, *self, field.as_str()),
+            [first, second] => answer_of_two(alloc, *self, first.as_str(), second.as_str()),
+            [first, second, third] => answer_of_three(
                 alloc,
+                *self,
+                first.as_str(),
+                second.as_str(),
+                third.as_str(),
+            ),
+            [used, operand, factor, length] => answer_of_numbers(
+                alloc,
+                *self,
                 used.as_str(),
                 operand.as_str(),
                 factor.as_str(),
                 length.as_str(),
             ),
-            (Table::ConstantExpressions, [symbols, used, operand]) => {
-                numbers::told_of(alloc, symbols.as_str(), used.as_str(), operand.as_str())
-            }
-            (Table::ExpressionNotes, [symbols, wanted, expressions]) => expressions::said(
-                alloc,
-                symbols.as_str(),
-                wanted.as_str(),
-                expressions.as_str(),
-            ),
-            (Table::SymbolDefinitions, [definitions]) => {
-                definitions::after(alloc, definitions.as_str())
-            }
-            (Table::Literals, [operand]) => literals::literal(alloc, operand.as_str()),
-            (Table::LayoutStatements, [entry, op, operands]) => {
-                statements::statement(alloc, entry.as_str(), op.as_str(), operands.as_str())
-            }
-            (Table::Layout, [shown, statements]) => {
-                layouts::laid_out(alloc, shown.as_str(), statements.as_str())
-            }
-            (Table::StatementChecks, [statements]) => layouts::checked(alloc, statements.as_str()),
-            _ => Ok(String::from_str(alloc, "of other fields than the table's")?),
+            _ => other_fields(alloc),
         }
     }
 }

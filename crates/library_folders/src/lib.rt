@@ -14,6 +14,3 @@ mod group;
 pub use configuration::Configuration;
 pub use folders::{Folder, folders_of, is_library_folder, is_member};
 pub use group::{folders_for, group_of, parm_for};
-
-#[cfg(test)]
-mod tests;

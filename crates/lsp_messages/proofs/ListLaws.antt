@@ -1,5 +1,7 @@
 -- Elements read one after the other.
-use Rattle.std.proofs.Common.{◌≡◌, ℕ, ◌+◌, ◌<◌, List, [], ◌∷◌, ◌++◌, length, map, drop, get_or, Result, Ok, Err, suc, refl, ap, sym, ◌∙◌, add-one, append_assoc, drop-cons}
+use Rattle.std.proofs.Common.{◌≡◌, ℕ, ◌+◌, ◌<◌, List, [], ◌∷◌, ◌++◌, length, map, take, drop, get_or, Result, Ok, Err, suc, refl, ap, sym, ◌∙◌, add-one, append_assoc, drop-cons}
+use Rattle.std.proofs.lemmas.List.{map_more}
+use Rattle.serde_json.specs.Data.{Data}
 use Rattle.lsp_messages.specs.declared.parameters.Parameter.{Parameter}
 use Rattle.lsp_messages.specs.declared.parameters.ParameterFault.{ParameterFault}
 use Rattle.lsp_messages.specs.declared.parameters.ParameterFault.TheVariants.{Bad, OutOfMemory}
@@ -63,3 +65,14 @@ Answers-behind-drop read f before xs i x (Bad parameter) more is_next is_bad =
     ap (λ rest. behind before (each read (map f rest))) (drop-next xs i x more is_next)
     ∙ ap (λ r. behind before (r >>= (λ z. each read (map f (drop (i + 1) xs)) >>= (λ ys. Ok (z ∷ ys))))) is_bad
 Answers-behind-drop read f before xs i x OutOfMemory more is_next no_room = tt
+
+-- ---- values that are collected
+
+-- one more element's value was made
+pub map-next : {A : Type 0} (f : A → Data) (xs : List A) (i : ℕ) (x : A) (before after : List Data) → i < length xs → x ≡ get_or xs i x
+    → before ≡ map f (take i xs) → after ≡ before ++ f x ∷ [] → after ≡ map f (take (i + 1) xs)
+map-next f xs i x before after more is_next so_far added =
+    added
+    ∙ ap (λ ds. ds ++ f x ∷ []) so_far
+    ∙ ap (λ y. map f (take i xs) ++ f y ∷ []) is_next
+    ∙ sym (map_more f xs i x more)

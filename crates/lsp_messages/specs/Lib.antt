@@ -1,4 +1,5 @@
 pub mod Codes
+pub mod Made
 pub mod Messages
 pub mod Parameters
 pub mod Shapes

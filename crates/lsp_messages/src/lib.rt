@@ -13,6 +13,7 @@
 
 mod answering;
 mod incoming;
+mod members;
 mod outgoing;
 mod parameters;
 mod reading;

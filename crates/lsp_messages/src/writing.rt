@@ -7,10 +7,14 @@ ghost use Rattle.json_view.specs.Texts.{reading};
 ghost use Rattle.lsp_messages.specs.Written.{id_value, answered_value, reply_value, error_value, fault_value, notification_value, log_params, position_value, span_value, location_value, relation_value, report_value, placed_value, diagnostic_value, published_params, value_of, text_of, has_fraction, sync_value, capabilities_value, server_value, initialize_result_value, dap_params};
 
 use crate::incoming::Id;
+use crate::members::{
+    no_members, object, with_copy, with_flag, with_integer, with_item, with_made, with_number,
+    with_text, with_value, with_word,
+};
 use crate::outgoing::{Diagnostic, LspOut, Relation, Span};
 use hl_base::{OutOfMemory, Position, Text};
 use json_view::compact;
-use serde_json::{Value, json};
+use serde_json::Value;
 use std::alloc::Global;
 
 impl LspOut {
@@ -47,16 +51,18 @@ impl LspOut {
 fn reply(alloc: Global, id: &Id, outcome: &Value) -> Result<Value, OutOfMemory>
     ensures { IfOk result (λ v. view v ≡ reply_value id.now (view outcome.now)) }
 {
-    let id = id_json(alloc, id)?;
-    Ok(json!(in alloc; {"id": id, "jsonrpc": "2.0", "result": outcome})?)
+    let made = with_made(alloc, no_members(alloc), "id", id_json(alloc, id));
+    let made = with_word(alloc, made, "jsonrpc", "2.0");
+    object(with_copy(alloc, made, "result", outcome))
 }
 
 fn fault(alloc: Global, id: &Option<Id>, code: i32, message: &Text) -> Result<Value, OutOfMemory>
     ensures { IfOk result (λ v. view v ≡ fault_value id.now code message.now) }
 {
-    let id = answered_json(alloc, id)?;
-    let error = error_json(alloc, code, message)?;
-    Ok(json!(in alloc; {"error": error, "id": id, "jsonrpc": "2.0"})?)
+    let error = error_json(alloc, code, message);
+    let made = with_made(alloc, no_members(alloc), "error", error);
+    let made = with_made(alloc, made, "id", answered_json(alloc, id));
+    object(with_word(alloc, made, "jsonrpc", "2.0"))
 }
 
 fn log(alloc: Global, message: &Text) -> Result<Value, OutOfMemory>
@@ -92,7 +98,9 @@ fn debugged(alloc: Global, session: u32, message: &Value) -> Result<Value, OutOf
 fn notification(alloc: Global, method: &str, params: Value) -> Result<Value, OutOfMemory>
     ensures { IfOk result (λ v. view v ≡ notification_value method.now (view params)) }
 {
-    Ok(json!(in alloc; {"jsonrpc": "2.0", "method": method, "params": params})?)
+    let made = with_word(alloc, no_members(alloc), "jsonrpc", "2.0");
+    let made = with_word(alloc, made, "method", method);
+    object(with_value(alloc, made, "params", params))
 }
 
 fn id_json(alloc: Global, id: &Id) -> Result<Value, OutOfMemory>
@@ -100,7 +108,7 @@ fn id_json(alloc: Global, id: &Id) -> Result<Value, OutOfMemory>
 {
     match id {
         Id::Number(number) => Ok(Value::from(*number)),
-        Id::Words(words) => Ok(json!(in alloc; words.as_str())?),
+        Id::Words(words) => Ok(Value::try_from_str(alloc, words.as_str())?),
     }
 }
 
@@ -116,19 +124,22 @@ fn answered_json(alloc: Global, id: &Option<Id>) -> Result<Value, OutOfMemory>
 fn error_json(alloc: Global, code: i32, message: &Text) -> Result<Value, OutOfMemory>
     ensures { IfOk result (λ v. view v ≡ error_value code message.now) }
 {
-    Ok(json!(in alloc; {"code": code, "message": message.as_str()})?)
+    let made = with_integer(alloc, no_members(alloc), "code", code);
+    object(with_text(alloc, made, "message", message))
 }
 
 fn log_json(alloc: Global, message: &Text) -> Result<Value, OutOfMemory>
     ensures { IfOk result (λ v. view v ≡ log_params message.now) }
 {
-    Ok(json!(in alloc; {"message": message.as_str(), "type": 2u32})?)
+    let made = with_text(alloc, no_members(alloc), "message", message);
+    object(with_number(alloc, made, "type", 2))
 }
 
 fn dap_json(alloc: Global, session: u32, message: &Value) -> Result<Value, OutOfMemory>
     ensures { IfOk result (λ v. view v ≡ dap_params session (view message.now)) }
 {
-    Ok(json!(in alloc; {"message": message, "session": session})?)
+    let made = with_copy(alloc, no_members(alloc), "message", message);
+    object(with_number(alloc, made, "session", session))
 }
 
 fn published_json(
@@ -139,13 +150,38 @@ fn published_json(
 ) -> Result<Value, OutOfMemory>
     ensures { IfOk result (λ v. view v ≡ published_params uri.now version diagnostics.now) }
 {
-    let list = diagnostics_json(alloc, diagnostics)?;
     match version {
-        Some(version) => {
-            Ok(json!(in alloc; {"diagnostics": list, "uri": uri.as_str(), "version": version})?)
-        }
-        None => Ok(json!(in alloc; {"diagnostics": list, "uri": uri.as_str()})?),
+        Some(version) => versioned_json(alloc, uri, version, diagnostics),
+        None => unversioned_json(alloc, uri, diagnostics),
     }
+}
+
+/// The reports of a version of a document.
+fn versioned_json(
+    alloc: Global,
+    uri: &Text,
+    version: i32,
+    diagnostics: &[Diagnostic],
+) -> Result<Value, OutOfMemory>
+    ensures { IfOk result (λ v. view v ≡ published_params uri.now (Some version) diagnostics.now) }
+{
+    let list = diagnostics_json(alloc, diagnostics);
+    let made = with_made(alloc, no_members(alloc), "diagnostics", list);
+    let made = with_text(alloc, made, "uri", uri);
+    object(with_integer(alloc, made, "version", version))
+}
+
+/// The reports of a document that has no version.
+fn unversioned_json(
+    alloc: Global,
+    uri: &Text,
+    diagnostics: &[Diagnostic],
+) -> Result<Value, OutOfMemory>
+    ensures { IfOk result (λ v. view v ≡ published_params uri.now None diagnostics.now) }
+{
+    let list = diagnostics_json(alloc, diagnostics);
+    let made = with_made(alloc, no_members(alloc), "diagnostics", list);
+    object(with_text(alloc, made, "uri", uri))
 }
 
 fn diagnostics_json(alloc: Global, diagnostics: &[Diagnostic]) -> Result<Value, OutOfMemory>
@@ -153,7 +189,7 @@ fn diagnostics_json(alloc: Global, diagnostics: &[Diagnostic]) -> Result<Value, 
 {
     let mut values = Vec::with_capacity(alloc, diagnostics.len())?;
     for diagnostic in diagnostics {
-        values.push(diagnostic_json(alloc, diagnostic)?)?;
+        values = with_item(values, diagnostic_json(alloc, diagnostic))?;
     }
     Ok(Value::Array(values))
 }
@@ -173,14 +209,12 @@ fn diagnostic_json(alloc: Global, diagnostic: &Diagnostic) -> Result<Value, OutO
 fn lone_json(alloc: Global, diagnostic: &Diagnostic) -> Result<Value, OutOfMemory>
     ensures { IfOk result (λ v. view v ≡ report_value diagnostic.now []) }
 {
-    let range = span_json(alloc, diagnostic.range)?;
-    Ok(json!(in alloc; {
-        "code": diagnostic.code.as_str(),
-        "message": diagnostic.message.as_str(),
-        "range": &range,
-        "severity": diagnostic.severity,
-        "source": "hlasm_ls"
-    })?)
+    let made = with_text(alloc, no_members(alloc), "code", &diagnostic.code);
+    let made = with_text(alloc, made, "message", &diagnostic.message);
+    let made = with_made(alloc, made, "range", span_json(alloc, diagnostic.range));
+    let severity = Value::from(diagnostic.severity);
+    let made = with_made(alloc, made, "severity", Ok(severity));
+    object(with_word(alloc, made, "source", "hlasm_ls"))
 }
 
 /// A report that speaks of other places.
@@ -199,15 +233,13 @@ fn related_json(
 fn placed_json(alloc: Global, diagnostic: &Diagnostic, places: Value) -> Result<Value, OutOfMemory>
     ensures { IfOk result (λ v. view v ≡ placed_value diagnostic.now (view places)) }
 {
-    let range = span_json(alloc, diagnostic.range)?;
-    Ok(json!(in alloc; {
-        "relatedInformation": places,
-        "code": diagnostic.code.as_str(),
-        "message": diagnostic.message.as_str(),
-        "range": &range,
-        "severity": diagnostic.severity,
-        "source": "hlasm_ls"
-    })?)
+    let made = with_value(alloc, no_members(alloc), "relatedInformation", places);
+    let made = with_text(alloc, made, "code", &diagnostic.code);
+    let made = with_text(alloc, made, "message", &diagnostic.message);
+    let made = with_made(alloc, made, "range", span_json(alloc, diagnostic.range));
+    let severity = Value::from(diagnostic.severity);
+    let made = with_made(alloc, made, "severity", Ok(severity));
+    object(with_word(alloc, made, "source", "hlasm_ls"))
 }
 
 fn relations_json(alloc: Global, related: &[Relation]) -> Result<Value, OutOfMemory>
@@ -215,7 +247,7 @@ fn relations_json(alloc: Global, related: &[Relation]) -> Result<Value, OutOfMem
 {
     let mut values = Vec::with_capacity(alloc, related.len())?;
     for relation in related {
-        values.push(relation_json(alloc, relation)?)?;
+        values = with_item(values, relation_json(alloc, relation))?;
     }
     Ok(Value::Array(values))
 }
@@ -223,62 +255,64 @@ fn relations_json(alloc: Global, related: &[Relation]) -> Result<Value, OutOfMem
 fn relation_json(alloc: Global, relation: &Relation) -> Result<Value, OutOfMemory>
     ensures { IfOk result (λ v. view v ≡ relation_value relation.now) }
 {
-    let location = location_json(alloc, &relation.uri, relation.range)?;
-    Ok(json!(in alloc; {"location": location, "message": relation.message.as_str()})?)
+    let location = location_json(alloc, &relation.uri, relation.range);
+    let made = with_made(alloc, no_members(alloc), "location", location);
+    object(with_text(alloc, made, "message", &relation.message))
 }
 
 fn location_json(alloc: Global, uri: &Text, range: Span) -> Result<Value, OutOfMemory>
     ensures { IfOk result (λ v. view v ≡ location_value uri.now range) }
 {
-    let range = span_json(alloc, range)?;
-    Ok(json!(in alloc; {"range": range, "uri": uri.as_str()})?)
+    let made = with_made(alloc, no_members(alloc), "range", span_json(alloc, range));
+    object(with_text(alloc, made, "uri", uri))
 }
 
 fn span_json(alloc: Global, span: Span) -> Result<Value, OutOfMemory>
     ensures { IfOk result (λ v. view v ≡ span_value span) }
 {
-    let start = position_json(alloc, span.start)?;
-    let end = position_json(alloc, span.end)?;
-    Ok(json!(in alloc; {"end": end, "start": start})?)
+    let end = position_json(alloc, span.end);
+    let made = with_made(alloc, no_members(alloc), "end", end);
+    let start = position_json(alloc, span.start);
+    object(with_made(alloc, made, "start", start))
 }
 
 fn position_json(alloc: Global, position: Position) -> Result<Value, OutOfMemory>
     ensures { IfOk result (λ v. view v ≡ position_value position) }
 {
-    Ok(json!(in alloc; {"character": position.character, "line": position.line})?)
+    let made = with_number(alloc, no_members(alloc), "character", position.character);
+    object(with_number(alloc, made, "line", position.line))
 }
 
 /// The result of `initialize`: what the server offers, its name and its version.
 pub fn initialize_result(alloc: Global) -> Result<Value, OutOfMemory>
     ensures { IfOk result (λ v. view v ≡ initialize_result_value) }
 {
-    let capabilities = capabilities_json(alloc)?;
-    let server = server_json(alloc)?;
-    Ok(json!(in alloc; {"capabilities": capabilities, "serverInfo": server})?)
+    let capabilities = capabilities_json(alloc);
+    let made = with_made(alloc, no_members(alloc), "capabilities", capabilities);
+    object(with_made(alloc, made, "serverInfo", server_json(alloc)))
 }
 
 fn capabilities_json(alloc: Global) -> Result<Value, OutOfMemory>
     ensures { IfOk result (λ v. view v ≡ capabilities_value) }
 {
-    let sync = sync_json(alloc)?;
-    Ok(json!(in alloc; {
-        "positionEncoding": "utf-16",
-        "textDocumentSync": &sync,
-        "hoverProvider": true,
-        "definitionProvider": true,
-        "referencesProvider": true,
-        "documentSymbolProvider": true
-    })?)
+    let made = with_word(alloc, no_members(alloc), "positionEncoding", "utf-16");
+    let made = with_made(alloc, made, "textDocumentSync", sync_json(alloc));
+    let made = with_flag(alloc, made, "hoverProvider", true);
+    let made = with_flag(alloc, made, "definitionProvider", true);
+    let made = with_flag(alloc, made, "referencesProvider", true);
+    object(with_flag(alloc, made, "documentSymbolProvider", true))
 }
 
 fn sync_json(alloc: Global) -> Result<Value, OutOfMemory>
     ensures { IfOk result (λ v. view v ≡ sync_value) }
 {
-    Ok(json!(in alloc; {"change": 2u32, "openClose": true})?)
+    let made = with_number(alloc, no_members(alloc), "change", 2);
+    object(with_flag(alloc, made, "openClose", true))
 }
 
 fn server_json(alloc: Global) -> Result<Value, OutOfMemory>
     ensures { IfOk result (λ v. view v ≡ server_value) }
 {
-    Ok(json!(in alloc; {"name": "hlasm_ls", "version": "1"})?)
+    let made = with_word(alloc, no_members(alloc), "name", "hlasm_ls");
+    object(with_word(alloc, made, "version", "1"))
 }

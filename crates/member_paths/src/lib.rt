@@ -12,6 +12,3 @@ mod parts;
 pub use folder::folder_path;
 pub use name::member_name;
 pub use parts::{file_name_of, folder_of};
-
-#[cfg(test)]
-mod tests;

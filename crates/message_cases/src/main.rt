@@ -1,6 +1,6 @@
-//! Compares tables of cases with what `json_view`, `lsp_messages`, `dap_messages` and `program_config` answer:
-//! `message_cases TABLE` reads the cases of one table from standard input, prints each whose answer differs, and at the end
-//! `N passed, M failed`.
+//! Compares tables of cases with what `json_view`, `lsp_messages`, `dap_messages`, `program_config` and `library_folders`
+//! answer: `message_cases TABLE` reads the cases of one table from standard input, prints each whose answer differs, and at the
+//! end `N passed, M failed`.
 //!
 //! tests/cases/README.md says what each table reads. What the crates promise is said by their own contracts; this program only
 //! knows how an answer is written down.
@@ -11,6 +11,7 @@ mod bodies;
 mod config;
 mod debug_bodies;
 mod debug_requests;
+mod folders;
 mod json;
 mod members;
 mod messages;

@@ -1,5 +1,5 @@
 //! The tables by their words.
-use crate::{bodies, config, debug_bodies, debug_requests, json, members, messages};
+use crate::{bodies, config, debug_bodies, debug_requests, folders, json, members, messages};
 use case_lines::CaseTable;
 use hl_base::OutOfMemory;
 use std::alloc::Global;
@@ -48,6 +48,15 @@ pub enum Table {
 
     /// The groups of paths.
     ConfigChoices,
+
+    /// The library folders of a file of groups.
+    LibraryFolders,
+
+    /// What paths are to them.
+    LibraryPaths,
+
+    /// What programs have of their groups.
+    ProgramGroups,
 }
 
 /// What is answered where the fields are not those of the table.
@@ -71,7 +80,10 @@ fn answer_of_text(alloc: Global, table: Table, text: &str) -> Result<String, Out
         | Table::Bodies
         | Table::DebugArguments
         | Table::DebugBodies
-        | Table::ConfigChoices => other_fields(alloc),
+        | Table::ConfigChoices
+        | Table::LibraryFolders
+        | Table::LibraryPaths
+        | Table::ProgramGroups => other_fields(alloc),
     }
 }
 
@@ -92,6 +104,9 @@ impl CaseTable for Table {
             "config_groups" => Some(Table::ConfigGroups),
             "config_programs" => Some(Table::ConfigPrograms),
             "config_choices" => Some(Table::ConfigChoices),
+            "library_folders" => Some(Table::LibraryFolders),
+            "library_paths" => Some(Table::LibraryPaths),
+            "program_groups" => Some(Table::ProgramGroups),
             _ => None,
         }
     }
@@ -110,6 +125,16 @@ impl CaseTable for Table {
             }
             (Table::ConfigChoices, [entries, groups, path]) => {
                 config::place(alloc, entries.as_str(), groups.as_str(), path.as_str())
+            }
+            (Table::LibraryFolders, [groups, root]) => {
+                folders::listed(alloc, groups.as_str(), root.as_str())
+            }
+            (Table::LibraryPaths, [groups, root, paths @ ..]) => {
+                folders::standing(alloc, groups.as_str(), root.as_str(), paths)
+            }
+            (Table::ProgramGroups, [groups, programs, root, path]) => {
+                let files = (groups.as_str(), programs.as_str());
+                folders::chosen(alloc, files, root.as_str(), path.as_str())
             }
             (table, [text]) => answer_of_text(alloc, table, text.as_str()),
             _ => other_fields(alloc),

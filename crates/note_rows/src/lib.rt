@@ -14,6 +14,3 @@ mod wording;
 
 pub use building::{note, stands_at_start};
 pub use row::Row;
-
-#[cfg(test)]
-mod tests;

@@ -1,5 +1,5 @@
 //! The tables by their words.
-use crate::asking;
+use crate::{asking, programs};
 use case_lines::CaseTable;
 use hl_base::OutOfMemory;
 use std::alloc::Global;
@@ -9,12 +9,15 @@ use std::alloc::Global;
 pub enum Table {
     /// The occurrences of programs, and questions on their symbols.
     Occurrences,
+    /// The figures of a program.
+    Figures,
 }
 
 impl CaseTable for Table {
     fn named(word: &str) -> Option<Table> {
         match word {
             "occurrences" => Some(Table::Occurrences),
+            "figures" => Some(Table::Figures),
             _ => None,
         }
     }
@@ -27,6 +30,13 @@ impl CaseTable for Table {
                 program.as_str(),
                 folder.as_str(),
                 questions,
+            ),
+            (Table::Figures, [budget, name, text, member]) => programs::figures(
+                alloc,
+                budget.as_str(),
+                name.as_str(),
+                text.as_str(),
+                member.as_str(),
             ),
             _ => Ok(String::from_str(alloc, "of other fields than the table's")?),
         }

@@ -1,6 +1,6 @@
 //! The tables by their words.
 use crate::settings::Words;
-use crate::{checks, readings};
+use crate::{checks, readings, usings};
 use case_lines::CaseTable;
 use hl_base::OutOfMemory;
 use std::alloc::Global;
@@ -12,6 +12,8 @@ pub enum Table {
     MachineOperands,
     /// What is said of the operands of a machine instruction.
     OperandChecks,
+    /// What is said of USING and DROP, and what is covered behind them.
+    UsingStatements,
 }
 
 impl CaseTable for Table {
@@ -19,6 +21,7 @@ impl CaseTable for Table {
         match word {
             "machine_operands" => Some(Table::MachineOperands),
             "operand_checks" => Some(Table::OperandChecks),
+            "using_statements" => Some(Table::UsingStatements),
             _ => None,
         }
     }
@@ -44,6 +47,12 @@ impl CaseTable for Table {
                 };
                 checks::said(alloc, &words, given.as_str(), statement.as_str())
             }
+            (Table::UsingStatements, [symbols, statements, addresses]) => usings::covered(
+                alloc,
+                symbols.as_str(),
+                statements.as_str(),
+                addresses.as_str(),
+            ),
             _ => Ok(String::from_str(alloc, "of other fields than the table's")?),
         }
     }

@@ -1,13 +1,13 @@
 -- How a sublist is read on.
-use Rattle.std.proofs.Common.{◌≡◌, ◌∙◌, ℕ, ◌+◌, ◌<◌, Bool, true, false, cond, Option, Some, None, List, [], ◌∷◌, ◌++◌, length, drop, get_or, refl, sym, ap, subst, append-nil}
-use Rattle.std.specs.Prelude.{◌==◌, option_map}
+use Rattle.std.proofs.Common.{◌≡◌, ◌∙◌, ℕ, ◌+◌, ◌<◌, Bool, true, false, cond, Option, Some, None, List, [], ◌∷◌, ◌++◌, length, take, drop, get_or, refl, sym, ap, subst, append-nil}
+use Rattle.std.specs.Prelude.{◌==◌, chars, option_map}
 use Rattle.std.proofs.lemmas.Bool.{eq-eqb}
 use Rattle.std.proofs.lemmas.List.{at_drop_more}
 use Rattle.hl_base.specs.Quoting.{IsBehind, depth}
 use Rattle.operand_list.specs.declared.split.Parting.{Parting}
 use Rattle.operand_list.specs.declared.split_elements.Stage.{Stage}
 use Rattle.operand_list.specs.declared.split_elements.Stage.TheVariants.{Outside, Within, Closed, Broken}
-use Rattle.operand_list.specs.Split.{parts, whole_parts}
+use Rattle.operand_list.specs.Split.{left_of, part_of, parts, whole_parts}
 use Rattle.operand_list.specs.SplitSublist.{at_end, closed_by, closed_elements, IsListed}
 use Rattle.operand_list.proofs.SplitLaws.{with_front-nil, Reads}
 
@@ -21,22 +21,24 @@ map-twice f g (Some x) = refl
 
 -- a first character that is no parenthesis
 pub listed-broken : (parting : Parting) (c : ℕ) (rest : List ℕ) (whole : Option (List (List ℕ))) → (c == 40) ≡ false → IsListed Outside parting (c ∷ rest) whole → IsListed Broken parting rest whole
-listed-broken parting c rest whole other listed = sym (ap (λ b. option_map (parts 1 (40 ∷ [])) (cond b (closed_by (c ∷ []) rest) None)) other) ∙ listed.3
+listed-broken parting c rest whole other listed = sym (ap (λ b. option_map (parts 1 (40 ∷ [])) (cond b (closed_by (c ∷ []) rest) None)) other) ∙ listed.4
 
 -- the parenthesis that opens it
-pub listed-opened : (old new : Parting) (c : ℕ) (rest : List ℕ) (whole : Option (List (List ℕ))) → c ≡ 40 → new.done ≡ old.done → new.part ≡ old.part
+pub listed-opened : (old new : Parting) (c : ℕ) (rest : List ℕ) (whole : Option (List (List ℕ))) → c ≡ 40 → new.done ≡ old.done → new.count ≡ 0 → chars new.from.now ≡ drop 1 (chars old.from.now)
     → ((before : List ℕ) → IsBehind old.nesting before → IsBehind new.nesting (c ∷ before)) → IsListed Outside old (c ∷ rest) whole → IsListed Within new rest whole
-listed-opened old new c rest whole at done part reads listed =
-    let is : (c == 40) ≡ true = eq-eqb c 40 at in (
+listed-opened old new c rest whole at done count from reads listed =
+    let is : (c == 40) ≡ true = eq-eqb c 40 at in
+    let here : chars old.from.now ≡ c ∷ rest = ap (λ n. drop n (chars old.from.now)) (sym listed.2) ∙ listed.3 in (
       c ∷ [],
       reads [] listed.0,
-      map-same (λ inner. whole_parts 1 new.done new.part (c ∷ []) inner) (parts 1 (40 ∷ [])) (closed_by (c ∷ []) rest) (λ inner.
-          ap (λ d. whole_parts 1 d new.part (c ∷ []) inner) (done ∙ listed.1)
-          ∙ ap (λ p. whole_parts 1 [] p (c ∷ []) inner) (part ∙ listed.2)
+      ap (λ n. drop n (chars new.from.now)) count ∙ from ∙ ap (drop 1) here,
+      map-same (λ inner. whole_parts 1 new.done (part_of new) (c ∷ []) inner) (parts 1 (40 ∷ [])) (closed_by (c ∷ []) rest) (λ inner.
+          ap (λ d. whole_parts 1 d (part_of new) (c ∷ []) inner) (done ∙ listed.1)
+          ∙ ap (λ n. whole_parts 1 [] (take n (chars new.from.now)) (c ∷ []) inner) count
           ∙ with_front-nil 1 (c ∷ []) inner
           ∙ ap (λ k. parts 1 (k ∷ []) inner) at)
           ∙ sym (ap (λ b. option_map (parts 1 (40 ∷ [])) (cond b (closed_by (c ∷ []) rest) None)) is)
-          ∙ listed.3,
+          ∙ listed.4,
     )
 
 closed-end : (done : List (List ℕ)) (part before rest : List ℕ) → option_map (λ inner. whole_parts 1 done part before inner) (at_end rest) ≡ closed_elements (done ++ part ∷ []) rest
@@ -48,24 +50,26 @@ pub listed-closed : (parting : Parting) (c : ℕ) (rest : List ℕ) (whole : Opt
     → ((before : List ℕ) → IsBehind parting.nesting before → yes ≡ (depth (c ∷ before) == 0)) → IsListed Within parting (c ∷ rest) whole → IsListed Closed parting rest whole
 listed-closed parting c rest whole shut is closes listed =
     let before = listed.0 in
-    let F = λ (inner : List ℕ). whole_parts 1 parting.done parting.part before inner in
-    sym (closed-end parting.done parting.part before rest)
+    let F = λ (inner : List ℕ). whole_parts 1 parting.done (part_of parting) before inner in
+    sym (closed-end parting.done (part_of parting) before rest)
     ∙ sym (ap (λ b. option_map F (cond b (at_end rest) (option_map (λ inner. c ∷ inner) (closed_by (c ∷ before) rest)))) (sym (closes before listed.1) ∙ is))
-    ∙ listed.2
+    ∙ listed.3
 
 -- any other character within it
 pub listed-within : (old new : Parting) (c : ℕ) (rest : List ℕ) (whole : Option (List (List ℕ))) (yes : Bool) → yes ≡ false
     → ((before : List ℕ) → IsBehind old.nesting before → yes ≡ (depth (c ∷ before) == 0)) → Reads 1 old new c → IsListed Within old (c ∷ rest) whole → IsListed Within new rest whole
 listed-within old new c rest whole shut is closes reads listed =
     let before = listed.0 in
-    let F = λ (inner : List ℕ). whole_parts 1 old.done old.part before inner in
-    let G = λ (inner : List ℕ). whole_parts 1 new.done new.part (c ∷ before) inner in (
+    let step = reads before rest listed.1 listed.2 in
+    let F = λ (inner : List ℕ). whole_parts 1 old.done (part_of old) before inner in
+    let G = λ (inner : List ℕ). whole_parts 1 new.done (part_of new) (c ∷ before) inner in (
       c ∷ before,
-      (reads before [] listed.1).0,
-      map-same G (λ inner. F (c ∷ inner)) (closed_by (c ∷ before) rest) (λ inner. (reads before inner listed.1).1)
+      step.0,
+      step.1,
+      map-same G (λ inner. F (c ∷ inner)) (closed_by (c ∷ before) rest) (λ inner. step.2 inner)
           ∙ sym (map-twice F (λ inner. c ∷ inner) (closed_by (c ∷ before) rest))
           ∙ sym (ap (λ b. option_map F (cond b (at_end rest) (option_map (λ inner. c ∷ inner) (closed_by (c ∷ before) rest)))) (sym (closes before listed.1) ∙ is))
-          ∙ listed.2,
+          ∙ listed.3,
     )
 
 pub listed-past : (parting : Parting) (c : ℕ) (rest : List ℕ) (whole : Option (List (List ℕ))) → IsListed Closed parting (c ∷ rest) whole → IsListed Broken parting rest whole

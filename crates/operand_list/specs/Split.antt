@@ -1,6 +1,7 @@
 -- The operands of a field. HLASM Language Reference SC26-4940, "Operand entry": commas outside quotes and parentheses
 -- stand between operands. What stands before a character is the list of the characters before it, the nearest first.
-use Rattle.std.specs.Prelude.{◌≡◌, ℕ, Bool, not, ◌&&◌, ◌==◌, List, [], ◌∷◌, ◌++◌, if◌then◌else◌}
+use Rattle.std.specs.Prelude.{◌≡◌, ℕ, Bool, not, ◌&&◌, ◌==◌, List, [], ◌∷◌, ◌++◌, take, drop, if◌then◌else◌}
+use Rattle.std.specs.Str.{chars}
 use Rattle.std.specs.List.{onto_first}
 use Rattle.hl_base.specs.Quoting.{is_quoted, depth, IsBehind}
 use Rattle.operand_list.specs.declared.split.Parting.{Parting}
@@ -27,6 +28,14 @@ abbrev pub with_front : List ℕ → List (List ℕ) → List (List ℕ)
 with_front front [] = front ∷ []
 with_front front (part ∷ rest) = (front ++ part) ∷ rest
 
+-- what is read of the text that is read on
+abbrev pub part_of : Parting → List ℕ
+part_of parting = take parting.count (chars parting.from.now)
+
+-- what is left behind it
+abbrev pub left_of : Parting → List ℕ
+left_of parting = drop parting.count (chars parting.from.now)
+
 -- all texts, where some are read and this is left, behind these characters
 abbrev pub whole_parts : (level : ℕ) (done : List (List ℕ)) (part before rest : List ℕ) → List (List ℕ)
 whole_parts level done part before rest = done ++ with_front part (parts level before rest)
@@ -35,4 +44,5 @@ whole_parts level done part before rest = done ++ with_front part (parts level b
 pub record IsParted (level : ℕ) (parting : Parting) (rest : List ℕ) (whole : List (List ℕ)) : Type 0 where
   pub before : List ℕ
   pub behind : IsBehind parting.nesting before
-  pub same : whole_parts level parting.done parting.part before rest ≡ whole
+  pub left : left_of parting ≡ rest
+  pub same : whole_parts level parting.done (part_of parting) before rest ≡ whole

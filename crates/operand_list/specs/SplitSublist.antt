@@ -5,7 +5,7 @@ use Rattle.hl_base.specs.Quoting.{depth, IsBehind}
 use Rattle.operand_list.specs.declared.split.Parting.{Parting}
 use Rattle.operand_list.specs.declared.split_elements.Stage.{Stage}
 use Rattle.operand_list.specs.declared.split_elements.Stage.TheVariants.{Outside, Within, Closed, Broken}
-use Rattle.operand_list.specs.Split.{parts, whole_parts}
+use Rattle.operand_list.specs.Split.{left_of, part_of, parts, whole_parts}
 
 -- nothing, where nothing follows
 abbrev pub at_end : List ℕ → Option (List ℕ)
@@ -37,9 +37,9 @@ closed_elements elements (c ∷ rest) = None
 
 -- what was read and what is left have these elements
 abbrev pub IsListed : Stage → Parting → (rest : List ℕ) → Option (List (List ℕ)) → Type 0
-IsListed Outside parting rest whole = IsBehind parting.nesting [] × (parting.done ≡ []) × (parting.part ≡ []) × (elements_of rest ≡ whole)
+IsListed Outside parting rest whole = IsBehind parting.nesting [] × (parting.done ≡ []) × (parting.count ≡ 0) × (left_of parting ≡ rest) × (elements_of rest ≡ whole)
 IsListed Within parting rest whole =
-    (before : List ℕ) × IsBehind parting.nesting before
-    × (option_map (λ inner. whole_parts 1 parting.done parting.part before inner) (closed_by before rest) ≡ whole)
-IsListed Closed parting rest whole = closed_elements (parting.done ++ parting.part ∷ []) rest ≡ whole
+    (before : List ℕ) × IsBehind parting.nesting before × (left_of parting ≡ rest)
+    × (option_map (λ inner. whole_parts 1 parting.done (part_of parting) before inner) (closed_by before rest) ≡ whole)
+IsListed Closed parting rest whole = closed_elements (parting.done ++ part_of parting ∷ []) rest ≡ whole
 IsListed Broken parting rest whole = None ≡ whole

@@ -10,6 +10,3 @@ mod split_elements;
 
 pub use split::{Operands, split_operands};
 pub use split_elements::split_sublist;
-
-#[cfg(test)]
-mod split_tests;

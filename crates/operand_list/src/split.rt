@@ -1,13 +1,13 @@
 //! Operands, and how a field is split into them.
-ghost use Rattle.std.specs.Prelude.{◌≡◌, ◌==◌, ℕ, List, [], ◌∷◌, ◌++◌, IfOk, OnOk, OnErr};
+ghost use Rattle.std.specs.Prelude.{◌≡◌, ◌==◌, ℕ, List, [], ◌∷◌, ◌++◌, ◌+◌, drop, IfOk, OnOk, OnErr};
 ghost use Rattle.std.specs.Str.{chars};
 ghost use Rattle.hl_base.specs.Quoting.{IsBehind, depth};
 ghost use Rattle.operand_list.specs.Split as spec;
 
 use hl_base::{Nesting, OutOfMemory, Text};
+use hlasm_statements::split_columns;
 use std::alloc::Global;
 use std::marker::Model;
-use std::mem;
 
 /// Operands in order, or the elements of a sublist. Contracts see the list of their texts.
 #[derive(Drop)]
@@ -61,52 +61,77 @@ impl Operands {
     }
 }
 
-/// The texts between the commas so far, the one that is read on, and how the next character stands.
+/// The texts between the commas so far, what is left of the field from the beginning of the one that is read on, how many
+/// characters of this are read, and how the next one stands.
 #[derive(Drop)]
-pub struct Parting {
+pub struct Parting<'a> {
     done: Operands,
-    part: Text,
+    from: &'a str,
+    count: usize,
     nesting: Nesting,
 }
 
-impl Parting {
-    ghost use Rattle.operand_list.specs.Split.{whole_parts};
+impl<'a> Parting<'a> {
+    ghost use Rattle.operand_list.specs.Split.{left_of, part_of, whole_parts};
 
-    pub fn new(alloc: Global) -> Parting
+    pub fn new(alloc: Global, text: &'a str) -> Parting<'a>
         ensures behind { IsBehind result.nesting [] }
         ensures none { result.done ≡ [] }
-        ensures empty { result.part ≡ [] }
+        ensures count { result.count ≡ 0 }
+        ensures from { result.from.now ≡ text.now }
     {
         Parting {
             done: Operands::new(alloc),
-            part: Text::new(alloc),
+            from: text,
+            count: 0,
             nesting: Nesting::new(),
         }
     }
 
     /// Reads the next character, where the commas in so many parentheses separate.
     pub fn read(&mut self, alloc: Global, level: u32, c: char) -> Result<(), OutOfMemory>
-        ensures { OnOk result ((before rest : List ℕ) → IsBehind self.old.nesting before
+        ensures { OnOk result ((before left : List ℕ) → IsBehind self.old.nesting before → left_of self.old ≡ c ∷ left
             → IsBehind self.new.nesting (c ∷ before)
-            × (whole_parts level self.new.done self.new.part (c ∷ before) rest ≡ whole_parts level self.old.done self.old.part before (c ∷ rest))) }
+            × (left_of self.new ≡ left)
+            × ((rest : List ℕ) → whole_parts level self.new.done (part_of self.new) (c ∷ before) rest
+            ≡ whole_parts level self.old.done (part_of self.old) before (c ∷ rest))) }
     {
         let separates = is_separator(self.nesting, level, c);
         self.nesting.read(c)?;
         if separates {
-            self.done
-                .push(mem::replace(&mut self.part, Text::new(alloc)))?;
+            self.cut(alloc)?;
             return Ok(());
         }
-        push(&mut self.part, c)
+        let count = one_more(self.count)?;
+        self.count = count;
+        Ok(())
     }
 
-    /// Reads a character that belongs to no text.
+    /// Ends the text that is read on before the next character, and begins another behind it.
+    fn cut(&mut self, alloc: Global) -> Result<(), OutOfMemory>
+        ensures nesting { self.new.nesting ≡ self.old.nesting }
+        ensures done { OnOk result (self.new.done ≡ self.old.done ++ part_of self.old ∷ []) }
+        ensures count { OnOk result (self.new.count ≡ 0) }
+        ensures from { OnOk result (chars self.new.from.now ≡ drop 1 (left_of self.old)) }
+    {
+        let (part, left) = split_columns(self.from, self.count);
+        self.done.push(Text::of(alloc, part)?)?;
+        self.from = split_columns(left, 1).1;
+        self.count = 0;
+        Ok(())
+    }
+
+    /// Reads a character that belongs to no text, and begins one behind it.
     pub fn open(&mut self, c: char) -> Result<(), OutOfMemory>
         ensures done { self.new.done ≡ self.old.done }
-        ensures part { self.new.part ≡ self.old.part }
+        ensures count { OnOk result (self.new.count ≡ 0) }
+        ensures from { OnOk result (chars self.new.from.now ≡ drop 1 (chars self.old.from.now)) }
         ensures behind { OnOk result ((before : List ℕ) → IsBehind self.old.nesting before → IsBehind self.new.nesting (c ∷ before)) }
     {
-        self.nesting.read(c)
+        self.nesting.read(c)?;
+        self.from = split_columns(self.from, 1).1;
+        self.count = 0;
+        Ok(())
     }
 
     /// Whether no parenthesis is open behind the next character.
@@ -119,21 +144,20 @@ impl Parting {
     }
 
     /// The texts, with the one that was read last.
-    pub fn close(self) -> Result<Operands, OutOfMemory>
-        ensures { IfOk result (λ s. s ≡ self.done ++ self.part ∷ []) }
+    pub fn close(self, alloc: Global) -> Result<Operands, OutOfMemory>
+        ensures { IfOk result (λ s. s ≡ self.entry.done ++ part_of self.entry ∷ []) }
     {
         let mut done = self.done;
-        done.push(self.part)?;
+        done.push(Text::of(alloc, split_columns(self.from, self.count).0)?)?;
         Ok(done)
     }
 }
 
-/// Adds a character behind a text. An `Err` changes nothing.
-fn push(text: &mut Text, c: char) -> Result<(), OutOfMemory>
-    ensures ok { OnOk result (text.new ≡ text.old ++ c ∷ []) }
-    ensures err { OnErr result (text.new ≡ text.old) }
+/// One more than so many.
+fn one_more(count: usize) -> Result<usize, OutOfMemory>
+    ensures { IfOk result (λ more. more ≡ count + 1) }
 {
-    text.push_str(c.encode_utf8(&mut [0; 4]))
+    count.checked_add(1).ok_or(OutOfMemory)
 }
 
 fn is_separator(nesting: Nesting, level: u32, c: char) -> bool
@@ -147,12 +171,12 @@ fn is_separator(nesting: Nesting, level: u32, c: char) -> bool
 pub fn split_operands(alloc: Global, text: &str) -> Result<Operands, OutOfMemory>
     ensures { IfOk result (λ s. s ≡ spec.operands_of (chars text.now)) }
 {
-    let mut parting = Parting::new(alloc);
+    let mut parting = Parting::new(alloc, text);
     if text.is_empty() {
         return Ok(parting.done);
     }
     for c in text.chars() {
         parting.read(alloc, 0, c)?;
     }
-    parting.close()
+    parting.close(alloc)
 }

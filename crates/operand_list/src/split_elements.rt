@@ -23,12 +23,12 @@ enum Stage {
 
 /// A text that may be a sublist, as far as it is read.
 #[derive(Drop)]
-struct Sublist {
+struct Sublist<'a> {
     stage: Stage,
-    parting: Parting,
+    parting: Parting<'a>,
 }
 
-impl Sublist {
+impl Sublist<'_> {
     ghost use Rattle.operand_list.specs.SplitSublist.{IsListed};
 
     /// Reads the next character.
@@ -73,11 +73,11 @@ impl Sublist {
     }
 
     /// The elements, where all of the text is read.
-    fn close(self) -> Result<Option<Operands>, OutOfMemory>
-        ensures { IfOk result (λ found. (whole : Option (List (List ℕ))) → IsListed self.stage self.parting [] whole → found ≡ whole) }
+    fn close(self, alloc: Global) -> Result<Option<Operands>, OutOfMemory>
+        ensures { IfOk result (λ found. (whole : Option (List (List ℕ))) → IsListed self.entry.stage self.entry.parting [] whole → found ≡ whole) }
     {
         match self.stage {
-            Stage::Closed => Ok(Some(self.parting.close()?)),
+            Stage::Closed => Ok(Some(self.parting.close(alloc)?)),
             _ => Ok(None),
         }
     }
@@ -90,10 +90,10 @@ pub fn split_sublist(alloc: Global, text: &str) -> Result<Option<Operands>, OutO
 {
     let mut sublist = Sublist {
         stage: Stage::Outside,
-        parting: Parting::new(alloc),
+        parting: Parting::new(alloc, text),
     };
     for c in text.chars() {
         sublist.read(alloc, c)?;
     }
-    sublist.close()
+    sublist.close(alloc)
 }

@@ -4,6 +4,7 @@ pub mod AskingLaws
 mod CallLaws
 pub mod DebuggerLaws
 pub mod EventLaws
+pub mod FigureLaws
 pub mod FreshLaws
 pub mod LaunchLaws
 pub mod ListLaws

@@ -1,6 +1,7 @@
 pub mod Codes
 pub mod Debugging
 pub mod Diagnostics
+pub mod Figures
 pub mod Held
 pub mod Inside
 pub mod Laws

@@ -12,12 +12,13 @@
 //! `notifications` (documents) and `watching` (files) take the others, `settling` takes leave of documents that are no
 //! programs any more, `debugging` takes debug messages, `symbols` takes requests on symbols and answers them, and `replies` has
 //! the bodies written. `standing` has the state and its Turns, `programs` the queue, the documents by number and what was
-//! published, `lists` the list of a program, its trace and what it tells of names.
+//! published, `lists` the list of a program, its trace and what it tells of names, and `figures` its figures.
 #![tactic(auto)]
 
 mod bodies;
 mod debugging;
 mod fault;
+mod figures;
 pub mod laws;
 mod lifecycle;
 mod lists;
@@ -36,4 +37,5 @@ mod watching;
 
 pub use fault::SessionFault;
 pub use phase::Phase;
+pub use program_figures::Summary;
 pub use session::Session;

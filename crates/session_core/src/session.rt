@@ -1,5 +1,7 @@
 //! The session, as `run` drives it.
 ghost use Rattle.std.specs.Prelude.{◌≡◌, ◌≢◌, ◌≤◌, [], IfOk, OnOk, OnErr, MatchBool};
+ghost use Rattle.std.specs.Str.{chars};
+ghost use Rattle.session_core.specs.Figures.{summary_named, global_named};
 ghost use Rattle.session_core.specs.Held.{beginning, phase_of, Comes, ComesOver};
 ghost use Rattle.session_core.specs.Inside.{Adds, HearsOver, KeepsOutput};
 ghost use Rattle.session_core.specs.Message.{event, message};
@@ -8,8 +10,9 @@ ghost use Rattle.session_core.specs.Turn.{turn};
 use crate::standing::Standing;
 use crate::state::Stage;
 use crate::{Phase, SessionFault};
-use hl_base::{Ledger, OutOfMemory, Steps};
+use hl_base::{Ledger, Name, OutOfMemory, Steps};
 use io_edge::Library;
+use program_figures::Summary;
 use std::alloc::Global;
 use std::marker::Model;
 use std::mem;
@@ -146,5 +149,39 @@ impl Session {
         ensures rest { self.new ≡ record self.old { output = [] } }
     {
         mem::replace(&mut self.output, Vec::new(self.alloc))
+    }
+
+    /// How many points, ordinary symbols and notes an assembly has of the program that a URI names: of its text, its group's members
+    /// and the configuration as they are now. There are none where it is no assembled program: a program is one from its first Turn
+    /// on, but while it is queued. It is assembled for it once more, and nothing changes.
+    pub fn summary<L: Ledger>(
+        &self,
+        alloc: Global,
+        uri: &str,
+        steps: &mut Steps<L>,
+    ) -> Result<Option<Summary>, OutOfMemory>
+        ensures { IfOk result (λ summary. summary ≡ summary_named self.now.state (chars uri.now)) }
+    {
+        match self.standing.figures_named(alloc, uri, steps)? {
+            Some(figures) => Ok(Some(figures.summary)),
+            None => Ok(None),
+        }
+    }
+
+    /// What the global SETA symbol of a name holds at the end of that assembly. There is none where it is no assembled program, and
+    /// where no such symbol is declared in it without a subscript.
+    pub fn global_at_end<L: Ledger>(
+        &self,
+        alloc: Global,
+        uri: &str,
+        name: &Name,
+        steps: &mut Steps<L>,
+    ) -> Result<Option<i32>, OutOfMemory>
+        ensures { IfOk result (λ number. number ≡ global_named self.now.state (chars uri.now) name.now) }
+    {
+        match self.standing.figures_named(alloc, uri, steps)? {
+            Some(figures) => Ok(figures.global(name)),
+            None => Ok(None),
+        }
     }
 }

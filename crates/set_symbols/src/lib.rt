@@ -17,6 +17,3 @@ pub use fault::SetFault;
 pub use laws::{declared_symbols_stand, set_values_stand};
 pub use symbol::Declared;
 pub use table::{LAST_ELEMENT, SetTable};
-
-#[cfg(test)]
-mod tests;

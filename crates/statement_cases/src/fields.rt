@@ -1,16 +1,9 @@
 //! What fields of conditional assembly say.
+use crate::trees::fault;
 use conditional_fields::{Goto, Piece, Template, ago, declarations, ended};
 use hl_base::{Declaration, OutOfMemory, SetKind};
-use operand_grammar::{Expr, SyntaxFault};
+use operand_grammar::Expr;
 use std::alloc::{AllocError, Global};
-
-/// The place of a fault.
-fn place(alloc: Global, fault: SyntaxFault) -> Result<String, OutOfMemory> {
-    match fault {
-        SyntaxFault::At(place) => Ok(format!(in alloc; "at {place}")?),
-        SyntaxFault::OutOfMemory => Err(OutOfMemory),
-    }
-}
 
 /// Words with blanks between them.
 fn push_word(line: &mut String, word: &str) -> Result<(), AllocError> {
@@ -34,7 +27,7 @@ fn names(alloc: Global, list: &[Declaration]) -> Result<String, AllocError> {
 pub fn declared(alloc: Global, field: &str) -> Result<String, OutOfMemory> {
     match declarations(alloc, SetKind::B, true, field) {
         Ok(list) => Ok(names(alloc, list.as_slice())?),
-        Err(fault) => place(alloc, fault),
+        Err(stop) => fault(alloc, stop),
     }
 }
 
@@ -56,7 +49,7 @@ fn labels(alloc: Global, goto: &Goto) -> Result<String, AllocError> {
 pub fn branches(alloc: Global, field: &str) -> Result<String, OutOfMemory> {
     match ago(alloc, field) {
         Ok(goto) => Ok(labels(alloc, &goto)?),
-        Err(fault) => place(alloc, fault),
+        Err(stop) => fault(alloc, stop),
     }
 }
 
@@ -85,7 +78,7 @@ fn barred(alloc: Global, pieces: &[Piece]) -> Result<String, AllocError> {
 pub fn pieces(alloc: Global, field: &str) -> Result<String, OutOfMemory> {
     match Template::read(alloc, field) {
         Ok(template) => Ok(barred(alloc, template.pieces.as_slice())?),
-        Err(fault) => place(alloc, fault),
+        Err(stop) => fault(alloc, stop),
     }
 }
 

@@ -1,13 +1,26 @@
 //! The tables by their words.
-use crate::{calls, fields, statements};
+use crate::{calls, evaluations, fields, statements, trees};
 use case_lines::CaseTable;
 use case_words::Surroundings;
 use hl_base::OutOfMemory;
+use operand_grammar::{parse_arith, parse_char, parse_logic, parse_ordinary};
 use std::alloc::Global;
 
 /// What a table's cases ask.
 #[derive(Clone, Copy, Drop)]
 pub enum Table {
+    /// The trees of expressions.
+    ArithmeticTrees,
+    OrdinaryTrees,
+    CharacterTrees,
+    LogicalTrees,
+
+    /// The values of expressions, and their notes.
+    Numbers,
+    Truths,
+    Texts,
+    NoteTexts,
+
     /// What a field declares.
     Declarations,
 
@@ -38,27 +51,46 @@ fn other_fields(alloc: Global) -> Result<String, OutOfMemory> {
 /// What is answered to one text.
 fn answer_of_text(alloc: Global, table: Table, text: &str) -> Result<String, OutOfMemory> {
     match table {
+        Table::ArithmeticTrees => trees::answer(alloc, parse_arith(alloc, text)),
+        Table::OrdinaryTrees => trees::answer(alloc, parse_ordinary(alloc, text)),
+        Table::CharacterTrees => trees::answer(alloc, parse_char(alloc, text)),
+        Table::LogicalTrees => trees::answer(alloc, parse_logic(alloc, text)),
         Table::Declarations => fields::declared(alloc, text),
         Table::Branches => fields::branches(alloc, text),
         Table::Templates => fields::pieces(alloc, text),
         Table::FieldEnds => fields::ending(alloc, text),
-        Table::Effects => statements::first_effect(alloc, text, &mut Surroundings::nothing()),
-        Table::Calls => calls::first_call(alloc, text, &mut Surroundings::nothing()),
-        Table::Operations => other_fields(alloc),
+        _ => answer_among(alloc, table, &mut Surroundings::nothing(), text),
     }
 }
 
-/// What is answered to a statement among what is worded so.
+/// What is answered to a text among what surrounds it.
 fn answer_among(
+    alloc: Global,
+    table: Table,
+    among: &mut Surroundings,
+    text: &str,
+) -> Result<String, OutOfMemory> {
+    match table {
+        Table::Numbers => evaluations::number(alloc, text, among),
+        Table::Truths => evaluations::truth(alloc, text, among),
+        Table::Texts => evaluations::text(alloc, text, among),
+        Table::NoteTexts => evaluations::note_texts(alloc, text, among),
+        Table::Effects => statements::first_effect(alloc, text, among),
+        Table::Calls => calls::first_call(alloc, text, among),
+        _ => other_fields(alloc),
+    }
+}
+
+/// What is answered to a text among what is worded so.
+fn answer_worded(
     alloc: Global,
     table: Table,
     words: &str,
     text: &str,
 ) -> Result<String, OutOfMemory> {
-    match (table, Surroundings::read(alloc, words)?) {
-        (Table::Effects, Some(mut among)) => statements::first_effect(alloc, text, &mut among),
-        (Table::Calls, Some(mut among)) => calls::first_call(alloc, text, &mut among),
-        _ => other_fields(alloc),
+    match Surroundings::read(alloc, words)? {
+        Some(mut among) => answer_among(alloc, table, &mut among, text),
+        None => other_fields(alloc),
     }
 }
 
@@ -79,6 +111,14 @@ fn answer_of_operation(
 impl CaseTable for Table {
     fn named(word: &str) -> Option<Table> {
         match word {
+            "arithmetic_trees" => Some(Table::ArithmeticTrees),
+            "ordinary_trees" => Some(Table::OrdinaryTrees),
+            "character_trees" => Some(Table::CharacterTrees),
+            "logical_trees" => Some(Table::LogicalTrees),
+            "numbers" => Some(Table::Numbers),
+            "truths" => Some(Table::Truths),
+            "texts" => Some(Table::Texts),
+            "note_texts" => Some(Table::NoteTexts),
             "declarations" => Some(Table::Declarations),
             "branches" => Some(Table::Branches),
             "templates" => Some(Table::Templates),
@@ -99,7 +139,7 @@ impl CaseTable for Table {
                 label.as_str(),
                 field.as_str(),
             ),
-            (table, [words, text]) => answer_among(alloc, table, words.as_str(), text.as_str()),
+            (table, [words, text]) => answer_worded(alloc, table, words.as_str(), text.as_str()),
             (table, [text]) => answer_of_text(alloc, table, text.as_str()),
             _ => other_fields(alloc),
         }

@@ -54,7 +54,7 @@ pub fn edits_worded(alloc: Global, words: &str) -> Result<Edits, OutOfMemory> {
 }
 
 /// A text, or how many bytes a long one has.
-fn shown(alloc: Global, text: String) -> Result<String, OutOfMemory> {
+pub fn shown(alloc: Global, text: String) -> Result<String, OutOfMemory> {
     if text.len() > LONGEST_SHOWN {
         return Ok(format!(in alloc; "{} bytes", text.len())?);
     }

@@ -1,11 +1,12 @@
 //! Calls of a store of documents, and what each answers.
 ghost use Rattle.std.specs.Prelude.{◌≤◌, length, IfSome};
+ghost use Rattle.text_pool.specs.Pool.{IsLive};
 
-use crate::changes::{edits_worded, refusal};
+use crate::changes::{edits_worded, refusal, shown};
 use document_store::{DocumentStore, MemberText, StoreFault};
-use hl_base::{Edits, OutOfMemory, PathId};
+use hl_base::{Edits, OutOfMemory, PathId, TextId};
 use std::alloc::Global;
-use text_pool::LONGEST_TEXT;
+use text_pool::{LONGEST_TEXT, PoolFault, TextPool};
 
 /// What stands before the first blank, and what stands behind it.
 fn cut(words: &str) -> (&str, &str) {
@@ -155,6 +156,57 @@ fn version(alloc: Global, store: &DocumentStore, words: &str) -> Result<String, 
     }
 }
 
+/// The number of the text that is present at a path.
+fn text_id(store: &DocumentStore, path: &str) -> Option<TextId>
+    ensures { IfSome result (λ id. IsLive store.now.pool id.0) }
+{
+    match store.present(store.path_id(path)?)? {
+        MemberText::File(id) => Some(id),
+        MemberText::Unreadable => None,
+    }
+}
+
+/// `text PATH`: the number of the text that is present there, and the text.
+fn text_at(alloc: Global, store: &DocumentStore, path: &str) -> Result<String, OutOfMemory> {
+    let Some(id) = text_id(store, path) else {
+        return Ok(String::from_str(alloc, "no text")?);
+    };
+    let text = shown(alloc, String::from_str(alloc, store.pool().text(id))?)?;
+    Ok(format!(in alloc; "{} {text}", id.0)?)
+}
+
+/// `line NUMBER PATH`: the line of that number, from 0, of the text that is present there, in brackets.
+fn line_at(alloc: Global, store: &DocumentStore, words: &str) -> Result<String, OutOfMemory> {
+    let (number, path) = cut(words);
+    let number = number.parse::<u32>().unwrap_or(0);
+    let Some(id) = text_id(store, path) else {
+        return Ok(String::from_str(alloc, "no text")?);
+    };
+    match store.pool().line(id, number) {
+        Some(line) => Ok(format!(in alloc; "[{line}]")?),
+        None => Ok(String::from_str(alloc, "none")?),
+    }
+}
+
+/// `shared PATH`: the text that is present there, shared before what is kept of the file is dropped.
+fn shared(alloc: Global, store: &mut DocumentStore, path: &str) -> Result<String, OutOfMemory> {
+    let Some(id) = text_id(store, path) else {
+        return Ok(String::from_str(alloc, "no text")?);
+    };
+    let text = store.pool().shared(alloc, id)?;
+    drop_one(alloc, store, path)?;
+    Ok(String::from_str(alloc, text.as_str())?)
+}
+
+/// `intern TEXT`: the number of a text in a new pool, or why it is refused.
+fn interned(alloc: Global, text: &str) -> Result<String, OutOfMemory> {
+    match TextPool::new(alloc).intern(alloc, text) {
+        Ok(id) => Ok(format!(in alloc; "{}", id.0)?),
+        Err(PoolFault::OutOfMemory) => Err(OutOfMemory),
+        Err(PoolFault::TooLong) => Ok(format!(in alloc; "{}", PoolFault::TooLong)?),
+    }
+}
+
 /// What a call that changes nothing answers.
 fn asked(
     alloc: Global,
@@ -168,6 +220,9 @@ fn asked(
         "number" => truth(alloc, store.path_id(words).is_some()),
         "same" => same(alloc, store, words),
         "version" => version(alloc, store, words),
+        "text" => text_at(alloc, store, words),
+        "line" => line_at(alloc, store, words),
+        "intern" => interned(alloc, words),
         _ => Ok(String::from_str(alloc, "no call")?),
     }
 }
@@ -185,6 +240,7 @@ fn answer(alloc: Global, store: &mut DocumentStore, line: &str) -> Result<String
         "keep-many" => keep_many(alloc, store, words),
         "drop" => drop_one(alloc, store, words),
         "drop-all" => drop_all(alloc, store),
+        "shared" => shared(alloc, store, words),
         _ => asked(alloc, store, call, words),
     }
 }

@@ -21,6 +21,3 @@ pub use fault::PoolFault;
 pub use laws::{freed_numbers_are_free, interned_texts_stand};
 pub use pool::{LONGEST_TEXT, TextPool, live_texts_differ};
 pub use present::Present;
-
-#[cfg(test)]
-mod tests;

@@ -1,5 +1,5 @@
 //! The tables by their words.
-use crate::{links, nodes, points, stops, variables};
+use crate::{links, nodes, points, stops, symbols, variables};
 use case_lines::CaseTable;
 use hl_base::OutOfMemory;
 use std::alloc::Global;
@@ -15,6 +15,9 @@ pub enum Table {
 
     /// What is shown of the variables of a frame of a point.
     Variables,
+
+    /// Calls of a table of SET symbols.
+    SetSymbols,
 }
 
 /// What the calls of a name answer.
@@ -36,6 +39,7 @@ impl CaseTable for Table {
             "nodes" => Some(Table::Nodes),
             "chains" => Some(Table::Chains),
             "variables" => Some(Table::Variables),
+            "set_symbols" => Some(Table::SetSymbols),
             _ => None,
         }
     }
@@ -44,6 +48,7 @@ impl CaseTable for Table {
         match (*self, fields) {
             (Table::Nodes, [name]) => answer_of_name(alloc, name.as_str()),
             (Table::Chains, calls) => links::answers(alloc, calls),
+            (Table::SetSymbols, calls) => symbols::answers(alloc, calls),
             (Table::Variables, [index, frame]) => {
                 variables::answer(alloc, index.as_str(), frame.as_str())
             }

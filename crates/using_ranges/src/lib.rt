@@ -10,6 +10,3 @@ mod ranges;
 
 pub use range::{PAGE, Range};
 pub use ranges::{REGISTERS, Ranges};
-
-#[cfg(test)]
-mod tests;

@@ -8,10 +8,9 @@ pub returns : goal.returns
 unfolding command_line
 returns c =
     let program_is : app_of c.after_help-program.result ≡ program_named (codes "hlasm_ls") = search rules in
-    let count_is : rule_of c.hide-count.result ≡ option_named (codes "count") = ap rule_of c.hide-count.ensures ∙ c.number_option.ensures.rule in
     let file_is : rule_of c.hide-file.result ≡ new_rule (codes "file") = ap rule_of c.hide-file.ensures ∙ c.position.ensures.rule in
     c.in_ok-arg-4.ensures.shape (search rules)
     ∙ ap₂ with_rule (c.in_ok-arg-3.ensures.shape (search rules)
     ∙ ap₂ with_rule (c.in_ok-arg-2.ensures.shape (search rules)
     ∙ ap₂ with_rule (c.in_ok-arg.ensures.shape (search rules)
-    ∙ ap₂ with_rule program_is c.number_option-budget.ensures.rule) count_is) c.position-command.ensures.rule) file_is
+    ∙ ap₂ with_rule program_is c.number_option-budget.ensures.rule) c.number_option-count.ensures.rule) c.position-command.ensures.rule) file_is

@@ -1,7 +1,7 @@
 use Rattle.std.proofs.Common.{map, ap, refl, ◌∙◌}
 use Rattle.std.proofs.lemmas.List.{map-append}
 use Rattle.serde_json.specs.Data.{array}
-use Rattle.serde_json.specs.View.{view, items_of}
+use Rattle.serde_json.specs.View.{items_of}
 use Rattle.serde_json.proofs.Views.{view-Array}
 use Rattle.dap_messages.specs.Written.{frame_value}
 use Rattle.dap_messages.proofs.ListLaws.{take-enumerated, take-all-enumerated}
@@ -16,5 +16,6 @@ returns c =
 pub loop-index-preserved : goal.loop-index-preserved
 loop-index-preserved c =
     let one_more = take-enumerated _ _ _ c.loop-index-test.true c.index-frames-index.is in
-    rw (c.in_ok-push.ensures.items, map-append view, one_more, map-append frame_value, c.loop-index.invariant, c.in_ok-frame_json.ensures)
+    let added = c.in_ok-values-2.ensures _ c.frame_json.ensures in
+    rw (added, one_more, map-append frame_value, c.loop-index.invariant)
     refl

@@ -1,106 +1,13 @@
-use Rattle.std.proofs.Common.{ℕ, ◌≤◌, List, Option, true, false, refl, sym, ◌∙◌, subst, arith}
-use Rattle.io_edge.specs.Told.{Gives}
-use Rattle.rpc_framing.specs.Frames.{IsFrame}
-use Rattle.hlasm_server.proofs.ServeLaws.{serving_begins, nothing_asked, serving_goes_on, between_at_first, frame_falls, ends_at_once, ends_with_input, ends_with_read_fault, ends_without_memory, ends_with_exit, ends_with_bad_start, ends_with_limit, ends_stopped, HasStatusCause-stopped, status_of-is_no_BadWords}
+use Rattle.std.proofs.Common.{ap, sym, ◌∙◌}
+use Rattle.session_core.specs.Held.{Held, beginning}
+use Rattle.hlasm_server.proofs.ServeLaws.{ends_at_once}
 use Rattle.hlasm_server.proofs.serving.serve.Goals as goal
 
 pub returns-in-Err-clause-plain : goal.returns-in-Err-clause-plain
 returns-in-Err-clause-plain g c = ends_at_once _ _ _ _ _
 
-pub loop-body-init : goal.loop-body-init
-loop-body-init g c =
-    let at_first = between_at_first c.new-reader.result c.new-reader.ensures in
-    record {
-      serving = rw c.in-Ok.ensures (serving_begins _ _ _ _ _ _ _ c.new-reader.result at_first.0 at_first.1);
-      buffer = refl;
-      library = omega arith;
-    }
+pub serve_session-requires-clause-session : goal.serve_session-requires-clause-session
+serve_session-requires-clause-session g c = c.in-Ok.ensures ∙ ap beginning (sym (ap (λ (z : Held). z.state.budget) c.in-Ok.ensures))
 
-pub next_body-requires-clause-buffer : goal.next_body-requires-clause-buffer
-next_body-requires-clause-buffer g c = c.loop-body.invariant.buffer
-
-pub next_body-requires-clause-room : goal.next_body-requires-clause-room
-next_body-requires-clause-room g c = c.loop-body.invariant.serving.within
-
-pub next_body-requires-clause-between : goal.next_body-requires-clause-between
-next_body-requires-clause-between g c = c.loop-body.invariant.serving.between
-
-pub returns-in-End-clause-plain : goal.returns-in-End-clause-plain
-returns-in-End-clause-plain g c =
-    let found = c.in-End.ensures.found in
-    ends_with_input _ _ _ _ _ _ _ _ _ _ _ _ _ _ _ _ _ found.0 (nothing_asked _ _ _ _ _ _ _ _ _ _ _ _ _ _ _ _ _ c.next_body.ensures.waits c.loop-body.invariant.serving) found.1 found.2.0 found.2.1 found.2.2
-
-pub returns-in-Broken-clause-plain : goal.returns-in-Broken-clause-plain
-returns-in-Broken-clause-plain g c =
-    let found = c.in-Broken.ensures.found in
-    ends_with_bad_start _ _ _ _ _ _ _ _ _ _ _ _ _ _ _ _ _ found.0 _ (nothing_asked _ _ _ _ _ _ _ _ _ _ _ _ _ _ _ _ _ c.next_body.ensures.waits c.loop-body.invariant.serving) found.1 found.2.0 found.2.1 found.2.2
-
-pub returns-in-TooLong-clause-plain : goal.returns-in-TooLong-clause-plain
-returns-in-TooLong-clause-plain g c =
-    let found = c.in-TooLong.ensures.found in
-    ends_with_limit _ _ _ _ _ _ _ _ _ _ _ _ _ _ _ _ _ found.0 (nothing_asked _ _ _ _ _ _ _ _ _ _ _ _ _ _ _ _ _ c.next_body.ensures.waits c.loop-body.invariant.serving) found.1 found.2.0 found.2.1
-
-pub returns-in-ReadFault-clause-plain : goal.returns-in-ReadFault-clause-plain
-returns-in-ReadFault-clause-plain g c =
-    let found = c.in-ReadFault.ensures.found in
-    ends_with_read_fault _ _ _ _ _ _ _ _ _ _ _ _ _ _ _ _ _ found.0 (nothing_asked _ _ _ _ _ _ _ _ _ _ _ _ _ _ _ _ _ c.next_body.ensures.waits c.loop-body.invariant.serving) found.1 found.2.0 found.2.2
-
-pub returns-in-OutOfMemory-clause-plain : goal.returns-in-OutOfMemory-clause-plain
-returns-in-OutOfMemory-clause-plain g c =
-    let found = c.in-OutOfMemory.ensures.found in
-    ends_without_memory _ _ _ _ _ _ _ _ _ _ _ _ _ _ _ _ _ found.0 (nothing_asked _ _ _ _ _ _ _ _ _ _ _ _ _ _ _ _ _ c.next_body.ensures.waits c.loop-body.invariant.serving) found.1
-
-pub hear-requires : goal.hear-requires
-hear-requires g c = record { ready = c.loop-body.invariant.serving.ready }
-
-pub returns-in-Ok-Exit-true-clause-plain : goal.returns-in-Ok-Exit-true-clause-plain
-returns-in-Ok-Exit-true-clause-plain g c =
-    let found = c.in-Body.ensures.found in
-    let frame = subst (IsFrame found.0) (sym c.deref.ensures.value) found.2.0 in
-    let gives = subst (λ (z : Option (List ℕ)). Gives (g.S.Source.left c.loop-body.source) found.0 z) (sym c.hear.ensures.left) found.1 in
-    let heard = rw c.in-Ok-Exit-true.field-0-is at c.in-Ok-Exit-true.ensures.hears in
-    let closes = rw c.in-Ok-Exit-true.field-0-0-test at heard in
-    ends_with_exit true _ _ _ _ _ _ _ _ _ _ _ _ _ _ _ _ _ _ _ _ found.0 _ (nothing_asked _ _ _ _ _ _ _ _ _ _ _ _ _ _ _ _ _ c.next_body.ensures.waits c.loop-body.invariant.serving) gives frame (omega (arith, found.2.2, found.2.3)) closes
-
-pub returns-in-Ok-Exit-false-clause-plain : goal.returns-in-Ok-Exit-false-clause-plain
-returns-in-Ok-Exit-false-clause-plain g c =
-    let found = c.in-Body.ensures.found in
-    let frame = subst (IsFrame found.0) (sym c.deref.ensures.value) found.2.0 in
-    let gives = subst (λ (z : Option (List ℕ)). Gives (g.S.Source.left c.loop-body.source) found.0 z) (sym c.hear.ensures.left) found.1 in
-    let heard = rw c.in-Ok-Exit-false.field-0-is at c.in-Ok-Exit-false.ensures.hears in
-    let closes = rw c.in-Ok-Exit-false.field-0-0-test at heard in
-    ends_with_exit false _ _ _ _ _ _ _ _ _ _ _ _ _ _ _ _ _ _ _ _ found.0 _ (nothing_asked _ _ _ _ _ _ _ _ _ _ _ _ _ _ _ _ _ c.next_body.ensures.waits c.loop-body.invariant.serving) gives frame (omega (arith, found.2.2, found.2.3)) closes
-
-pub returns-in-Err-hear-clause-plain : goal.returns-in-Err-hear-clause-plain
-returns-in-Err-hear-clause-plain g c =
-    let found = c.in-Body.ensures.found in
-    let frame = subst (IsFrame found.0) (sym c.deref.ensures.value) found.2.0 in
-    let gives = subst (λ (z : Option (List ℕ)). Gives (g.S.Source.left c.loop-body.source) found.0 z) (sym c.hear.ensures.left) found.1 in
-    rw c.stopped.ensures (ends_stopped c.in-Err-hear.stop _ _ _ _ _ _ _ _ _ _ _ _ _ _ _ _ _ _ _ _ found.0 _ (nothing_asked _ _ _ _ _ _ _ _ _ _ _ _ _ _ _ _ _ c.next_body.ensures.waits c.loop-body.invariant.serving) gives frame (omega (arith, found.2.2, found.2.3)) c.in-Err-hear.ensures.hears)
-
-pub returns-in-Err-hear-clause-cause : goal.returns-in-Err-hear-clause-cause
-returns-in-Err-hear-clause-cause g c =
-    rw c.stopped.ensures (HasStatusCause-stopped c.in-Err-hear.stop _ _ _ _ _ c.loop-body.invariant.serving.sink_later c.hear.ensures.later c.in-Err-hear.ensures.cause)
-
-pub returns-in-Err-hear-clause-words : goal.returns-in-Err-hear-clause-words
-returns-in-Err-hear-clause-words g c = rw c.stopped.ensures (status_of-is_no_BadWords c.in-Err-hear.stop)
-
-pub loop-body-smaller : goal.loop-body-smaller
-loop-body-smaller g c =
-    let found = c.in-Body.ensures.found in
-    frame_falls _ _ found.0 _ found.2.0 found.2.2 found.2.3
-
-pub loop-body-preserved : goal.loop-body-preserved
-loop-body-preserved g c =
-    let found = c.in-Body.ensures.found in
-    let frame = subst (IsFrame found.0) (sym c.deref.ensures.value) found.2.0 in
-    let gives = subst (λ (z : Option (List ℕ)). Gives (g.S.Source.left c.loop-body.source) found.0 z) (sym c.hear.ensures.left) found.1 in
-    let heard = rw c.in-Ok-Running.field-0-is at c.in-Ok-Running.ensures.hears in
-    let later = subst (λ (z : ℕ). g.S.Source.faults c.loop-body.source ≤ z) (sym c.hear.ensures.faults) c.next_body.ensures.later in
-    record {
-      serving = serving_goes_on _ _ _ _ _ _ _ _ _ _ _ _ _ _ _ _ _ _ _ _ _ _ _ _ _ found.0 _
-          (nothing_asked _ _ _ _ _ _ _ _ _ _ _ _ _ _ _ _ _ c.next_body.ensures.waits c.loop-body.invariant.serving) frame gives found.2.1 found.2.2 found.2.3
-          (c.in-Ok-Running.ensures.ready c.in-Ok-Running.field-0-is) heard later c.hear.ensures.later;
-      buffer = c.next_body.auto.buffer ∙ c.loop-body.invariant.buffer;
-      library = omega (arith, c.loop-body.invariant.library, c.hear.ensures.later_library);
-    }
+pub returns-clause-plain : goal.returns-clause-plain
+returns-clause-plain g c = rw (ap (λ (z : Held). z.state.budget) c.in-Ok.ensures) at c.serve_session.ensures.plain

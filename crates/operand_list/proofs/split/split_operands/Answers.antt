@@ -1,4 +1,4 @@
-use Rattle.std.proofs.Common.{◌≡◌, ◌∙◌, [], sym, length, drop, arith}
+use Rattle.std.proofs.Common.{◌≡◌, ◌∙◌, [], sym, ap, length, drop, arith}
 use Rattle.std.specs.Prelude.{chars}
 use Rattle.std.proofs.lemmas.Iterator.{YieldsList-from_chars}
 use Rattle.std.proofs.lemmas.Iterator.Consumers.{YieldsList-turn, YieldsList-end}
@@ -11,7 +11,8 @@ pub returns-then-is_empty : goal.returns-then-is_empty
 returns-then-is_empty c = c.new-parting.ensures.none ∙ none-of_empty c.args.text.now (sym c.is_empty.ensures ∙ c.if-is_empty.true)
 
 pub loop-c-init : goal.loop-c-init
-loop-c-init c = parted-init c.new-parting.result (chars c.args.text.now) c.new-parting.ensures.behind c.new-parting.ensures.none c.new-parting.ensures.empty
+loop-c-init c =
+    parted-init c.new-parting.result (chars c.args.text.now) c.new-parting.ensures.behind c.new-parting.ensures.none c.new-parting.ensures.count (ap chars c.new-parting.ensures.from)
 
 pub loop-c-preserved : goal.loop-c-preserved
 loop-c-preserved c =

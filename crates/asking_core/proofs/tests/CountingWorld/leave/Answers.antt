@@ -1,8 +1,0 @@
-use Rattle.std.proofs.Common.{ap}
-use Rattle.kept_values.specs.Trees.{Leaf}
-use Rattle.asking_core.specs.Counters.{round}
-use Rattle.asking_core.proofs.CounterLaws.{counted_with, round_more}
-use Rattle.asking_core.proofs.tests.CountingWorld.leave.Goals as goal
-
-pub returns : goal.returns
-returns c = ap (λ r. counted_with (round c.args.self.now.calls) r (Leaf c.args.self.now.cell)) (round_more c.args.self.now.depth 4294967295)

@@ -1,0 +1,7 @@
+use Rattle.dap_messages.proofs.bodies.variable_json.Goals as goal
+
+pub returns : goal.returns
+returns c =
+    let made = c.object.ensures _ (c.with_number.ensures _ (c.with_text-made-2.ensures _
+    (c.with_text-made.ensures _ c.no_members.ensures))) in
+    made

@@ -1,0 +1,14 @@
+use Rattle.std.proofs.Common.{ℤ, ap, ◌∙◌}
+use Rattle.std.specs.Int.{w32}
+use Rattle.std.proofs.lemmas.Int.{to_z-of_z}
+use Rattle.std.proofs.lemmas.Result.{IfOk-weaker}
+use Rattle.dap_messages.specs.Written.{refusal_value}
+use Rattle.dap_messages.proofs.outgoing.refusal.Goals as goal
+
+pub returns : goal.returns
+returns c =
+    let made = c.object.ensures _ (c.with_word.ensures _ (c.with_flag-made.ensures _ (c.with_long-made.ensures _
+    (c.with_integer-made.ensures _ (c.with_text-made-2.ensures _ (c.with_text-made.ensures _ c.no_members.ensures)))))) in
+    IfOk-weaker c.object.result _ _
+    (λ v exact. exact ∙ ap (λ (n : ℤ). refusal_value c.args.command.now n c.args.seq c.args.message.now) (to_z-of_z w32 c.args.request c.ranges.request))
+    made

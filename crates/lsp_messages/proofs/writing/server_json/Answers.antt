@@ -1,0 +1,6 @@
+use Rattle.lsp_messages.proofs.writing.server_json.Goals as goal
+
+pub returns : goal.returns
+returns c =
+    let made = c.object.ensures _ (c.with_word.ensures _ (c.with_word-made.ensures _ c.no_members.ensures)) in
+    made

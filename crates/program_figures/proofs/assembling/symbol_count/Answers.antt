@@ -1,0 +1,16 @@
+use Rattle.std.proofs.Common.{◌≡◌, List, length, ap, ◌∙◌}
+use Rattle.hl_base.specs.declared.set.Line.{Line}
+use Rattle.section_layout.specs.Layout.{Layout, layout_of}
+use Rattle.section_layout.specs.Views.{layout_view, lines_of}
+use Rattle.trace_arena.specs.Points.{points}
+use Rattle.program_assembly.specs.Statements.{generated}
+use Rattle.program_figures.specs.Figures.{symbol_count}
+use Rattle.program_figures.proofs.assembling.symbol_count.Goals as goal
+
+pub returns : goal.returns
+unfolding symbol_count
+returns c =
+    let here = points c.args.arena.now.nodes c.args.root.0 in
+    let laid : layout_view c.in_ok-layout.layout ≡ layout_of (generated here) =
+    c.in_ok-layout.ensures ∙ ap (λ (ls : List Line). layout_of ls) (ap lines_of c.deref.ensures.value ∙ c.in_ok-lines.ensures) in
+    c.count.ensures ∙ ap (λ (l : Layout). length l.symbols) laid
