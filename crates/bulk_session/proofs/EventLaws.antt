@@ -31,7 +31,7 @@ use Rattle.session_core.specs.Replies.{initialize_reply}
 use Rattle.session_core.specs.State.{State, start, is_number, last_list, without_list, with_list}
 use Rattle.session_core.specs.Step.{Effect, quiet}
 use Rattle.session_core.specs.Turn.{assemble_first, answer_waiting, turn, is_published, without_first}
-use Rattle.program_figures.specs.Figures.{figures_of}
+use Rattle.session_core.specs.ProgramFigures.{figures_of}
 use Rattle.bulk_script.specs.Messages.{initialize_value, initialized_value, opened_value, changed_value, program_uri}
 use Rattle.bulk_script.specs.declared.texts.Place.{Place}
 use Rattle.group_members.specs.Members.{member_of}

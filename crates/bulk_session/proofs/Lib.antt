@@ -1,3 +1,5 @@
+pub use Rattle.session_core.proofs.TurnLaws
+pub use Rattle.session_core.proofs.ShortLaws
 mod AnswerLaws
 mod EditLaws
 mod EventLaws

@@ -15,9 +15,9 @@ use Rattle.session_core.specs.Message.{event, message}
 use Rattle.session_core.specs.State.{State, start}
 use Rattle.session_core.specs.Step.{Goes, Stopped, Other, Effect, step_of}
 use Rattle.session_core.specs.Turn.{turn}
-use Rattle.program_figures.specs.declared.figures.Figures.{Figures}
-use Rattle.program_figures.specs.declared.figures.Summary.{Summary}
-use Rattle.program_figures.specs.Globals.{number_of}
+use Rattle.session_core.specs.DeclaredFigures.{Figures}
+use Rattle.session_core.specs.DeclaredSummary.{Summary}
+use Rattle.session_core.specs.Globals.{number_of}
 use Rattle.bulk_script.specs.Messages.{initialize_value, initialized_value, opened_value, changed_value, program_uri}
 use Rattle.bulk_script.specs.Texts.{program_text, edited_line, first_column, end_column}
 use Rattle.bulk_script.specs.declared.texts.Place.{Place}

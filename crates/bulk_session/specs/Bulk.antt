@@ -3,9 +3,9 @@
 use Rattle.std.specs.Prelude.{ℕ, ℤ, pos, List, [], ◌∷◌, ◌++◌, ◌+◌, codes, map, Option, Some, None, unwrap_or, chars}
 use Rattle.document_store.specs.Store.{Store, OpenDocument, File, Readable}
 use Rattle.group_members.specs.Members.{member_of}
-use Rattle.program_figures.specs.declared.figures.Figures.{Figures}
-use Rattle.program_figures.specs.Figures.{figures_of}
-use Rattle.program_figures.specs.Globals.{number_of}
+use Rattle.session_core.specs.DeclaredFigures.{Figures}
+use Rattle.session_core.specs.ProgramFigures.{figures_of}
+use Rattle.session_core.specs.Globals.{number_of}
 use Rattle.bulk_script.specs.Texts.{edit_count, member_text, program_text}
 use Rattle.bulk_script.specs.Messages.{program_uri}
 use Rattle.bulk_script.specs.declared.lines.Outcome.{Outcome}

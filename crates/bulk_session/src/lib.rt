@@ -14,3 +14,4 @@ mod running;
 mod shelf;
 
 pub use running::bulk_lines;
+pub use session_core;

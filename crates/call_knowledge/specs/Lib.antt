@@ -1,3 +1,4 @@
+pub use Rattle.call_sites.specs.Values
 pub mod Knowledge
 pub mod Codes
 pub mod Standing

@@ -21,6 +21,7 @@ mod surroundings;
 mod system;
 
 pub use aim::Aim;
+pub use call_sites;
 pub use change::Change;
 pub use deed::{Deed, Put, counting};
 pub use knowledge::Knowledge;

@@ -1,2 +1,3 @@
+pub use Rattle.kept_definitions.proofs.TreeLaws
 pub mod CallLaws
 pub mod KnownLaws

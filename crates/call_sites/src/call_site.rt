@@ -4,7 +4,7 @@ ghost use Rattle.std.specs.Rc.{rc_str_bytes};
 ghost use Rattle.std.specs.Str.{chars};
 ghost use Rattle.kept_values.specs.Lists.{list_tree};
 ghost use Rattle.kept_definitions.specs.Trees.{row_tree};
-ghost use Rattle.macro_library.specs.Contents.{content_of};
+ghost use Rattle.kept_definitions.specs.Contents.{content_of};
 ghost use Rattle.call_sites.specs.Calls as calls;
 ghost use Rattle.call_sites.specs.Calls.{called, macro_called, open_code};
 

@@ -16,7 +16,7 @@ use Rattle.expression_grammar.specs.Readings.{variable_only}
 use Rattle.expression_grammar.specs.Trees.{Tree, Variable as VariableTree}
 use Rattle.expression_grammar.specs.Views.{tree_of}
 use Rattle.expression_grammar.specs.Spelling.{IsExpression, IsAt, Spells, most_parts}
-use Rattle.logical_grammar.specs.Logics.{SpellsLogic}
+use Rattle.operand_grammar.specs.Logics.{SpellsLogic}
 use Rattle.conditional_fields.specs.declared.front.Sought.{Sought}
 use Rattle.conditional_fields.specs.declared.front.Sought.TheVariants.{Number, Condition, Variable}
 use Rattle.conditional_fields.specs.Fronts.{IsSought, IsFirstClosed, Written, accepts, is_variable, IsReach}

@@ -1,3 +1,4 @@
+pub use Rattle.operand_grammar.proofs.LogicFinds
 pub mod TextLaws
 pub mod FrontLaws
 pub mod TemplateLaws

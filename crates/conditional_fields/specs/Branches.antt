@@ -3,7 +3,7 @@
 use Rattle.std.specs.Prelude.{◌≡◌, ℕ, ◌+◌, ◌⊎◌, ◌==◌, Bool, true, false, List, [], ◌∷◌, drop, slice_index, Result, Ok, Err}
 use Rattle.expression_grammar.specs.declared.fault.SyntaxFault.{SyntaxFault}
 use Rattle.expression_grammar.specs.declared.fault.SyntaxFault.TheVariants.{At, OutOfMemory}
-use Rattle.operand_list.specs.Split.{operands_of}
+use Rattle.operand_grammar.specs.Split.{operands_of}
 use Rattle.expression_grammar.specs.Trees.{Tree}
 use Rattle.expression_grammar.specs.Views.{tree_of}
 use Rattle.conditional_fields.specs.declared.front.Sought.{Sought}

@@ -5,7 +5,7 @@ use Rattle.std.specs.Char.{is_ascii_digit}
 use Rattle.hl_base.specs.Symbols.{symbol_of}
 use Rattle.hl_base.specs.declared.set.SetKind.{SetKind}
 use Rattle.hl_base.specs.declared.set.Declaration.{Declaration}
-use Rattle.operand_list.specs.Split.{operands_of}
+use Rattle.operand_grammar.specs.Split.{operands_of}
 use Rattle.conditional_fields.specs.Answers.{each, some}
 use Rattle.conditional_fields.specs.Sequences.{letter_count, symbol_reach}
 

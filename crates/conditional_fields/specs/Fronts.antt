@@ -6,7 +6,7 @@ use Rattle.expression_grammar.specs.declared.character.Grammar.TheVariants.{Arit
 use Rattle.expression_grammar.specs.declared.tree.Reference.TheVariants.{Value}
 use Rattle.expression_grammar.specs.Trees.{Tree, Variable}
 use Rattle.expression_grammar.specs.Spelling.{IsExpression, IsViable, Spells, most_parts}
-use Rattle.logical_grammar.specs.Logics.{SpellsLogic}
+use Rattle.operand_grammar.specs.Logics.{SpellsLogic}
 use Rattle.conditional_fields.specs.declared.front.Sought.{Sought}
 use Rattle.conditional_fields.specs.declared.front.Sought.TheVariants as sought
 

@@ -1,3 +1,6 @@
+pub use Rattle.operand_grammar.specs.Split
+pub use Rattle.operand_grammar.specs.Logics
+pub use Rattle.operand_grammar.specs.LogicReadings
 pub mod Fronts
 pub mod Tries
 pub mod Templates

@@ -6,7 +6,7 @@ ghost use Rattle.conditional_fields.specs.Declarations as declarations;
 ghost use Rattle.conditional_fields.specs.Sequences as sequences;
 
 use hl_base::{Name, OutOfMemory, is_letter, is_symbol_character};
-use hlasm_statements::split_columns;
+use operand_grammar::hlasm_statements::split_columns;
 
 /// How many characters a text has.
 pub fn character_count(text: &str) -> usize

@@ -13,7 +13,7 @@ use expression_grammar::front::is_variable;
 use expression_grammar::laws::one_tree;
 use expression_grammar::{parse_front, parse_variable};
 use hl_base::OutOfMemory;
-use logical_grammar::parse_logic_front;
+use operand_grammar::logical_grammar::parse_logic_front;
 use operand_grammar::{Expr, Grammar, SyntaxFault, parse_arith, parse_logic};
 use std::alloc::Global;
 

@@ -22,4 +22,5 @@ pub mod template;
 pub use branch::{Goto, Selector, ago};
 pub use declaration::declarations;
 pub use ending::ended;
+pub use operand_grammar;
 pub use template::{Piece, Template};

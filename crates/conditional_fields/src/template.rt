@@ -9,7 +9,7 @@ use crate::character::{
 };
 use crate::front::{Sought, attempt, begins_with_sought, reach};
 use hl_base::{OutOfMemory, Text};
-use hlasm_statements::split_columns;
+use operand_grammar::hlasm_statements::split_columns;
 use operand_grammar::{Expr, SyntaxFault};
 use std::alloc::Global;
 

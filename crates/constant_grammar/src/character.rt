@@ -2,7 +2,7 @@
 ghost use Rattle.std.specs.Prelude.{◌≡◌, ◌==◌, [], ◌∷◌, drop, length, take, slice_index, MatchOption};
 ghost use Rattle.std.specs.Str.{chars};
 
-use hlasm_statements::split_columns;
+use operand_list::hlasm_statements::split_columns;
 
 /// How many characters a text has.
 pub(crate) fn character_count(text: &str) -> usize

@@ -5,7 +5,7 @@ use Rattle.io_edge.specs.Told.{Gives, Gains, HasRisen}
 use Rattle.io_edge.specs.LibraryCall.{LibraryCall}
 use Rattle.hlasm_server.specs.declared.status.Status.{Status}
 use Rattle.hlasm_server.specs.declared.status.Status.TheVariants.{Done, NoShutdown, InputEnded, OutOfMemory, ReadFault, WriteFault, BadFrame, BadWords, InputTooLong}
-use Rattle.session_core.specs.Step.{written}
+use Rattle.bulk_session.specs.Step.{written}
 use Rattle.hlasm_server.specs.Hearing.{beginning_with}
 use Rattle.hlasm_server.specs.Headline.{Whole, IsPlainRun, HasStatusCause, Completes}
 use Rattle.hlasm_server.proofs.OutputLaws.{one_out}

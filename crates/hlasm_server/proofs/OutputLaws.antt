@@ -3,14 +3,14 @@
 use Rattle.std.proofs.Common.{◌≡◌, ℕ, zero, suc, ◌+◌, ◌-◌, ◌<◌, ◌≤◌, Bool, true, false, if◌then◌else◌, List, [], ◌∷◌, ◌++◌, length, take, drop, Option, Some, None, ◌⊎◌, inl, inr, refl, sym, ap, ◌∙◌, subst, arith, length-append, append_assoc, append-nil}
 use Rattle.std.proofs.lemmas.Bool.{cases_lt}
 use Rattle.std.proofs.lemmas.List.{take-append-drop, take-append-le, take-take, length-drop}
-use Rattle.session_core.specs.declared.phase.Phase.{Phase}
-use Rattle.session_core.specs.declared.phase.Phase.TheVariants as phase
-use Rattle.session_core.specs.Held.{phase_of}
-use Rattle.session_core.specs.Message.{message}
-use Rattle.session_core.specs.State.{State}
-use Rattle.session_core.specs.Step as step
-use Rattle.session_core.specs.Turn.{turn}
-use Rattle.session_core.proofs.ShortLaws.{message_unanswered}
+use Rattle.bulk_session.specs.Phase.{Phase}
+use Rattle.bulk_session.specs.PhaseVariants as phase
+use Rattle.bulk_session.specs.Held.{phase_of}
+use Rattle.bulk_session.specs.Message.{message}
+use Rattle.bulk_session.specs.State.{State}
+use Rattle.bulk_session.specs.Step as step
+use Rattle.bulk_session.specs.Turn.{turn}
+use Rattle.bulk_session.proofs.ShortLaws.{message_unanswered}
 use Rattle.io_edge.specs.LibraryCall.{LibraryCall}
 use Rattle.rpc_framing.specs.Frames.{IsFrame, IsFrames, IsPartial, IsBadStart}
 use Rattle.hlasm_server.specs.declared.status.Status.{Status}

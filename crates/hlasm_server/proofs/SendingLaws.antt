@@ -7,17 +7,17 @@ use Rattle.io_edge.specs.LibraryCall.{LibraryCall}
 use Rattle.io_edge.proofs.ToldLaws.{Gains-append, Gains-nil}
 use Rattle.rpc_framing.specs.Frames.{frame}
 use Rattle.hl_base.specs.declared.place.PathId.{PathId}
-use Rattle.session_core.specs.declared.phase.Phase.{Phase}
-use Rattle.session_core.specs.declared.phase.Phase.TheVariants.{Running as StillRunning, Exit}
-use Rattle.session_core.specs.State.{State}
-use Rattle.session_core.specs.Step.{Effect, written}
-use Rattle.session_core.specs.Step as step
-use Rattle.session_core.specs.Turn.{turn}
-use Rattle.session_core.proofs.TurnLaws.{turn_queue}
-use Rattle.session_core.specs.Message.{message}
-use Rattle.session_core.specs.Held.{Held, phase_of, Moves, GoesThrough, ComesOver}
-use Rattle.session_core.specs.declared.fault.SessionFault.{SessionFault}
-use Rattle.session_core.specs.declared.fault.SessionFault.TheVariants.{Spent, OutOfMemory}
+use Rattle.bulk_session.specs.Phase.{Phase}
+use Rattle.bulk_session.specs.PhaseVariants.{Running as StillRunning, Exit}
+use Rattle.bulk_session.specs.State.{State}
+use Rattle.bulk_session.specs.Step.{Effect, written}
+use Rattle.bulk_session.specs.Step as step
+use Rattle.bulk_session.specs.Turn.{turn}
+use Rattle.bulk_session.proofs.TurnLaws.{turn_queue}
+use Rattle.bulk_session.specs.Message.{message}
+use Rattle.bulk_session.specs.Held.{Held, phase_of, Moves, GoesThrough, ComesOver}
+use Rattle.bulk_session.specs.SessionFault.{SessionFault}
+use Rattle.bulk_session.specs.SessionFaultVariants.{Spent, OutOfMemory}
 use Rattle.hlasm_server.specs.Hearing.{Running, in_state, Made, none_made, behind, turns, following, Heard, Ends, goes_on, heard_in, heard_of, hear, said, MakesEach}
 use Rattle.hlasm_server.specs.Sending.{PutsFront, PutsFirst, PutsUntil, IsReady, Follows, StopsFollowing, GoesOn, Closes, StopsHearing}
 use Rattle.hlasm_server.specs.Waiting.{one_more, is_held, unasked, Asked, Asks}

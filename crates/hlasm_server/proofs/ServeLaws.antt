@@ -12,9 +12,9 @@ use Rattle.rpc_framing.proofs.FrameLaws.{IsFrames-one, length-IsFrame}
 use Rattle.rpc_framing.proofs.Splitting.{IsFrames-append, IsBadStart-append}
 use Rattle.hlasm_server.specs.declared.status.Status.{Status}
 use Rattle.hlasm_server.specs.declared.status.Status.TheVariants.{Done, NoShutdown, InputEnded, OutOfMemory, ReadFault, WriteFault, BadFrame, BadWords, InputTooLong}
-use Rattle.session_core.specs.declared.phase.Phase.{Phase}
-use Rattle.session_core.specs.Step.{written}
-use Rattle.session_core.specs.Held.{Held, beginning}
+use Rattle.bulk_session.specs.Phase.{Phase}
+use Rattle.bulk_session.specs.Step.{written}
+use Rattle.bulk_session.specs.Held.{Held, beginning}
 use Rattle.hlasm_server.specs.Hearing.{Running, Heard, Goes, Ends, Lacks, Differs, in_state, beginning_with, hear, said, MakesEach}
 use Rattle.hlasm_server.specs.Output.{Leads, Meets, most_input, Finished, EndsAt, Course, end_of, Out}
 use Rattle.hlasm_server.specs.Headline.{Whole, FirstFrames, FirstBytes, IsAnswer, IsPlainRun, HasStatusCause}

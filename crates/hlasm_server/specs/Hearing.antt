@@ -1,15 +1,15 @@
 -- What one message of the input comes to (this project): its event, and then Turns until no program is queued or the next
 -- one is held back.
 use Rattle.std.specs.Prelude.{◌≡◌, ℕ, zero, suc, Bool, List, [], ◌++◌, length, if◌then◌else◌}
-use Rattle.session_core.specs.declared.phase.Phase.{Phase}
-use Rattle.session_core.specs.declared.phase.Phase.TheVariants as phase
+use Rattle.bulk_session.specs.Phase.{Phase}
+use Rattle.bulk_session.specs.PhaseVariants as phase
 use Rattle.io_edge.specs.LibraryCall.{LibraryCall}
-use Rattle.session_core.specs.State.{State, start}
-use Rattle.session_core.specs.Step.{Step}
-use Rattle.session_core.specs.Step as step
-use Rattle.session_core.specs.Turn.{turn}
-use Rattle.session_core.specs.Message.{message}
-use Rattle.session_core.specs.Held.{phase_of}
+use Rattle.bulk_session.specs.State.{State, start}
+use Rattle.bulk_session.specs.Step.{Step}
+use Rattle.bulk_session.specs.Step as step
+use Rattle.bulk_session.specs.Turn.{turn}
+use Rattle.bulk_session.specs.Message.{message}
+use Rattle.bulk_session.specs.Held.{phase_of}
 use Rattle.hlasm_server.specs.Waiting.{one_more, is_held, unasked}
 
 -- a session between two events: its state, the answers of `waiting` and the calls of the library to come, and how many

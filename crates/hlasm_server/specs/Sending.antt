@@ -2,11 +2,11 @@
 use Rattle.std.specs.Prelude.{◌≡◌, ℕ, false, Bool, List, [], ◌++◌, Option, Result, Ok, Err}
 use Rattle.io_edge.specs.Told.{Gains, HasRisen}
 use Rattle.io_edge.specs.LibraryCall.{LibraryCall}
-use Rattle.session_core.specs.declared.phase.Phase.{Phase}
-use Rattle.session_core.specs.declared.phase.Phase.TheVariants as phase
-use Rattle.session_core.specs.State.{State}
-use Rattle.session_core.specs.Step.{written}
-use Rattle.session_core.specs.Held.{Held}
+use Rattle.bulk_session.specs.Phase.{Phase}
+use Rattle.bulk_session.specs.PhaseVariants as phase
+use Rattle.bulk_session.specs.State.{State}
+use Rattle.bulk_session.specs.Step.{written}
+use Rattle.bulk_session.specs.Held.{Held}
 use Rattle.hlasm_server.specs.declared.sending.Stop.{Stop}
 use Rattle.hlasm_server.specs.declared.sending.Stop.TheVariants.{OutOfMemory, WriteFault}
 use Rattle.hlasm_server.specs.Hearing.{Goes, Ends, in_state, hear, said, following, MakesEach}

@@ -4,9 +4,9 @@ ghost use Rattle.io_edge.specs.Told.{Gains, HasRisen};
 ghost use Rattle.hlasm_server.specs.Sending.{Hears, MakesTurns, PutsFront, HasStopCause, IsReady};
 ghost use Rattle.hlasm_server.specs.Waiting.{Asks, one_more};
 
+use bulk_session::session_core::{Phase, Session, SessionFault};
 use hl_base::{Ledger, Steps};
 use io_edge::{Failed, Library, Sink, Source};
-use session_core::{Phase, Session, SessionFault};
 use std::alloc::Global;
 
 /// After so many messages a Turn is made without asking whether more input waits.

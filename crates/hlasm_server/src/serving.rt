@@ -9,17 +9,17 @@ ghost use Rattle.hlasm_server.specs.Bulk.{Writes, WritesAll};
 ghost use Rattle.hlasm_server.specs.Headline.{IsPlainRun, HasStatusCause, Completes};
 ghost use Rattle.hlasm_server.specs.Sending.{Hears, HasStopCause, IsReady};
 ghost use Rattle.hlasm_server.specs.Words.{asks_for_session};
-ghost use Rattle.session_core.specs.Held.{beginning};
+ghost use Rattle.bulk_session.specs.Held.{beginning};
 
 use crate::Status;
 use crate::bulk::bulk;
 use crate::feeding::{LARGEST_PIECE, Next, next_body};
 use crate::sending::{Stop, hear};
+use bulk_session::session_core::{Phase, Session};
 use command_words::{Command, WordsFault, read_words};
 use hl_base::{Ledger, OutOfMemory, Steps};
 use io_edge::{Library, Sink, Source};
 use rpc_framing::FrameReader;
-use session_core::{Phase, Session};
 use std::alloc::Global;
 
 /// The most bytes that are taken of an input.

@@ -12,3 +12,4 @@ mod laws;
 
 pub use kept_definition::KeptDefinition;
 pub use laws::contents_are_read_back;
+pub use macro_library;

@@ -12,4 +12,5 @@ mod logic_point;
 mod logic_reader;
 mod parse_truth;
 
+pub use character_grammar;
 pub use parse_truth::{parse_logic, parse_logic_front};

@@ -2,7 +2,7 @@
 ghost use Rattle.std.specs.Prelude.{◌≡◌, ◌++◌, map, IfOk, OnOk};
 ghost use Rattle.kept_values.specs.Keys.{key_tree};
 ghost use Rattle.asking_core.specs.Places.{pairs_of};
-ghost use Rattle.call_sites.specs.Values.{known_tree};
+ghost use Rattle.call_knowledge.specs.Values.{known_tree};
 ghost use Rattle.macro_binding.specs.Bindings.{binding_of};
 ghost use Rattle.macro_library.specs.Contents.{content_of};
 ghost use Rattle.call_knowledge.specs.Tellings.{answers_of};
@@ -12,7 +12,7 @@ use crate::showing::{all_shown, listed};
 use crate::systems::{known_systems, systems_of};
 use asking_core::Noted;
 use call_knowledge::Knowledge;
-use call_sites::{Known, MacroCall};
+use call_knowledge::call_sites::{Known, MacroCall};
 use hl_base::{Key, OutOfMemory};
 use macro_binding::{Binding, bind};
 use macro_library::Def;

@@ -5,8 +5,8 @@ ghost use Rattle.call_knowledge.specs.Tellings.{answers_of};
 ghost use Rattle.macro_entry.specs.Entries as entries;
 
 use asking_core::Noted;
+use call_knowledge::call_sites::Known;
 use call_knowledge::{SystemVariable, answered};
-use call_sites::Known;
 use hl_base::{Answer, Key, Name, OutOfMemory, Text};
 use macro_library::{Def, SystemVariables};
 use std::alloc::Global;

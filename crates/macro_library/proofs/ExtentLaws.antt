@@ -1,7 +1,7 @@
 -- Lines that are counted, one after the other.
 use Rattle.std.proofs.Common.{◌≡◌, ◌∙◌, ◌+◌, ℕ, Bool, true, false, cond, List, [], ◌∷◌, Option, Some, None, refl, sym, ap, arith}
 use Rattle.std.specs.Option.{option_map, is_some}
-use Rattle.statement_reading.specs.Readings.{Reading}
+use Rattle.statement_listing.specs.Readings.{Reading}
 use Rattle.statement_listing.specs.Listings.{Listed, is_plain, processed}
 use Rattle.macro_library.specs.Extents.{Headed, behind, closes, headed, line_count, one_further}
 

@@ -4,7 +4,7 @@ use Rattle.std.specs.Prelude.{ℕ, ◌+◌, ◌==◌, ◌&&◌, Bool, false, Lis
 use Rattle.std.specs.Str.{bytes_eq}
 use Rattle.hl_base.specs.Symbols.{symbol_of}
 use Rattle.macro_binding.specs.Prototypes.{name_of}
-use Rattle.statement_reading.specs.Readings.{Reading, Instruction}
+use Rattle.statement_listing.specs.Readings.{Reading, Instruction}
 use Rattle.statement_listing.specs.Listings.{Listed, begins, begun_behind, ends, has_name, is_plain, processed}
 
 -- how many definitions are begun and not ended behind a line, where so many are before it; a comment changes nothing

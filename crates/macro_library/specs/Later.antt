@@ -2,7 +2,7 @@
 -- instruction").
 use Rattle.std.specs.Prelude.{ℕ, ◌==◌, ◌&&◌, ◌||◌, Bool, true, false, List, [], ◌∷◌, codes}
 use Rattle.std.specs.Str.{bytes_eq}
-use Rattle.statement_reading.specs.Readings.{Instruction, known, varying}
+use Rattle.statement_listing.specs.Readings.{Instruction, known, varying}
 use Rattle.statement_listing.specs.Listings.{Listed, processed}
 use Rattle.macro_library.specs.Extents.{behind, is_read}
 

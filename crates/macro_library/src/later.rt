@@ -3,7 +3,7 @@ ghost use Rattle.std.specs.Prelude.{◌≡◌, ◌==◌, ◌&&◌, ◌||◌};
 ghost use Rattle.macro_library.specs.Later as later;
 
 use statement_listing::Line;
-use statement_reading::Instruction;
+use statement_listing::statement_reading::Instruction;
 
 /// Whether a line may be COPY when it is processed.
 fn may_copy(line: &Line) -> bool

@@ -3,12 +3,12 @@ ghost use Rattle.std.specs.Prelude.{◌≡◌, IfOk, codes};
 ghost use Rattle.std.specs.Str.{chars};
 ghost use Rattle.macro_binding.specs.Prototypes as prototypes;
 ghost use Rattle.statement_listing.specs.Listings as listings;
-ghost use Rattle.statement_reading.specs.Views.{instruction_of};
+ghost use Rattle.statement_listing.specs.StatementReadingViews.{instruction_of};
 ghost use Rattle.macro_library.specs.Extents as extents;
 
 use hl_base::{Name, OutOfMemory};
+use statement_listing::statement_reading::Instruction;
 use statement_listing::{Line, begins_definition, begun_behind, ends_definition};
-use statement_reading::Instruction;
 
 /// The name that a text is.
 pub(crate) fn name_of(text: &str) -> Option<Name>

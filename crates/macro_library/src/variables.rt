@@ -5,10 +5,10 @@ ghost use Rattle.hl_base.specs.Symbols.{is_symbol_character};
 ghost use Rattle.macro_library.specs.Variables as variables;
 
 use crate::line::name_of;
-use conditional_fields::character::head;
 use hl_base::is_symbol_character;
 use hlasm_statements::split_columns;
 use statement_listing::Line;
+use statement_listing::conditional_fields::character::head;
 
 /// Which of the system variables are named.
 #[derive(Clone, Copy, Debug, PartialEq, Eq)]

@@ -7,10 +7,11 @@
 //! SC26-4940, as these do; the grammar of expressions stands in docs/EXPRESSIONS.md.
 #![tactic(auto)]
 
-pub use character_grammar::parse_char;
 pub use expression_grammar::{
     Attribute, Comparison, Expr, Form, Grammar, Item, MOST_PARTS, Operator, Reference, Sign,
     Symbol, SyntaxFault, parse_arith, parse_ordinary,
 };
+pub use logical_grammar;
+pub use logical_grammar::character_grammar::parse_char;
 pub use logical_grammar::parse_logic;
-pub use operand_list::{Operands, split_operands, split_sublist};
+pub use operand_list::{Operands, hlasm_statements, split_operands, split_sublist};

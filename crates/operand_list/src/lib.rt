@@ -8,5 +8,6 @@
 mod split;
 mod split_elements;
 
+pub use hlasm_statements;
 pub use split::{Operands, split_operands};
 pub use split_elements::split_sublist;

@@ -10,7 +10,7 @@ use Rattle.note_rows.specs.declared.row.Row.{Row}
 use Rattle.trace_values.specs.declared.item.TraceItem.{TraceItem}
 use Rattle.trace_arena.specs.Points.{Point}
 use Rattle.trace_cursor.specs.Stacks.{stack_of}
-use Rattle.section_layout.specs.Layout.{Layout, layout_of, rows_of}
+use Rattle.statement_checks.specs.Layout.{Layout, layout_of, rows_of}
 use Rattle.statement_checks.specs.Programs.{checked}
 use Rattle.program_assembly.specs.PointNotes.{point_notes}
 

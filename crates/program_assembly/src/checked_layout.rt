@@ -1,11 +1,11 @@
 //! The layout of the statements that a run generated, with what the operand checks say of them.
 ghost use Rattle.std.specs.Prelude.{◌≡◌, IfOk};
-ghost use Rattle.section_layout.specs.Views.{layout_view, lines_of};
+ghost use Rattle.statement_checks.specs.Views.{layout_view, lines_of};
 ghost use Rattle.program_assembly.specs.Statements.{checked_layout};
 
 use hl_base::{Line, OutOfMemory};
-use section_layout::{Layout, lay_out};
 use statement_checks::check_statements;
+use statement_checks::section_layout::{Layout, lay_out};
 use std::alloc::Global;
 
 /// The layout of these statements; what the operand checks say of each stands behind what layout says of it.

@@ -22,4 +22,6 @@ mod statements;
 
 pub use assembler::Assembler;
 pub use assembly::{Assembly, assemble};
+pub use macro_expand;
 pub use plain::{assemblies_are_plain, assembly_notes};
+pub use statement_checks::section_layout;

@@ -14,7 +14,7 @@ use Rattle.call_sites.specs.Calls.{Call, open_code, open_code_tree, call_of, tex
 use Rattle.call_sites.specs.Rules.{rebased}
 use Rattle.text_pool.specs.Members.{Member}
 use Rattle.program_world.specs.World.{ProgramState, program_world, first_world}
-use Rattle.macro_expand.specs.Language.{hlasm}
+use Rattle.program_assembly.specs.Language.{hlasm}
 use Rattle.program_assembly.specs.Assembly.{open_code_machine}
 use Rattle.program_assembly.proofs.OpenCode.{GivesExpansions}
 use Rattle.program_assembly.proofs.PlainRuns.{map_same, point_same, plain_run, points_are}

@@ -8,7 +8,7 @@ use Rattle.hl_base.specs.declared.place.Frame.{Frame}
 use Rattle.ordinary_symbols.specs.Table.{Table, Entry, row_of}
 use Rattle.program_assembly.specs.PointNotes.{stack_at}
 use Rattle.program_assembly.specs.Statements.{generated, own_line}
-use Rattle.section_layout.specs.Layout.{Layout}
+use Rattle.program_assembly.specs.Layout.{Layout}
 use Rattle.trace_arena.specs.Points.{Point}
 use Rattle.trace_cursor.specs.Stacks.{stack_of}
 use Rattle.trace_paths.proofs.TouchedLaws.{own_item}

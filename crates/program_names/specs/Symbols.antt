@@ -4,7 +4,7 @@ use Rattle.hl_base.specs.declared.place.Frame.{Frame}
 use Rattle.hl_base.specs.declared.set.Line.{Line}
 use Rattle.ordinary_symbols.specs.Table.{Table, Entry}
 use Rattle.program_assembly.specs.Statements.{generated, own_line}
-use Rattle.section_layout.specs.Layout.{Layout, Statement, layout_of}
+use Rattle.program_assembly.specs.Layout.{Layout, Statement, layout_of}
 use Rattle.trace_arena.specs.Points.{Point}
 use Rattle.trace_cursor.specs.Stacks.{stack_of}
 use Rattle.trace_values.specs.declared.item.TraceItem.{TraceItem}

@@ -19,7 +19,7 @@ use document_store::DocumentStore;
 use expansion_memo::Memo;
 use expansion_step::runs_are_expansions;
 use hl_base::{Ledger, OutOfMemory, PathId, Steps, TextId};
-use macro_expand::{Expander, HlasmLanguage};
+use program_assembly::macro_expand::{Expander, HlasmLanguage};
 use program_occurrences::occurrences;
 use program_world::{ProgramWorld, the_world_fits};
 use std::alloc::Global;

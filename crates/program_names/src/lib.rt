@@ -19,3 +19,5 @@ mod texts;
 
 pub use assembling::assemble_names;
 pub use names::AssembledNames;
+pub use program_assembly;
+pub use program_launch;

@@ -2,7 +2,7 @@
 ghost use Rattle.std.specs.Prelude.{◌≡◌, ◌≤◌, ◌++◌, length, IfOk, OnOk};
 ghost use Rattle.trace_arena.specs.Nodes.{IsLive};
 ghost use Rattle.trace_arena.specs.Points.{points};
-ghost use Rattle.section_layout.specs.Views.{lines_of};
+ghost use Rattle.program_assembly.specs.Views.{lines_of};
 ghost use Rattle.program_assembly.specs.Statements.{generated, line_in};
 
 use hl_base::{Line, OutOfMemory};

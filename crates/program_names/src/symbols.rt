@@ -2,7 +2,7 @@
 ghost use Rattle.std.specs.Prelude.{◌≡◌, ◌++◌, ◌<◌, [], length, IfOk, OnOk, slice_get};
 ghost use Rattle.std.specs.Option.{option_map_or};
 ghost use Rattle.ordinary_symbols.specs.Shown.{table_of};
-ghost use Rattle.section_layout.specs.Views.{layout_view};
+ghost use Rattle.program_assembly.specs.Views.{layout_view};
 ghost use Rattle.trace_arena.specs.Nodes.{IsLive};
 ghost use Rattle.trace_arena.specs.Points.{points};
 ghost use Rattle.trace_cursor.specs.Stacks.{stack_of};
@@ -12,7 +12,7 @@ use crate::stacks::stack_at;
 use crate::statements::{count_of, generated};
 use hl_base::{Frames, OutOfMemory};
 use ordinary_symbols::Symbols;
-use section_layout::{Layout, lay_out};
+use program_assembly::section_layout::{Layout, lay_out};
 use std::alloc::Global;
 use trace_arena::{NodeId, TraceArena};
 use trace_cursor::Cursor;

@@ -9,11 +9,11 @@ ghost use Rattle.call_sites.specs.Values.{known_tree};
 ghost use Rattle.program_world.specs.World.{member_tree};
 
 use crate::puts::Puts;
+use call_sites::macro_library::MemberFile;
 use call_sites::{Known, KnownMember};
 use hl_base::{Answer, Attr, Key, Name, OutOfMemory};
 use kept_values::Kept;
 use look_places::Foresight;
-use macro_library::MemberFile;
 use std::alloc::Global;
 use std::marker::Model;
 use std::rc::RcStr;

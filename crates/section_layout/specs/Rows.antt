@@ -2,7 +2,7 @@
 -- expressions that its place left to be judged.
 use Rattle.std.specs.Prelude.{ℕ, List, [], ◌∷◌, ◌++◌, Option, Some, None, slice_get}
 use Rattle.std.specs.List.{flat_map}
-use Rattle.constant_expressions.specs.Notes.{said_of_operand}
+use Rattle.section_steps.specs.Notes.{said_of_operand}
 use Rattle.constant_operands.specs.Operands.{Operand}
 use Rattle.expression_grammar.specs.Trees.{Tree}
 use Rattle.expression_notes.specs.declared.values.Wanted.TheVariants as wanted

@@ -3,7 +3,7 @@
 use Rattle.std.specs.Prelude.{ℕ, Bool, true, false, if◌then◌else◌, List, [], ◌∷◌, ◌++◌, length}
 use Rattle.std.specs.List.{list_any}
 use Rattle.hl_base.specs.declared.set.Line.{Line}
-use Rattle.layout_statements.specs.Statements.{Statement, statement}
+use Rattle.section_steps.specs.Statements.{Statement, statement}
 use Rattle.note_rows.specs.declared.row.Row.{Row}
 use Rattle.note_rows.specs.declared.row.Row.TheVariants.{SectionTooLong}
 use Rattle.section_steps.specs.States.{State, Laid}

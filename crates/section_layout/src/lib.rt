@@ -17,3 +17,4 @@ mod sections;
 mod walk;
 
 pub use layout::{Layout, StatementLayout, lay_out};
+pub use section_steps;

@@ -10,7 +10,6 @@ ghost use Rattle.ordinary_symbols.specs.Table.{known};
 ghost use Rattle.section_layout.specs.Rows as spec;
 ghost use Rattle.section_steps.specs.Views.{left_of};
 
-use constant_expressions::push_operand;
 use constant_grammar::Formula;
 use constant_operands::ConstantOperand;
 use expression_notes::{Wanted, push_expression, push_symbol};
@@ -18,6 +17,7 @@ use hl_base::{Name, OutOfMemory};
 use note_rows::Row;
 use ordinary_symbols::{Symbols, Trouble};
 use section_steps::Left;
+use section_steps::constant_expressions::push_operand;
 use trace_values::Reloc;
 
 /// Says why the EQU of a symbol has no value.

@@ -6,8 +6,8 @@ ghost use Rattle.section_layout.specs.Walks as spec;
 ghost use Rattle.section_steps.specs.Views.{state_of};
 
 use hl_base::{Line, OutOfMemory};
-use layout_statements::LayoutStatement;
 use note_rows::Row;
+use section_steps::layout_statements::LayoutStatement;
 use section_steps::{Laid, State};
 use std::alloc::Global;
 use std::collections::VecDeque;

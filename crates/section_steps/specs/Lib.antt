@@ -1,3 +1,5 @@
+pub use Rattle.constant_expressions.specs.Notes
+pub use Rattle.layout_statements.specs.Statements
 pub mod Places
 pub mod States
 pub mod Labels

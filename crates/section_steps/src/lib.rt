@@ -24,4 +24,6 @@ mod states;
 mod step;
 mod symbols;
 
+pub use constant_expressions;
+pub use layout_statements;
 pub use states::{Laid, Left, State};

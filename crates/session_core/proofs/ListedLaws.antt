@@ -20,7 +20,7 @@ use Rattle.document_store.specs.declared.document.Document.{Document}
 use Rattle.document_store.proofs.DocumentLemmas.{number_of-behind, with_path-new, number_of-last}
 use Rattle.library_folders.specs.Folders.{is_member, parm_for, folders_for}
 use Rattle.group_members.proofs.ChangeLaws.{IsSameIn-with_document, IsSameIn-with_text, IsSameIn-without}
-use Rattle.program_assembly.specs.Assembly.{assembly_notes}
+use Rattle.program_names.specs.Assembly.{assembly_notes}
 use Rattle.answers_feed.specs.Diagnostics.{published as reported}
 use Rattle.answers_feed.specs.Laws.{IsSameLibrary}
 use Rattle.answers_feed.specs.Sites.{sites_of}

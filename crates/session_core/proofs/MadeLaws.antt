@@ -9,7 +9,7 @@ use Rattle.document_store.specs.declared.document.Document.{Document}
 use Rattle.library_folders.specs.declared.configuration.Configuration.{Configuration}
 use Rattle.library_folders.specs.declared.folders.Folder.{Folder}
 use Rattle.library_folders.specs.Folders.{parm_for}
-use Rattle.program_assembly.specs.Assembly.{assembly_notes}
+use Rattle.program_names.specs.Assembly.{assembly_notes}
 use Rattle.answers_feed.specs.Diagnostics.{published}
 use Rattle.answers_feed.specs.Sites.{IsOpen, sites_of}
 use Rattle.session_core.specs.Diagnostics.{diagnostics_of, members_of}

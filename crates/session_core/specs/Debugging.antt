@@ -12,7 +12,7 @@ use Rattle.dap_messages.specs.declared.requests.DapRefusal.{DapRefusal}
 use Rattle.document_store.specs.Store.{Store, OpenDocument, number_of}
 use Rattle.library_folders.specs.declared.configuration.Configuration.{Configuration}
 use Rattle.library_folders.specs.Folders.{parm_for}
-use Rattle.program_launch.specs.Traces as launches
+use Rattle.program_names.specs.Traces as launches
 use Rattle.debug_sessions.specs.Refusals.{program_wanted}
 use Rattle.debug_sessions.specs.Answers.{Outcome, answer}
 use Rattle.session_core.specs.Diagnostics.{members_of}

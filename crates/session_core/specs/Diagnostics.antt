@@ -7,7 +7,7 @@ use Rattle.document_store.specs.Store.{Store, OpenDocument}
 use Rattle.library_folders.specs.declared.configuration.Configuration.{Configuration}
 use Rattle.library_folders.specs.Folders.{parm_for, folders_for}
 use Rattle.group_members.specs.Members.{member_of}
-use Rattle.program_assembly.specs.Assembly.{assembly_notes}
+use Rattle.program_names.specs.Assembly.{assembly_notes}
 use Rattle.answers_feed.specs.Diagnostics.{published}
 use Rattle.answers_feed.specs.Sites.{sites_of}
 use Rattle.session_core.specs.State.{State, libraries_of}

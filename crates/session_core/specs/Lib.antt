@@ -1,3 +1,7 @@
+pub use Rattle.program_figures.specs.declared.figures.Summary as DeclaredSummary
+pub use Rattle.program_figures.specs.Globals
+pub use Rattle.program_figures.specs.Figures as ProgramFigures
+pub use Rattle.program_figures.specs.declared.figures.Figures as DeclaredFigures
 pub mod Codes
 pub mod Debugging
 pub mod Diagnostics

@@ -3,7 +3,7 @@
 use Rattle.std.specs.Prelude.{ℕ, List, codes, encode_utf8_all, if◌then◌else◌}
 use Rattle.std.specs.Str.{bytes_eq}
 use Rattle.hl_base.specs.declared.set.Line.{Line}
-use Rattle.layout_statements.specs.Statements.{meaning}
+use Rattle.section_layout.specs.Statements.{meaning}
 use Rattle.symbol_attributes.specs.declared.meaning.OpMeaning.{OpMeaning}
 use Rattle.symbol_attributes.specs.declared.meaning.OpMeaning.TheVariants as op
 use Rattle.statement_checks.specs.declared.checks.Check.{Check}

@@ -2,7 +2,7 @@
 use Rattle.std.specs.Prelude.{List, Option, Some, None, map}
 use Rattle.literal_places.specs.declared.literals.LiteralUse.{LiteralUse}
 use Rattle.literal_places.specs.Places.{Literals, place_of}
-use Rattle.section_steps.specs.Places.{value_at}
+use Rattle.section_layout.specs.Places.{value_at}
 use Rattle.trace_values.specs.declared.section.Reloc.{Reloc}
 
 -- a literal that was refused has no place

@@ -13,8 +13,8 @@ use Rattle.operand_checks.specs.Settings.{Setting}
 use Rattle.operand_list.specs.Split.{operands_of}
 use Rattle.ordinary_symbols.specs.Known.{Knowledge}
 use Rattle.section_layout.specs.Layout.{Statement}
-use Rattle.section_steps.specs.States as left
-use Rattle.section_steps.specs.States.{Left}
+use Rattle.section_layout.specs.States as left
+use Rattle.section_layout.specs.States.{Left}
 use Rattle.using_ranges.specs.Ranges.{Held}
 use Rattle.using_statements.specs.Behind.{behind_drop, behind_using}
 use Rattle.using_statements.specs.Said.{said_of_drop, said_of_using}

@@ -1,6 +1,6 @@
 //! Which check a statement has.
 ghost use Rattle.std.specs.Prelude.{◌≡◌};
-ghost use Rattle.layout_statements.specs.Statements.{meaning};
+ghost use Rattle.section_layout.specs.Statements.{meaning};
 ghost use Rattle.statement_checks.specs.Checks as spec;
 
 use hl_base::{Line, Name};

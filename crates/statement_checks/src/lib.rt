@@ -16,3 +16,4 @@ mod program;
 mod statement;
 
 pub use program::check_statements;
+pub use section_layout;

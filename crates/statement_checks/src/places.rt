@@ -1,7 +1,7 @@
 //! Where literals stand.
 ghost use Rattle.std.specs.Prelude.{◌≡◌, [], ◌∷◌, ◌++◌, IfOk, OnOk};
 ghost use Rattle.literal_places.specs.Shown.{literals_of};
-ghost use Rattle.section_steps.specs.Places.{reloc_of, value_at};
+ghost use Rattle.section_layout.specs.Places.{reloc_of, value_at};
 ghost use Rattle.statement_checks.specs.Places as spec;
 
 use hl_base::OutOfMemory;

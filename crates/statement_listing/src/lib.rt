@@ -20,3 +20,5 @@ pub use definition::{begins_definition, begun_behind, ends_definition};
 pub use line::Line;
 pub use listing::{Element, Listing};
 pub use source::lines_of;
+pub use statement_reading;
+pub use statement_reading::conditional_fields;

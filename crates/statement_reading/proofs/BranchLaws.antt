@@ -12,10 +12,10 @@ use Rattle.expression_grammar.specs.Views.{tree_of}
 use Rattle.expression_grammar.proofs.Finds.{one-tree}
 use Rattle.expression_grammar.proofs.FrontLaws.{read_front-finds}
 use Rattle.expression_grammar.proofs.ReadLaws.{FindsFront, front-tree, front-fault, one-closed}
-use Rattle.logical_grammar.specs.LogicReadings.{read_logic_front}
-use Rattle.logical_grammar.specs.Logics.{SpellsLogic}
-use Rattle.logical_grammar.proofs.LogicFinds.{one_logic-tree, read_logic_front-finds}
-use Rattle.operand_list.specs.Split.{operands_of}
+use Rattle.conditional_fields.specs.LogicReadings.{read_logic_front}
+use Rattle.conditional_fields.specs.Logics.{SpellsLogic}
+use Rattle.conditional_fields.proofs.LogicFinds.{one_logic-tree, read_logic_front-finds}
+use Rattle.conditional_fields.specs.Split.{operands_of}
 use Rattle.conditional_fields.specs.declared.branch.Goto.{Goto}
 use Rattle.conditional_fields.specs.declared.branch.Goto.TheVariants.{To, Among}
 use Rattle.conditional_fields.specs.declared.branch.Selector.{Selector}

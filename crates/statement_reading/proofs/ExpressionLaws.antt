@@ -13,9 +13,9 @@ use Rattle.expression_grammar.specs.Views.{tree_of}
 use Rattle.expression_grammar.proofs.Finds.{one-tree}
 use Rattle.expression_grammar.proofs.FrontLaws.{read-finds}
 use Rattle.expression_grammar.proofs.ReadLaws.{Finds, read-tree, read-fault}
-use Rattle.logical_grammar.specs.LogicReadings.{read_logic}
-use Rattle.logical_grammar.specs.Logics.{SpellsLogic}
-use Rattle.logical_grammar.proofs.LogicFinds.{one_logic-tree, read_logic-finds}
+use Rattle.conditional_fields.specs.LogicReadings.{read_logic}
+use Rattle.conditional_fields.specs.Logics.{SpellsLogic}
+use Rattle.conditional_fields.proofs.LogicFinds.{one_logic-tree, read_logic-finds}
 use Rattle.character_grammar.specs.TextReadings.{read_text}
 use Rattle.character_grammar.specs.Texts.{SpellsText}
 use Rattle.character_grammar.proofs.TextFinds.{one_text-tree, read_text-finds}

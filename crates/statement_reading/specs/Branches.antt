@@ -4,8 +4,8 @@ use Rattle.std.specs.Prelude.{ℕ, ◌+◌, ◌⊎◌, ◌==◌, List, [], ◌�
 use Rattle.expression_grammar.specs.declared.character.Grammar.TheVariants.{Arithmetic}
 use Rattle.expression_grammar.specs.Readings.{Front, read_front, read_variable}
 use Rattle.expression_grammar.specs.Trees.{Tree}
-use Rattle.logical_grammar.specs.LogicReadings.{read_logic_front}
-use Rattle.operand_list.specs.Split.{operands_of}
+use Rattle.conditional_fields.specs.LogicReadings.{read_logic_front}
+use Rattle.conditional_fields.specs.Split.{operands_of}
 use Rattle.conditional_fields.specs.declared.front.Sought.{Sought}
 use Rattle.conditional_fields.specs.declared.front.Sought.TheVariants.{Number, Condition, Variable}
 use Rattle.conditional_fields.specs.Answers.{each, some}

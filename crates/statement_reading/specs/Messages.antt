@@ -5,7 +5,7 @@ use Rattle.expression_grammar.specs.declared.character.Grammar.TheVariants.{Arit
 use Rattle.expression_grammar.specs.Readings.{read}
 use Rattle.expression_grammar.specs.Trees.{Tree}
 use Rattle.character_grammar.specs.TextReadings.{read_text}
-use Rattle.operand_list.specs.Split.{operands_of}
+use Rattle.conditional_fields.specs.Split.{operands_of}
 
 -- a message and its severity; no severity where there is none, or an asterisk
 pub record Message : Type 0 where

@@ -7,7 +7,7 @@ use Rattle.hl_base.specs.declared.set.SetKind.TheVariants.{A, B, C}
 use Rattle.expression_grammar.specs.declared.character.Grammar.TheVariants.{Arithmetic}
 use Rattle.expression_grammar.specs.Readings.{read}
 use Rattle.expression_grammar.specs.Trees.{Tree}
-use Rattle.logical_grammar.specs.LogicReadings.{read_logic}
+use Rattle.conditional_fields.specs.LogicReadings.{read_logic}
 use Rattle.character_grammar.specs.TextReadings.{read_text}
 use Rattle.statement_reading.specs.Symbols.{Found, symbol, reach}
 

@@ -21,9 +21,9 @@ use crate::fields::{Fields, open_as_written, read_alone, read_fields};
 use crate::message::{Message, read_message};
 use crate::setting::{Setting, read_setting};
 use crate::task::Task;
+use conditional_fields::operand_grammar::{Expr, SyntaxFault};
 use conditional_fields::{Goto, Template};
 use hl_base::{Declarations, Name, OutOfMemory, SetKind};
-use operand_grammar::{Expr, SyntaxFault};
 use std::alloc::Global;
 
 /// What the fields of a statement say for a task.

@@ -7,8 +7,8 @@ ghost use Rattle.statement_reading.specs.Views.{branch_of, choice_of};
 use conditional_fields::branch::choice;
 use conditional_fields::character::begins_with;
 use conditional_fields::front::Sought;
+use conditional_fields::operand_grammar::SyntaxFault;
 use conditional_fields::{Goto, Selector, ago};
-use operand_grammar::SyntaxFault;
 use std::alloc::Global;
 
 /// Where the operand field of AGO branches to.

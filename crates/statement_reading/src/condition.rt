@@ -8,8 +8,8 @@ ghost use Rattle.statement_reading.specs.Views.{choices_of};
 
 use crate::branch::read_pair;
 use conditional_fields::Selector;
+use conditional_fields::operand_grammar::{SyntaxFault, split_operands};
 use hl_base::{OutOfMemory, Text};
-use operand_grammar::{SyntaxFault, split_operands};
 use std::alloc::Global;
 
 /// The pairs of an AIF in order, as they are written.

@@ -6,9 +6,9 @@ ghost use Rattle.statement_reading.specs.Bodies as bodies;
 
 use conditional_fields::character::name_of;
 use conditional_fields::declarations;
+use conditional_fields::operand_grammar::SyntaxFault;
 use conditional_fields::sequence::symbol_reach;
 use hl_base::{Declarations, Name, SetKind};
-use operand_grammar::SyntaxFault;
 use std::alloc::Global;
 
 /// What the operand field of GBLA, GBLB, GBLC, LCLA, LCLB or LCLC declares.

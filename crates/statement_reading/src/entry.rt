@@ -8,9 +8,9 @@ ghost use Rattle.statement_reading.specs.Views.{found_of, parts_of};
 
 use conditional_fields::Template;
 use conditional_fields::front::{Sought, reach};
+use conditional_fields::operand_grammar::SyntaxFault;
 use conditional_fields::template::{Found, symbol};
 use hl_base::OutOfMemory;
-use operand_grammar::SyntaxFault;
 use std::alloc::Global;
 
 /// The variable symbol that a text begins with, if it can be read.

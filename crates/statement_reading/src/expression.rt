@@ -3,11 +3,13 @@ ghost use Rattle.std.specs.Str.{chars};
 ghost use Rattle.expression_grammar.specs.declared.character.Grammar.TheVariants.{Arithmetic};
 ghost use Rattle.expression_grammar.specs.Readings.{read};
 ghost use Rattle.expression_grammar.specs.Views.{tree_of};
-ghost use Rattle.logical_grammar.specs.LogicReadings.{read_logic};
+ghost use Rattle.conditional_fields.specs.LogicReadings.{read_logic};
 ghost use Rattle.character_grammar.specs.TextReadings.{read_text};
 ghost use Rattle.statement_reading.specs.Answers.{Says};
 
-use operand_grammar::{Expr, SyntaxFault, parse_arith, parse_char, parse_logic};
+use conditional_fields::operand_grammar::{
+    Expr, SyntaxFault, parse_arith, parse_char, parse_logic,
+};
 use std::alloc::Global;
 
 /// An arithmetic expression.

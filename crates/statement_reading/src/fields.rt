@@ -8,10 +8,10 @@ ghost use Rattle.statement_reading.specs.Templates as templates;
 ghost use Rattle.statement_reading.specs.Views.{entry_of, fields_of};
 
 use crate::entry::{has_ampersand, read_template};
+use conditional_fields::operand_grammar::SyntaxFault;
 use conditional_fields::{Template, ended};
 use hl_base::{OutOfMemory, Text};
 use hlasm_statements::ends_quoted;
-use operand_grammar::SyntaxFault;
 use std::alloc::Global;
 
 /// An entry as it is written, or with variable symbols.

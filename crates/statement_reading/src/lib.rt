@@ -24,6 +24,7 @@ mod task;
 
 pub use body::{Body, read_body};
 pub use condition::Choices;
+pub use conditional_fields;
 pub use conditional_fields::{Goto, Piece, Selector, Template};
 pub use declaration::read_member;
 pub use fields::{Entry, Fields};

@@ -7,8 +7,8 @@ ghost use Rattle.statement_reading.specs.Views.{message_of, severity_of};
 
 use crate::expression::{read_characters, read_number};
 use conditional_fields::character::head;
+use conditional_fields::operand_grammar::{Expr, SyntaxFault, split_operands};
 use hl_base::Text;
-use operand_grammar::{Expr, SyntaxFault, split_operands};
 use std::alloc::Global;
 
 /// A message and its severity as they are written; no severity where there is none, or an asterisk.

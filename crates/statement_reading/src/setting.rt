@@ -9,9 +9,9 @@ ghost use Rattle.statement_reading.specs.Views.{setting_of};
 use crate::entry::{read_symbol, symbol_length};
 use crate::expression::{read_characters, read_condition, read_number};
 use conditional_fields::character::{begins_with, character_count};
+use conditional_fields::operand_grammar::{Expr, SyntaxFault};
 use conditional_fields::place::fault_at;
 use hl_base::SetKind;
-use operand_grammar::{Expr, SyntaxFault};
 use std::alloc::Global;
 
 /// The SET symbol that gets a value, and the value, as they are written.

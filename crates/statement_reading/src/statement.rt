@@ -11,10 +11,10 @@ use crate::entry::{has_ampersand, read_template};
 use crate::task::{Task, is_lasting, task_of};
 use conditional_fields::Template;
 use conditional_fields::character::{head, name_of};
+use conditional_fields::operand_grammar::SyntaxFault;
 use hl_base::{Name, OutOfMemory, Text};
 use hlasm_statements::{Shape, Statement, ends_quoted};
 use instruction_table::operation;
-use operand_grammar::SyntaxFault;
 use std::alloc::Global;
 
 /// An operation without an ampersand, and what the fields say for its task. Its operation as it is written; the task where

@@ -1,6 +1,6 @@
 use Rattle.std.proofs.Common.{◌≡◌, ◌∙◌, codes, Option, None, Some, sym}
 use Rattle.std.specs.Str.{chars}
-use Rattle.program_figures.specs.declared.figures.Summary.{Summary}
+use Rattle.session_core.specs.DeclaredSummary.{Summary}
 use Rattle.bulk_session.specs.Bulk.{figures_behind}
 use Rattle.bulk_session.proofs.ProgramLaws.{summary_told, uri_is}
 use Rattle.bulk_session.proofs.running.summary.Goals as goal

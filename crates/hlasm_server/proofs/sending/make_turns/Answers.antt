@@ -1,6 +1,6 @@
 use Rattle.std.proofs.Common.{◌∙◌, refl, subst}
 use Rattle.std.proofs.lemmas.Result.{err_from_is_err_and}
-use Rattle.session_core.specs.Turn.{turn}
+use Rattle.bulk_session.specs.Turn.{turn}
 use Rattle.hlasm_server.specs.Waiting.{Asks}
 use Rattle.hlasm_server.proofs.SendingLaws.{came, fewer_queued, turning_begins, turning_goes_on, turning_holds, turning_stops, turning_breaks}
 use Rattle.hlasm_server.proofs.sending.make_turns.Goals as goal

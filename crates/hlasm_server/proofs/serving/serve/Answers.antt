@@ -1,5 +1,5 @@
 use Rattle.std.proofs.Common.{ap, sym, ◌∙◌}
-use Rattle.session_core.specs.Held.{Held, beginning}
+use Rattle.bulk_session.specs.Held.{Held, beginning}
 use Rattle.hlasm_server.proofs.ServeLaws.{ends_at_once}
 use Rattle.hlasm_server.proofs.serving.serve.Goals as goal
 

@@ -1,6 +1,6 @@
 use Rattle.std.proofs.Common.{ℕ, ◌≤◌, List, Option, true, false, refl, sym, ◌∙◌, subst, arith}
 use Rattle.io_edge.specs.Told.{Gives}
-use Rattle.session_core.specs.Held.{Held}
+use Rattle.bulk_session.specs.Held.{Held}
 use Rattle.hlasm_server.proofs.ServeLaws.{IsServing, serving_begins, nothing_asked, serving_goes_on, between_at_first, frame_falls, ends_with_input, ends_with_read_fault, ends_without_memory, ends_with_exit, ends_with_bad_start, ends_with_limit, ends_stopped, HasStatusCause-stopped, status_of-is_no_BadWords}
 use Rattle.hlasm_server.proofs.serving.serve_session.Goals as goal
 

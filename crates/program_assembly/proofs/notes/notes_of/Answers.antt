@@ -4,8 +4,8 @@ use Rattle.std.specs.Str.{chars}
 use Rattle.hl_base.specs.Texts.{lines}
 use Rattle.note_rows.specs.declared.row.Row.TheVariants.{MissingEnd}
 use Rattle.hl_base.specs.declared.set.Line.{Line}
-use Rattle.section_layout.specs.Layout.{Layout, rows_of}
-use Rattle.section_layout.specs.Views.{layout_view, lines_of}
+use Rattle.statement_checks.specs.Layout.{Layout, rows_of}
+use Rattle.statement_checks.specs.Views.{layout_view, lines_of}
 use Rattle.program_assembly.specs.ColumnNotes.{note_at, fault_notes, column_notes}
 use Rattle.program_assembly.specs.Statements.{checked_layout, generated, noted_points, all_noted}
 use Rattle.program_assembly.specs.Notes.{end_notes_by}

@@ -7,8 +7,8 @@ use Rattle.note_rows.specs.declared.row.Row.{Row}
 use Rattle.trace_values.specs.declared.item.TraceItem.{TraceItem}
 use Rattle.trace_arena.specs.Points.{Point, points}
 use Rattle.trace_cursor.specs.Stacks.{stack_of}
-use Rattle.section_layout.specs.Layout.{rows_of}
-use Rattle.section_layout.specs.Views.{layout_view}
+use Rattle.statement_checks.specs.Layout.{rows_of}
+use Rattle.statement_checks.specs.Views.{layout_view}
 use Rattle.program_assembly.specs.PointNotes.{point_notes}
 use Rattle.program_assembly.specs.Statements.{line_in, own_line, generated, rows_at, said_of, noted_point, noted_points}
 use Rattle.program_assembly.proofs.PointLaws.{own_item}

@@ -1,8 +1,8 @@
 use Rattle.std.proofs.Common.{◌≡◌, ◌<◌, ◌++◌, take, length}
 use Rattle.trace_arena.specs.Points.{points}
 use Rattle.trace_cursor.specs.Places.{StandsAt}
-use Rattle.section_layout.specs.Layout.{rows_of}
-use Rattle.section_layout.specs.Views.{layout_view}
+use Rattle.statement_checks.specs.Layout.{rows_of}
+use Rattle.statement_checks.specs.Views.{layout_view}
 use Rattle.program_assembly.specs.Statements.{generated, noted_points}
 use Rattle.program_assembly.proofs.point_notes.add_point_notes.Given as goal
 

@@ -9,7 +9,7 @@ use Rattle.trace_variables.proofs.ValueLemmas.{step_index}
 use Rattle.trace_paths.proofs.ListLaws.{flat_map-more}
 use Rattle.trace_paths.proofs.TouchedLaws.{own_item, no_points}
 use Rattle.program_assembly.specs.Statements.{generated, line_in, own_line}
-use Rattle.section_layout.specs.Views.{lines_of}
+use Rattle.statement_checks.specs.Views.{lines_of}
 use Rattle.program_assembly.proofs.StatementLaws.{line_there}
 use Rattle.program_assembly.proofs.statements.generated.Goals as goal
 

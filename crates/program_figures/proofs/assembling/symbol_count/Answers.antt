@@ -1,7 +1,7 @@
 use Rattle.std.proofs.Common.{◌≡◌, List, length, ap, ◌∙◌}
 use Rattle.hl_base.specs.declared.set.Line.{Line}
-use Rattle.section_layout.specs.Layout.{Layout, layout_of}
-use Rattle.section_layout.specs.Views.{layout_view, lines_of}
+use Rattle.program_assembly.specs.Layout.{Layout, layout_of}
+use Rattle.program_assembly.specs.Views.{layout_view, lines_of}
 use Rattle.trace_arena.specs.Points.{points}
 use Rattle.program_assembly.specs.Statements.{generated}
 use Rattle.program_figures.specs.Figures.{symbol_count}

@@ -2,7 +2,7 @@ use Rattle.std.proofs.Common.{◌≡◌, ◌<◌, take, length}
 use Rattle.trace_arena.specs.Points.{points}
 use Rattle.trace_cursor.specs.Places.{StandsAt}
 use Rattle.program_assembly.specs.Statements.{generated}
-use Rattle.section_layout.specs.Views.{lines_of}
+use Rattle.program_assembly.specs.Views.{lines_of}
 use Rattle.program_figures.proofs.statements.generated.Given as goal
 
 -- the cursor stands at the first point that was not passed, and the statements of those before it are there

@@ -5,7 +5,7 @@ use Rattle.hl_base.specs.declared.set.Line.{Line}
 use Rattle.trace_values.specs.declared.symbol_row.SymbolRow.{SymbolRow}
 use Rattle.trace_arena.specs.Points.{points}
 use Rattle.trace_cursor.specs.Stacks.{stack_of}
-use Rattle.section_layout.specs.Views.{layout_view}
+use Rattle.program_assembly.specs.Views.{layout_view}
 use Rattle.program_assembly.specs.Statements.{line_in, own_line, generated}
 use Rattle.program_assembly.proofs.PointLaws.{own_item}
 use Rattle.program_assembly.proofs.StatementLaws.{fewer_statements, line_there}

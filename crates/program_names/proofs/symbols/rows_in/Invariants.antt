@@ -1,7 +1,7 @@
 use Rattle.std.proofs.Common.{◌≡◌, ◌<◌, take, length}
 use Rattle.trace_arena.specs.Points.{points}
 use Rattle.trace_cursor.specs.Places.{StandsAt}
-use Rattle.section_layout.specs.Views.{layout_view}
+use Rattle.program_assembly.specs.Views.{layout_view}
 use Rattle.program_assembly.specs.Statements.{generated}
 use Rattle.program_names.specs.Symbols.{rows_from}
 use Rattle.program_names.proofs.SymbolLaws.{behind_all}

@@ -1,0 +1,1 @@
+pub use Rattle.logical_grammar.proofs.LogicFinds
