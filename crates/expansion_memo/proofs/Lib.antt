@@ -3,6 +3,7 @@ pub mod Searching
 pub mod KeptLists
 pub mod Reused
 pub mod Walking
+pub mod Telling
 pub mod Absorbed
 pub mod RunParts
 pub mod Making

@@ -33,6 +33,14 @@ GoesOn M W rebased value call depth a b (next.Enters c) = (M.move_at a.place a.g
 GoesOn M W rebased value call depth a b next.Leaves = (M.move_at a.place a.given ≡ Leave) × (b Nothing ≡ stepped a)
 GoesOn M W rebased value call depth a b next.Ends = (M.move_at a.place a.given ≡ End) × (b Nothing ≡ stepped a)
 
+-- the next step is told this
+abbrev pub Tells : {V C : Type 0} → (V → Tree) → Told → Next V C → Type 0
+Tells value told (next.Tell g) = told_of value g ≡ told
+Tells value told next.Counts = ⊥
+Tells value told (next.Enters c) = ⊥
+Tells value told next.Leaves = ⊥
+Tells value told next.Ends = ⊥
+
 -- each step but a count and the last lowers the number of the place
 abbrev pub Lowers : {P V C : Type 0} → (P → ℕ) → P → P → Next V C → Type 0
 Lowers number before after (next.Tell g) = number after < number before

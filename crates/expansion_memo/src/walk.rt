@@ -1,12 +1,15 @@
 //! A call under way, one step at a time.
-ghost use Rattle.std.specs.Prelude.{◌≡◌, ◌+◌, ◌≤◌, IfOk, OnOk};
+ghost use Rattle.std.specs.Prelude.{◌≡◌, ◌+◌, ◌≤◌, Ok, IfOk, OnOk};
 ghost use Rattle.trace_arena.specs.Nodes.{IsUnshared};
 ghost use Rattle.trace_arena.specs.Changes.{Begins};
+ghost use Rattle.asking_core.specs.Machines.{Answered};
+ghost use Rattle.asking_core.specs.declared.machine.Given.TheVariants as given;
 ghost use Rattle.asking_core.specs.Actions.{told_of};
 ghost use Rattle.asking_core.specs.Runs.{deepest_depth};
 ghost use Rattle.kept_outcomes.specs.Moments.{reading, putting};
 ghost use Rattle.kept_outcomes.specs.Outcomes.{blank_summary};
-ghost use Rattle.expansion_memo.specs.Walks.{moment_at, GoesOn, Lowers, OnlyAppends};
+ghost use Rattle.expansion_memo.specs.Walks.{moment_at, GoesOn, Lowers, OnlyAppends, Tells};
+ghost use Rattle.expansion_memo.specs.declared.walk.Next.TheVariants as next;
 ghost use Rattle.expansion_memo.specs.Records.{StepMakes, owed};
 
 use crate::entry::DEEPEST;
@@ -37,20 +40,21 @@ pub(crate) enum Next<V: Drop, C: Drop> {
     Ends,
 }
 
-/// Asks a key, and notes the answer.
-fn ask<W: World>(
+/// Asks a key, notes the answer, and tells it.
+fn ask<W: World, C: Drop>(
     alloc: Global,
     summary: &mut CallSummary<W::Key, W::Value>,
-    key: &W::Key,
+    key: W::Key,
     world: &mut W,
-) -> Result<W::Value, OutOfMemory>
-    ensures value { IfOk result (λ v. W.Value.code v ≡ (W.model).answer (W.state world.old) (W.Key.code key.now)) }
-    ensures noted { IfOk result (λ v. summary.new ≡ reading summary.old (W.Key.code key.now) ((W.model).answer (W.state world.old) (W.Key.code key.now))) }
+) -> Result<Next<W::Value, C>, OutOfMemory>
+    ensures told { IfOk result (Tells W.Value.code (Answered ((W.model).answer (W.state world.old) (W.Key.code key)))) }
+    ensures noted { OnOk result (summary.new
+        ≡ reading summary.old (W.Key.code key) ((W.model).answer (W.state world.old) (W.Key.code key))) }
     ensures kept { W.state world.new ≡ W.state world.old }
 {
-    let value = world.ask(alloc, key)?;
-    summary.note_read(alloc, key, &value)?;
-    Ok(value)
+    let value = world.ask(alloc, &key)?;
+    summary.note_read(alloc, &key, &value)?;
+    Ok(Next::Tell(Given::Answer(value)))
 }
 
 /// Puts a key, and notes it.
@@ -67,6 +71,20 @@ fn put<W: World>(
     summary.note_put(alloc, &key, &value)?;
     world.put(alloc, key, value)?;
     Ok(())
+}
+
+/// The next step is told nothing.
+fn tell_nothing<V: Drop, C: Drop>() -> Result<Next<V, C>, OutOfMemory>
+    ensures { result ≡ Ok (next.Tell given.Nothing) }
+{
+    Ok(Next::Tell(Given::Nothing))
+}
+
+/// The next step is told that there is no room.
+fn tell_too_deep<V: Drop, C: Drop>() -> Result<Next<V, C>, OutOfMemory>
+    ensures { result ≡ Ok (next.Tell given.TooDeep) }
+{
+    Ok(Next::Tell(Given::TooDeep))
 }
 
 /// A call begins: with a node of its own, which its maker alone owns.
@@ -121,40 +139,37 @@ pub(crate) fn advance<M: AskMachine, W: World<Key = M::Key, Value = M::Value>, L
 {
     let action = machine.step(alloc, &mut walk.local, given, steps)?;
     match action {
-        Action::Ask(key) => {
-            let value = ask(alloc, &mut walk.summary, &key, world)?;
-            Ok(Next::Tell(Given::Answer(value)))
-        }
+        Action::Ask(key) => ask(alloc, &mut walk.summary, key, world),
         Action::Put(key, value) => {
             put(alloc, &mut walk.summary, key, value, world)?;
-            Ok(Next::Tell(Given::Nothing))
+            tell_nothing()
         }
         Action::Bump => {
             walk.summary.count_call()?;
             world.bump(1);
-            Ok(Next::Tell(Given::Nothing))
+            tell_nothing()
         }
         Action::Emit(item) => {
             arena.append(walk.node, item, steps)?;
-            Ok(Next::Tell(Given::Nothing))
+            tell_nothing()
         }
         Action::Deepen => {
             if depth + walk.frames >= DEEPEST {
                 walk.summary.find_no_room();
-                return Ok(Next::Tell(Given::TooDeep));
+                return tell_too_deep();
             }
             walk.summary.deepen(walk.frames);
             walk.frames += 1;
-            Ok(Next::Tell(Given::Nothing))
+            tell_nothing()
         }
         Action::Rise => {
             walk.frames = walk.frames.saturating_sub(1);
-            Ok(Next::Tell(Given::Nothing))
+            tell_nothing()
         }
         Action::At(statement) => {
             world.at(statement);
             walk.summary.tell_at();
-            Ok(Next::Tell(Given::Nothing))
+            tell_nothing()
         }
         Action::Count => Ok(Next::Counts),
         Action::Enter(call) => Ok(Next::Enters(call)),

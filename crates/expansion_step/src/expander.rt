@@ -2,11 +2,11 @@
 ghost use Rattle.std.specs.Prelude.{◌≡◌, IfOk, map, [], drop};
 ghost use Rattle.asking_core.specs.Actions.{move_of, told_of};
 ghost use Rattle.plain_expansion.specs.Engine.{expander};
-ghost use Rattle.expansion_step.specs.Meaning.{meaning};
-ghost use Rattle.expansion_step.specs.Places.{place_by};
+ghost use Rattle.expansion_step.specs.Meaning.{meaning, stack_by};
+ghost use Rattle.expansion_step.specs.Places.{phase_by, place_by};
 
 use crate::phase::{Entrance, Opened, Phase, Progress};
-use crate::{CodedLanguage, Local};
+use crate::{CodedLanguage, Local, Stack};
 use asking_core::{Action, Given};
 use hl_base::OutOfMemory;
 use kept_values::Kept;
@@ -45,8 +45,29 @@ impl<X: CodedLanguage> Expander<X> {
         })
     }
 
-    /// What a call does next, and the place behind it. Where there is no memory, the call is lost.
-    pub fn step_unwatched(
+    /// What a call does next behind its entry, and the phase behind that.
+    fn step_within(
+        &self,
+        alloc: Global,
+        stack: &mut Stack<X::Listing, X::Known>,
+        phase: &mut Phase<X::Listing, X::Call, X::Key, X::Value, X::Item>,
+        given: Given<X::Value>,
+    ) -> Result<Action<X::Key, X::Value, X::Call, X::Item>, OutOfMemory>
+        ensures action { IfOk result (λ a. let m = meaning X.reads X.call_of X.Call.code X.Key.code X.Value.code in
+            move_of X.Key.code X.Value.code X.Call.code X.call_of X.reads.item a
+            ≡ (expander X.language).move_at (phase_by m (stack_by m stack.old) phase.old) (told_of X.Value.code given)) }
+        ensures place { IfOk result (λ _. let m = meaning X.reads X.call_of X.Call.code X.Key.code X.Value.code in
+            phase_by m (stack_by m stack.new) phase.new
+            ≡ (expander X.language).after (phase_by m (stack_by m stack.old) phase.old) (told_of X.Value.code given)) }
+    {
+        let now = mem::replace(phase, Phase::Ready);
+        let taken = self.advance(alloc, stack, now, given)?;
+        *phase = taken.phase;
+        Ok(taken.action)
+    }
+
+    /// What a call does next that may be at its entry, and the place behind it.
+    fn step_anywhere(
         &self,
         alloc: Global,
         local: &mut Local<X::Listing, X::Known, X::Call, X::Key, X::Value, X::Item>,
@@ -66,12 +87,27 @@ impl<X: CodedLanguage> Expander<X> {
                     Ok(taken.action)
                 }
             },
-            Progress::Within(stack, phase) => {
-                let now = mem::replace(phase, Phase::Ready);
-                let taken = self.advance(alloc, stack, now, given)?;
-                *phase = taken.phase;
-                Ok(taken.action)
-            }
+            Progress::Within(stack, phase) => self.step_within(alloc, stack, phase, given),
         }
+    }
+
+    /// What a call does next, and the place behind it. Where there is no memory, the call is lost. Most steps are behind the
+    /// entry, so what is large at the entry stands in a function of its own.
+    pub fn step_unwatched(
+        &self,
+        alloc: Global,
+        local: &mut Local<X::Listing, X::Known, X::Call, X::Key, X::Value, X::Item>,
+        given: Given<X::Value>,
+    ) -> Result<Action<X::Key, X::Value, X::Call, X::Item>, OutOfMemory>
+        ensures action { IfOk result (λ a. let m = meaning X.reads X.call_of X.Call.code X.Key.code X.Value.code in
+            move_of X.Key.code X.Value.code X.Call.code X.call_of X.reads.item a
+            ≡ (expander X.language).move_at (place_by m local.old) (told_of X.Value.code given)) }
+        ensures place { IfOk result (λ _. let m = meaning X.reads X.call_of X.Call.code X.Key.code X.Value.code in
+            place_by m local.new ≡ (expander X.language).after (place_by m local.old) (told_of X.Value.code given)) }
+    {
+        if let Progress::Within(stack, phase) = &mut local.progress {
+            return self.step_within(alloc, stack, phase, given);
+        }
+        self.step_anywhere(alloc, local, given)
     }
 }

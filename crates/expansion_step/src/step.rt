@@ -10,6 +10,7 @@ ghost use Rattle.plain_expansion.specs.Engine.{step_by, step_of, tried, roomy_st
 ghost use Rattle.expansion_step.specs.Meaning.{meaning, call_by, pairs_by, stack_by, entry_by, effect_by, point_by};
 ghost use Rattle.expansion_step.specs.Places.{onward_by, pending_by, counted_first, keys_left, hearing, placing, deciding, phase_by};
 ghost use Rattle.expansion_step.specs.Takes.{Takes};
+ghost use Rattle.expansion_step.specs.declared.act.Act.TheVariants as does;
 
 use crate::phase::{Onward, Pending, Phase, Taken};
 use crate::{Act, CodedLanguage, Entry, Expander, Fault, Level, Performed, Stack};
@@ -110,6 +111,18 @@ impl<X: CodedLanguage> Expander<X> {
         }
     }
 
+    /// Goes on from a place, as a statement that is done does.
+    fn resume(
+        &self,
+        alloc: Global,
+        stack: &mut Stack<X::Listing, X::Known>,
+    ) -> Result<Taken<X::Listing, X::Call, X::Key, X::Value, X::Item>, OutOfMemory>
+        ensures { IfOk result (let m = meaning X.reads X.call_of X.Call.code X.Key.code X.Value.code in
+            Takes m (Doing (Performing (GoingOn (stack_by m stack.old)))) stack.new) }
+    {
+        Ok(self.go_on(alloc, stack))
+    }
+
     /// The answers to the keys of a statement, with the one that was given.
     fn hear_key(
         mut answers: Vec<Noted<X::Key, X::Value>>,
@@ -190,6 +203,98 @@ impl<X: CodedLanguage> Expander<X> {
         Ok(Self::tell(item, false, Vec::new(alloc), Onward::On))
     }
 
+    /// A statement goes on with the next one.
+    fn continue_on(
+        &self,
+        alloc: Global,
+        stack: &mut Stack<X::Listing, X::Known>,
+        said: X::Said,
+        change: X::Change,
+        puts: Vec<Noted<X::Key, X::Value>>,
+    ) -> Result<Taken<X::Listing, X::Call, X::Key, X::Value, X::Item>, OutOfMemory>
+        ensures { IfOk result (let m = meaning X.reads X.call_of X.Call.code X.Key.code X.Value.code in
+            Takes m (Doing (step_by X.language (effect_by m (X.reads.known stack.old.known) said (does.Continues change puts))
+            (stack_by m stack.old))) stack.new) }
+    {
+        let item = self.language.item(alloc, stack, said, Fault::NoFault)?;
+        self.step_on(stack)?;
+        self.language.change(alloc, &mut stack.known, change)?;
+        Ok(Self::tell(item, false, puts, Onward::On))
+    }
+
+    /// A statement goes on at another one of its list.
+    fn skip_to(
+        &self,
+        alloc: Global,
+        stack: &mut Stack<X::Listing, X::Known>,
+        said: X::Said,
+        position: u32,
+        change: X::Change,
+        puts: Vec<Noted<X::Key, X::Value>>,
+    ) -> Result<Taken<X::Listing, X::Call, X::Key, X::Value, X::Item>, OutOfMemory>
+        ensures { IfOk result (let m = meaning X.reads X.call_of X.Call.code X.Key.code X.Value.code in
+            Takes m (Doing (step_by X.language (effect_by m (X.reads.known stack.old.known) said (does.Skips position change puts))
+            (stack_by m stack.old))) stack.new) }
+    {
+        let item = self.language.item(alloc, stack, said, Fault::NoFault)?;
+        stack.here.position = position;
+        self.language.change(alloc, &mut stack.known, change)?;
+        Ok(Self::tell(item, false, puts, Onward::On))
+    }
+
+    /// A statement wants room for a frame.
+    fn try_frame(
+        &self,
+        alloc: Global,
+        stack: &mut Stack<X::Listing, X::Known>,
+        said: X::Said,
+        limited: X::Said,
+        entry: Entry<X::Listing, X::Call, X::Key, X::Value>,
+    ) -> Result<Taken<X::Listing, X::Call, X::Key, X::Value, X::Item>, OutOfMemory>
+        ensures { IfOk result (let m = meaning X.reads X.call_of X.Call.code X.Key.code X.Value.code in
+            Takes m (Doing (step_by X.language (effect_by m (X.reads.known stack.old.known) said (does.Enters limited entry))
+            (stack_by m stack.old))) stack.new) }
+    {
+        let item = self.language.item(alloc, stack, said, Fault::NoFault)?;
+        let limited = self.language.item(alloc, stack, limited, Fault::NoRoom)?;
+        let item = Box::new(alloc, item)?;
+        let limited = Box::new(alloc, limited)?;
+        Ok(Taken {
+            action: Action::Deepen,
+            phase: Phase::Tried(limited, item, entry),
+        })
+    }
+
+    /// A statement ends its call.
+    fn return_from(
+        &self,
+        alloc: Global,
+        stack: &mut Stack<X::Listing, X::Known>,
+        said: X::Said,
+    ) -> Result<Taken<X::Listing, X::Call, X::Key, X::Value, X::Item>, OutOfMemory>
+        ensures { IfOk result (let m = meaning X.reads X.call_of X.Call.code X.Key.code X.Value.code in
+            Takes m (Doing (step_by X.language (effect_by m (X.reads.known stack.old.known) said does.Returns)
+            (stack_by m stack.old))) stack.new) }
+    {
+        let item = self.language.item(alloc, stack, said, Fault::NoFault)?;
+        Ok(Self::tell(item, false, Vec::new(alloc), Onward::Leave))
+    }
+
+    /// A statement ends all.
+    fn finish(
+        &self,
+        alloc: Global,
+        stack: &mut Stack<X::Listing, X::Known>,
+        said: X::Said,
+    ) -> Result<Taken<X::Listing, X::Call, X::Key, X::Value, X::Item>, OutOfMemory>
+        ensures { IfOk result (let m = meaning X.reads X.call_of X.Call.code X.Key.code X.Value.code in
+            Takes m (Doing (step_by X.language (effect_by m (X.reads.known stack.old.known) said does.Finishes)
+            (stack_by m stack.old))) stack.new) }
+    {
+        let item = self.language.item(alloc, stack, said, Fault::NoFault)?;
+        Ok(Self::tell(item, false, Vec::new(alloc), Onward::Finish))
+    }
+
     /// Does what a statement does, up to its point.
     fn carry(
         &self,
@@ -202,40 +307,17 @@ impl<X: CodedLanguage> Expander<X> {
             Takes m (Doing (step_by X.language (effect_by m (X.reads.known stack.old.known) said act) (stack_by m stack.old))) stack.new) }
     {
         match act {
-            Act::Continues(change, puts) => {
-                let item = self.language.item(alloc, stack, said, Fault::NoFault)?;
-                self.step_on(stack)?;
-                self.language.change(alloc, &mut stack.known, change)?;
-                Ok(Self::tell(item, false, puts, Onward::On))
-            }
+            Act::Continues(change, puts) => self.continue_on(alloc, stack, said, change, puts),
             Act::Skips(position, change, puts) => {
-                let item = self.language.item(alloc, stack, said, Fault::NoFault)?;
-                stack.here.position = position;
-                self.language.change(alloc, &mut stack.known, change)?;
-                Ok(Self::tell(item, false, puts, Onward::On))
+                self.skip_to(alloc, stack, said, position, change, puts)
             }
             Act::Branches(label, change) => {
                 let place = self.language.place_of(&stack.here.listing, &label);
                 self.branch(alloc, stack, said, place, change)
             }
-            Act::Enters(limited, entry) => {
-                let item = self.language.item(alloc, stack, said, Fault::NoFault)?;
-                let limited = self.language.item(alloc, stack, limited, Fault::NoRoom)?;
-                let item = Box::new(alloc, item)?;
-                let limited = Box::new(alloc, limited)?;
-                Ok(Taken {
-                    action: Action::Deepen,
-                    phase: Phase::Tried(limited, item, entry),
-                })
-            }
-            Act::Returns => {
-                let item = self.language.item(alloc, stack, said, Fault::NoFault)?;
-                Ok(Self::tell(item, false, Vec::new(alloc), Onward::Leave))
-            }
-            Act::Finishes => {
-                let item = self.language.item(alloc, stack, said, Fault::NoFault)?;
-                Ok(Self::tell(item, false, Vec::new(alloc), Onward::Finish))
-            }
+            Act::Enters(limited, entry) => self.try_frame(alloc, stack, said, limited, entry),
+            Act::Returns => self.return_from(alloc, stack, said),
+            Act::Finishes => self.finish(alloc, stack, said),
         }
     }
 
@@ -251,16 +333,17 @@ impl<X: CodedLanguage> Expander<X> {
             stack.new) }
     {
         let language = &self.language;
-        match language.perform(alloc, &stack.here, &stack.known, answers.as_slice())? {
-            Performed::Nothing => Ok(self.go_on(alloc, stack)),
-            Performed::Wants(key) => {
+        match language.perform(alloc, &stack.here, &stack.known, answers.as_slice()) {
+            Ok(Performed::Nothing) => self.resume(alloc, stack),
+            Ok(Performed::Wants(key)) => {
                 let asked = key.copy(alloc)?;
                 Ok(Taken {
                     action: Action::Ask(asked),
                     phase: Phase::Waits(answers, key),
                 })
             }
-            Performed::Does(said, act) => self.carry(alloc, stack, said, act),
+            Ok(Performed::Does(said, act)) => self.carry(alloc, stack, said, act),
+            Err(error) => Err(error),
         }
     }
 
@@ -270,22 +353,22 @@ impl<X: CodedLanguage> Expander<X> {
         alloc: Global,
         stack: &mut Stack<X::Listing, X::Known>,
         mut pending: Pending<X::Call, X::Key, X::Value>,
-    ) -> Taken<X::Listing, X::Call, X::Key, X::Value, X::Item>
-        ensures { let m = meaning X.reads X.call_of X.Call.code X.Key.code X.Value.code in
-            Takes m (Doing (Performing (pending_by m pending (stack_by m stack.old)))) stack.new result }
+    ) -> Result<Taken<X::Listing, X::Call, X::Key, X::Value, X::Item>, OutOfMemory>
+        ensures { IfOk result (let m = meaning X.reads X.call_of X.Call.code X.Key.code X.Value.code in
+            Takes m (Doing (Performing (pending_by m pending (stack_by m stack.old)))) stack.new) }
     {
         if pending.counts {
             pending.counts = false;
-            return Taken {
+            return Ok(Taken {
                 action: Action::Bump,
                 phase: Phase::Does(pending),
-            };
+            });
         }
         if let Some(put) = pending.puts.pop() {
-            return Taken {
+            return Ok(Taken {
                 action: Action::Put(put.key, put.value),
                 phase: Phase::Does(pending),
-            };
+            });
         }
         self.go_onward(alloc, stack, pending.onward)
     }
@@ -296,24 +379,24 @@ impl<X: CodedLanguage> Expander<X> {
         alloc: Global,
         stack: &mut Stack<X::Listing, X::Known>,
         onward: Onward<X::Call>,
-    ) -> Taken<X::Listing, X::Call, X::Key, X::Value, X::Item>
-        ensures { let m = meaning X.reads X.call_of X.Call.code X.Key.code X.Value.code in
-            Takes m (Doing (Performing (onward_by m onward (stack_by m stack.old)))) stack.new result }
+    ) -> Result<Taken<X::Listing, X::Call, X::Key, X::Value, X::Item>, OutOfMemory>
+        ensures { IfOk result (let m = meaning X.reads X.call_of X.Call.code X.Key.code X.Value.code in
+            Takes m (Doing (Performing (onward_by m onward (stack_by m stack.old)))) stack.new) }
     {
         match onward {
-            Onward::On => self.go_on(alloc, stack),
-            Onward::Enter(call) => Taken {
+            Onward::On => self.resume(alloc, stack),
+            Onward::Enter(call) => Ok(Taken {
                 action: Action::Enter(call),
                 phase: Phase::Inside,
-            },
-            Onward::Leave => Taken {
+            }),
+            Onward::Leave => Ok(Taken {
                 action: Action::Leave,
                 phase: Phase::Does(Self::nothing_but(alloc, Onward::Leave)),
-            },
-            Onward::Finish => Taken {
+            }),
+            Onward::Finish => Ok(Taken {
                 action: Action::End,
                 phase: Phase::Does(Self::nothing_but(alloc, Onward::Finish)),
-            },
+            }),
         }
     }
 
@@ -396,18 +479,62 @@ impl<X: CodedLanguage> Expander<X> {
         &self,
         alloc: Global,
         stack: &mut Stack<X::Listing, X::Known>,
-    ) -> Taken<X::Listing, X::Call, X::Key, X::Value, X::Item>
-        ensures { let m = meaning X.reads X.call_of X.Call.code X.Key.code X.Value.code in
-            Takes m (placing m (statement_at X.language (stack_by m stack.old).here) (stack_by m stack.old)) stack.new result }
+    ) -> Result<Taken<X::Listing, X::Call, X::Key, X::Value, X::Item>, OutOfMemory>
+        ensures { IfOk result (let m = meaning X.reads X.call_of X.Call.code X.Key.code X.Value.code in
+            Takes m (placing m (statement_at X.language (stack_by m stack.old).here) (stack_by m stack.old)) stack.new) }
     {
         if !self.language.has_statement(&stack.here) {
-            return self.go_on(alloc, stack);
+            return self.resume(alloc, stack);
         }
         let position = Self::outermost(stack);
-        Taken {
+        Ok(Taken {
             action: Action::At(position),
             phase: Phase::Decides(Vec::new(alloc)),
-        }
+        })
+    }
+
+    /// Goes on with the questions of a statement, with what was given.
+    fn decide_on(
+        &self,
+        alloc: Global,
+        stack: &mut Stack<X::Listing, X::Known>,
+        answers: Vec<Noted<X::Key, X::Value>>,
+        key: X::Key,
+        given: Given<X::Value>,
+    ) -> Result<Taken<X::Listing, X::Call, X::Key, X::Value, X::Item>, OutOfMemory>
+        ensures { IfOk result (let m = meaning X.reads X.call_of X.Call.code X.Key.code X.Value.code in
+            Takes m (deciding m (statement_at X.language (stack_by m stack.old).here) (stack_by m stack.old)
+            (with_answer X.language (told_of X.Value.code given) (X.Key.code key) (pairs_by m answers.items))) stack.new) }
+    {
+        let answers = Self::hear_key(answers, key, given)?;
+        self.decide(alloc, stack, answers)
+    }
+
+    /// Tells a point that waited for a frame.
+    fn tell_boxed(
+        item: Box<X::Item>,
+        pending: Pending<X::Call, X::Key, X::Value>,
+    ) -> Result<Taken<X::Listing, X::Call, X::Key, X::Value, X::Item>, OutOfMemory>
+        ensures { IfOk result (λ t. let m = meaning X.reads X.call_of X.Call.code X.Key.code X.Value.code in
+            (x : Stack X.Listing X.Known) → Takes m (Doing (Telling (X.reads.item item.value) (pending_by m pending (stack_by m x)))) x t) }
+    {
+        Ok(Taken {
+            action: Action::Emit(Box::into_inner(item)),
+            phase: Phase::Does(pending),
+        })
+    }
+
+    /// Goes on behind what was entered.
+    fn come_back(
+        &self,
+        alloc: Global,
+        stack: &mut Stack<X::Listing, X::Known>,
+    ) -> Result<Taken<X::Listing, X::Call, X::Key, X::Value, X::Item>, OutOfMemory>
+        ensures { IfOk result (let m = meaning X.reads X.call_of X.Call.code X.Key.code X.Value.code in
+            Takes m (Doing (Performing (GoingOn (stepped (stack_by m stack.old))))) stack.new) }
+    {
+        self.step_on(stack)?;
+        self.resume(alloc, stack)
     }
 
     /// The next action.
@@ -422,25 +549,16 @@ impl<X: CodedLanguage> Expander<X> {
             Takes m (heard X.language (phase_by m (stack_by m stack.old) phase) (told_of X.Value.code given)) stack.new) }
     {
         match phase {
-            Phase::Ready => Ok(self.go_on(alloc, stack)),
-            Phase::Placed => Ok(self.place(alloc, stack)),
+            Phase::Ready => self.resume(alloc, stack),
+            Phase::Placed => self.place(alloc, stack),
             Phase::Decides(answers) => self.decide(alloc, stack, answers),
-            Phase::Waits(answers, key) => {
-                let answers = Self::hear_key(answers, key, given)?;
-                self.decide(alloc, stack, answers)
-            }
-            Phase::Tells(item, pending) => Ok(Taken {
-                action: Action::Emit(Box::into_inner(item)),
-                phase: Phase::Does(pending),
-            }),
-            Phase::Does(pending) => Ok(self.do_next(alloc, stack, pending)),
+            Phase::Waits(answers, key) => self.decide_on(alloc, stack, answers, key, given),
+            Phase::Tells(item, pending) => Self::tell_boxed(item, pending),
+            Phase::Does(pending) => self.do_next(alloc, stack, pending),
             Phase::Tried(limited, item, entry) => {
                 self.enter_or_pass(alloc, stack, limited, item, entry, given)
             }
-            Phase::Inside => {
-                self.step_on(stack)?;
-                Ok(self.go_on(alloc, stack))
-            }
+            Phase::Inside => self.come_back(alloc, stack),
         }
     }
 }

@@ -82,6 +82,13 @@ pub(crate) fn going_on(alloc: Global, said: Said) -> Done
     Performed::Does(said, Acts::Continues(Change::Nothing, Vec::new(alloc)))
 }
 
+/// The next statement follows, and nothing is said but these notes.
+pub(crate) fn passing(alloc: Global, notes: Notes) -> Result<Done, OutOfMemory>
+    ensures { IfOk result (λ p. (k : Knowledge) → performed_by means k p ≡ Some (Comes (acts.going_on k (acts.quiet notes)))) }
+{
+    Ok(going_on(alloc, quiet(alloc, notes)))
+}
+
 /// The same, with a note more.
 pub(crate) fn refused(alloc: Global, row: &Row, notes: Notes) -> Result<Done, OutOfMemory>
     ensures { IfOk result (λ p. (k : Knowledge) → performed_by means k p ≡ Some (Comes (acts.refused k row.now notes))) }
@@ -115,12 +122,17 @@ pub(crate) fn done_by(alloc: Global, deed: Deed, notes: Notes) -> Result<Done, O
 }
 
 /// A branch to a sequence symbol, if one is left.
-pub(crate) fn branching_to(alloc: Global, known: &Knowledge, label: Name, notes: Notes) -> Done
-    ensures { performed_by means known.now result ≡ Some (Comes (acts.branching_to known.now label notes)) }
+pub(crate) fn branching_to(
+    alloc: Global,
+    known: &Knowledge,
+    label: Name,
+    notes: Notes,
+) -> Result<Done, OutOfMemory>
+    ensures { IfOk result (λ p. performed_by means known.now p ≡ Some (Comes (acts.branching_to known.now label notes))) }
 {
     let mut said = quiet(alloc, notes);
     said.target = Some(label.copy());
-    Performed::Does(said, Acts::Branches(label, known.branching()))
+    Ok(Performed::Does(said, Acts::Branches(label, known.branching())))
 }
 
 /// Whether an operation begins a section.
@@ -218,10 +230,10 @@ pub(crate) fn leaving(
 }
 
 /// All ends, and END is generated where its fields can be read.
-pub(crate) fn ending(alloc: Global, line: Option<Line>, notes: Notes) -> Done
-    ensures { (k : Knowledge) → performed_by means k result ≡ Some (Comes (acts.ended line notes)) }
+pub(crate) fn ending(alloc: Global, line: Option<Line>, notes: Notes) -> Result<Done, OutOfMemory>
+    ensures { IfOk result (λ p. (k : Knowledge) → performed_by means k p ≡ Some (Comes (acts.ended line notes))) }
 {
     let mut said = quiet(alloc, notes);
     said.line = line;
-    Performed::Does(said, Acts::Finishes)
+    Ok(Performed::Does(said, Acts::Finishes))
 }
