@@ -1,7 +1,7 @@
 -- A member is read back from what is known of it.
 use Rattle.std.proofs.Common.{◌≡◌, ℕ, List, [], ◌∷◌, refl, ap}
 use Rattle.kept_values.specs.Lists.{list_tree}
-use Rattle.call_sites.specs.Trees.{list_in}
+use Rattle.macro_library.specs.Trees.{list_in}
 use Rattle.macro_library.specs.Files.{File as FileOf}
 use Rattle.macro_library.specs.declared.member.Member.TheVariants.{File}
 use Rattle.call_sites.specs.Values.{member_known}

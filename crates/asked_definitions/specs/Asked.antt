@@ -4,7 +4,7 @@ use Rattle.std.specs.Prelude.{ℕ, zero, suc, ◌==◌, List, [], map, Option, S
 use Rattle.hl_base.specs.declared.set.Key.TheVariants as key
 use Rattle.kept_values.specs.Trees.{Tree, Leaf, Fork}
 use Rattle.kept_values.specs.Keys.{key_tree}
-use Rattle.call_sites.specs.Trees.{content_in, left_in, right_in, number_in, list_in}
+use Rattle.macro_library.specs.Trees.{content_in, left_in, right_in, number_in, list_in}
 use Rattle.plain_expansion.specs.Questions.{Asking, done, needs, and_then}
 use Rattle.statement_listing.specs.Listings.{Listed}
 use Rattle.macro_library.specs.Contents.{Content, Written, content_of, listed_in, written}

@@ -7,9 +7,9 @@ use Rattle.std.proofs.lemmas.Str.{encodes-chars}
 use Rattle.std.specs.Prelude.{encode_utf8_all}
 use Rattle.kept_values.specs.Trees.{Tree, Leaf, Fork}
 use Rattle.kept_values.specs.Lists.{list_tree}
-use Rattle.kept_definitions.specs.Contents.{Content, content_of}
-use Rattle.kept_definitions.specs.Trees.{content_tree, content_in, list_in, row_tree, row_in}
-use Rattle.kept_definitions.proofs.TreeLaws.{content_back}
+use Rattle.macro_library.specs.Contents.{Content, content_of}
+use Rattle.macro_library.specs.Trees.{content_tree, content_in, list_in, row_tree, row_in}
+use Rattle.macro_library.proofs.TreeLaws.{content_back}
 use Rattle.call_sites.specs.declared.call_site.CallSite.{CallSite}
 use Rattle.call_sites.specs.declared.call_site.CallSite.TheVariants as site
 use Rattle.call_sites.specs.Calls.{Call, open_code, macro_call, called, tree_of, call_tree, call_of, text_in}

@@ -5,10 +5,10 @@ use Rattle.hl_base.specs.declared.set.Answer.TheVariants as answer
 use Rattle.kept_values.specs.Trees.{Tree, Leaf, Fork}
 use Rattle.kept_values.specs.Lists.{list_tree}
 use Rattle.kept_values.specs.Answers.{answer_tree}
-use Rattle.kept_definitions.specs.Contents.{Content}
-use Rattle.kept_definitions.specs.Trees.{content_in, list_in, left_in, right_in, number_in}
-use Rattle.kept_definitions.proofs.TreeLaws.{content_back}
-use Rattle.kept_definitions.specs.Files.{File}
+use Rattle.macro_library.specs.Contents.{Content}
+use Rattle.macro_library.specs.Trees.{content_in, list_in, left_in, right_in, number_in}
+use Rattle.macro_library.proofs.TreeLaws.{content_back}
+use Rattle.macro_library.specs.Files.{File}
 use Rattle.call_sites.specs.Values.{definition_known, member_known}
 use Rattle.call_sites.specs.Rules.{bits_in}
 

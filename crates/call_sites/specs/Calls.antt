@@ -4,8 +4,8 @@ use Rattle.std.specs.Rc.{rc_str_bytes}
 use Rattle.std.specs.Str.{chars}
 use Rattle.kept_values.specs.Trees.{Tree, Leaf, Fork, mixed, tree_number}
 use Rattle.kept_values.specs.Lists.{list_tree}
-use Rattle.kept_definitions.specs.Contents.{Content, content_of}
-use Rattle.kept_definitions.specs.Trees.{content_tree, content_in, definition_number, left_in, right_in, number_in, list_in, row_tree, row_in}
+use Rattle.macro_library.specs.Contents.{Content, content_of}
+use Rattle.macro_library.specs.Trees.{content_tree, content_in, definition_number, left_in, right_in, number_in, list_in, row_tree, row_in}
 use Rattle.call_sites.specs.declared.call_site.MacroCall.{MacroCall}
 use Rattle.call_sites.specs.declared.call_site.CallSite.{CallSite}
 use Rattle.call_sites.specs.declared.call_site.CallSite.TheVariants as site

@@ -5,9 +5,9 @@ use Rattle.hl_base.specs.declared.set.Answer.TheVariants.{Defined, Nothing}
 use Rattle.kept_values.specs.Trees.{Tree, Leaf, Fork, tree_number}
 use Rattle.kept_values.specs.Lists.{list_tree}
 use Rattle.kept_values.specs.Answers.{answer_tree}
-use Rattle.kept_definitions.specs.Contents.{Content}
-use Rattle.kept_definitions.specs.Files.{File}
-use Rattle.kept_definitions.specs.Trees.{content_tree, definition_number, left_in, number_in}
+use Rattle.macro_library.specs.Contents.{Content}
+use Rattle.macro_library.specs.Files.{File}
+use Rattle.macro_library.specs.Trees.{content_tree, definition_number, left_in, number_in}
 use Rattle.call_sites.specs.declared.known.Known.{Known}
 use Rattle.call_sites.specs.declared.known.Known.TheVariants as known
 

@@ -3,15 +3,15 @@ ghost use Rattle.std.specs.Prelude.{◌≡◌, ◌↔◌, ℕ, List, IfOk, IsTru
 ghost use Rattle.std.specs.Rc.{rc_str_bytes};
 ghost use Rattle.std.specs.Str.{chars};
 ghost use Rattle.kept_values.specs.Lists.{list_tree};
-ghost use Rattle.kept_definitions.specs.Trees.{row_tree};
-ghost use Rattle.kept_definitions.specs.Contents.{content_of};
+ghost use Rattle.macro_library.specs.Trees.{row_tree};
+ghost use Rattle.macro_library.specs.Contents.{content_of};
 ghost use Rattle.call_sites.specs.Calls as calls;
 ghost use Rattle.call_sites.specs.Calls.{called, macro_called, open_code};
 
 use crate::number::mixed;
 use hl_base::{OutOfMemory, PathId, Text};
-use kept_definitions::KeptDefinition;
 use kept_values::Kept;
+use macro_library::KeptDefinition;
 use operand_list::Operands;
 use std::alloc::Global;
 use std::rc::{Rc, RcStr};

@@ -2,13 +2,12 @@
 ghost use Rattle.std.specs.Prelude.{◌≡◌, ◌↔◌, IfOk, IsTrue};
 ghost use Rattle.hl_base.specs.declared.set.Answer.TheVariants.{Defined, Nothing};
 ghost use Rattle.kept_values.specs.Answers.{answer_tree};
-ghost use Rattle.kept_definitions.specs.Contents.{content_of};
+ghost use Rattle.macro_library.specs.Contents.{content_of};
 ghost use Rattle.call_sites.specs.Values.{definition_known, known_tree, member_known};
 
 use hl_base::{Answer, OutOfMemory};
-use kept_definitions::KeptDefinition;
-use kept_definitions::macro_library::MemberFile;
 use kept_values::Kept;
+use macro_library::{KeptDefinition, MemberFile};
 use std::alloc::Global;
 use std::marker::Model;
 
@@ -23,7 +22,7 @@ pub struct KnownMacro {
 impl Model for KnownMacro {
     ghost use Rattle.std.specs.Prelude.{◌≡◌};
     ghost use Rattle.hl_base.specs.declared.set.Answer.TheVariants.{Defined};
-    ghost use Rattle.kept_definitions.specs.Contents.{Content, content_of};
+    ghost use Rattle.macro_library.specs.Contents.{Content, content_of};
 
     ghost Value = { Content };
 
@@ -69,7 +68,7 @@ pub struct KnownMember {
 impl Model for KnownMember {
     ghost use Rattle.std.specs.Prelude.{◌≡◌};
     ghost use Rattle.hl_base.specs.declared.set.Answer.TheVariants.{Nothing};
-    ghost use Rattle.kept_definitions.specs.Files.{File};
+    ghost use Rattle.macro_library.specs.Files.{File};
 
     ghost Value = { File };
 

@@ -17,8 +17,7 @@ mod number;
 mod rules;
 
 pub use call_site::{CallSite, MacroCall};
-pub use kept_definitions;
-pub use kept_definitions::macro_library;
 pub use known::{Known, KnownMacro, KnownMember};
 pub use laws::calls_are_read_back;
+pub use macro_library;
 pub use rules::{is_moving, is_writable, rebased};

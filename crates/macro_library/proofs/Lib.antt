@@ -4,3 +4,4 @@ pub mod ExtentLaws
 pub mod VariableLaws
 pub mod ContentLaws
 pub mod SurveyLaws
+pub mod TreeLaws

@@ -8,3 +8,4 @@ pub mod Contents
 pub mod Held
 pub mod Copying
 pub mod Inside
+pub mod Trees

@@ -6,7 +6,12 @@
 //! tells two apart by a number of their contents first. `behind_definition` says where processing goes on after a
 //! definition as it is written, and `defining_at` whether a member defines an operation.
 //!
-//! It knows nothing of calls, values and files: what members are is told to it. It follows the HLASM Language Reference
+//! A definition can be kept as a value (`KeptDefinition`): it is what a world answers to the name of an operation, and what a
+//! call is made of. Contracts see it as the tree of numbers of what it says (`specs/Trees`), and it is read back from that tree
+//! (`contents_are_read_back`). Its number is that of its content, so that two are told apart without reading them. A copy
+//! shares the definition.
+//!
+//! It knows nothing of calls, worlds and files: what members are is told to it. It follows the HLASM Language Reference
 //! SC26-4940, "Format of a macro definition", "Macro prototype statement", "Inner macro definitions", "COPY instruction",
 //! "System variable symbols".
 #![tactic(auto)]
@@ -16,7 +21,9 @@ mod copying;
 mod definition;
 mod extent;
 mod fault;
+mod kept_definition;
 mod later;
+mod laws;
 mod line;
 mod member;
 mod survey;
@@ -25,5 +32,7 @@ mod variables;
 pub use definition::{Def, read_definition};
 pub use extent::{behind_definition, defining_at};
 pub use fault::DefFault;
+pub use kept_definition::KeptDefinition;
+pub use laws::contents_are_read_back;
 pub use member::{Member, MemberFile, Members};
 pub use variables::SystemVariables;

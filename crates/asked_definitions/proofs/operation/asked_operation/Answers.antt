@@ -2,7 +2,7 @@ use Rattle.std.proofs.Common.{◌≡◌, ◌∙◌, Some, sym, ap}
 use Rattle.hl_base.specs.declared.set.Key.TheVariants as key
 use Rattle.kept_values.specs.Keys.{key_tree}
 use Rattle.kept_values.specs.Trees.{look_up}
-use Rattle.call_sites.proofs.TreeLaws.{content_back, content_of_tree}
+use Rattle.macro_library.proofs.TreeLaws.{content_back, content_of_tree}
 use Rattle.asking_core.specs.Places.{pairs_of}
 use Rattle.plain_expansion.specs.Questions.{Comes, led_by, led_on}
 use Rattle.macro_library.specs.Contents.{Content, content_of}

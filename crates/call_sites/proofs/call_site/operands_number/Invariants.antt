@@ -1,6 +1,6 @@
 use Rattle.std.proofs.Common.{◌≡◌, length, map}
 use Rattle.kept_values.specs.Lists.{list_tree}
-use Rattle.kept_definitions.specs.Trees.{row_tree}
+use Rattle.macro_library.specs.Trees.{row_tree}
 use Rattle.call_sites.specs.Calls as calls
 use Rattle.call_sites.proofs.call_site.operands_number.Given as goal
 

@@ -1,7 +1,7 @@
 use Rattle.std.proofs.Common.{◌≡◌, ◌∙◌, sym, ap, rules}
 use Rattle.std.specs.Prelude.{IsTrue, ◌↔◌}
 use Rattle.std.specs.Str.{chars}
-use Rattle.kept_definitions.specs.Files.{File}
+use Rattle.macro_library.specs.Files.{File}
 use Rattle.call_sites.proofs.CallLaws.{bytes-chars}
 use Rattle.call_sites.proofs.KnownLaws.{file_as}
 use Rattle.call_sites.proofs.known.same_file.Goals as goal

@@ -7,7 +7,7 @@ use Rattle.hlasm_statements.specs.declared.statement.Shape.TheVariants.{Plain, C
 use Rattle.kept_values.specs.Trees.{Tree}
 use Rattle.kept_values.specs.Lists.{list_tree}
 use Rattle.macro_library.specs.Contents.{Content, Written, content_number}
-use Rattle.kept_definitions.specs.Trees.{list_in, row_tree, row_in, shape_number, shape_in, fault_number, fault_in, written_tree, written_in, content_tree, content_in, definition_number}
+use Rattle.macro_library.specs.Trees.{list_in, row_tree, row_in, shape_number, shape_in, fault_number, fault_in, written_tree, written_in, content_tree, content_in, definition_number}
 
 list_back : (xs : List ℕ) → list_in (list_tree xs) ≡ xs
 list_back [] = refl

@@ -7,7 +7,7 @@ use Rattle.hlasm_statements.specs.declared.statement.Shape.TheVariants.{Plain, C
 use Rattle.kept_values.specs.Trees.{Tree, Leaf, Fork}
 use Rattle.kept_values.specs.Lists.{list_tree}
 use Rattle.macro_library.specs.Contents.{Content, Written, content_number, content_of}
-use Rattle.kept_definitions.specs.declared.kept_definition.KeptDefinition.{KeptDefinition}
+use Rattle.macro_library.specs.declared.kept_definition.KeptDefinition.{KeptDefinition}
 
 -- ---- what a tree is made of
 

@@ -1,7 +1,7 @@
 //! A definition that is kept.
+use crate::Def;
 use hl_base::OutOfMemory;
 use kept_values::Kept;
-use macro_library::Def;
 use std::alloc::Global;
 use std::rc::Rc;
 
@@ -12,7 +12,7 @@ pub struct KeptDefinition {
 }
 
 impl Kept for KeptDefinition {
-    ghost use Rattle.kept_definitions.specs.Trees.{definition_tree, definition_number};
+    ghost use Rattle.macro_library.specs.Trees.{definition_tree, definition_number};
 
     ghost code = { definition_tree };
 

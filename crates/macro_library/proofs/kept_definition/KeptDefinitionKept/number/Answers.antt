@@ -1,8 +1,8 @@
 use Rattle.std.proofs.Common.{sym, ap, ◌∙◌}
 use Rattle.macro_library.specs.Definitions.{Definition}
 use Rattle.macro_library.specs.Contents.{content_of, content_number}
-use Rattle.kept_definitions.proofs.TreeLaws.{number_back}
-use Rattle.kept_definitions.proofs.kept_definition.KeptDefinitionKept.number.Goals as goal
+use Rattle.macro_library.proofs.TreeLaws.{number_back}
+use Rattle.macro_library.proofs.kept_definition.KeptDefinitionKept.number.Goals as goal
 
 pub returns : goal.returns
 returns c =

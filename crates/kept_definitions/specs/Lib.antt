@@ -1,3 +1,0 @@
-pub use Rattle.macro_library.specs.Files
-pub use Rattle.macro_library.specs.Contents
-pub mod Trees
