@@ -152,7 +152,7 @@ def definitions(faults):
             cited = [re.split(r"::", it)[-1].split("(")[0] for it in ticked(row[-1])]
             faults += [f"DEFINITIONS: {row[0]}: no {it}" for it in cited if it not in EVERY_WORD and not it.endswith("_")]
     sections = re.findall(r"(\w+)/specs", read("docs/DEFINITIONS.md"))
-    defining = [name for name, text in SPECS.items() if re.search(r"\bpub (?!mod\b)", text)]
+    defining = [name for name, text in SPECS.items() if re.search(r"\bpub (?!mod\b|use Rattle\b)", text)]
     faults += [f"DEFINITIONS: nothing of {name}" for name in defining if name not in sections]
 
 
