@@ -1,23 +1,23 @@
 //! The macro that the name of an operation stands for.
-ghost use Rattle.std.specs.Prelude.{◌≡◌, IfOk};
+ghost use Rattle.std.specs.Prelude.{◌≡◌, ℕ, List, Some, IfOk};
+ghost use Rattle.kept_values.specs.Answers.{answer_tree};
 ghost use Rattle.kept_values.specs.Keys.{key_tree};
 ghost use Rattle.kept_values.specs.Trees.{look_up};
 ghost use Rattle.asking_core.specs.Places.{pairs_of};
-ghost use Rattle.plain_expansion.specs.Questions.{led_by};
-ghost use Rattle.macro_library.specs.Extents.{defining_at};
-ghost use Rattle.call_sites.specs.Values.{known_tree};
+ghost use Rattle.plain_expansion.specs.Questions.{done, led_by};
+ghost use Rattle.macro_library.specs.Members.{statements_in};
 ghost use Rattle.macro_library.specs.declared.member.Member.TheVariants.{File};
+ghost use Rattle.call_sites.specs.Values.{known_tree};
 ghost use Rattle.asked_definitions.specs.Asked as asked;
-ghost use Rattle.asked_definitions.specs.Led.{defined_led, operation_led};
+ghost use Rattle.asked_definitions.specs.Led.{defined_led, operation_led, sought_by};
 
 use crate::definition::{AskedDefinition, asked_definition};
-use crate::member::{known_at, member_of};
+use crate::member::known_at;
 use asking_core::Noted;
-use call_sites::Known;
-use hl_base::{Key, Name, OutOfMemory};
+use call_sites::{Known, KnownMember};
+use hl_base::{Answer, Key, Name, OutOfMemory};
 use kept_values::Kept;
-use macro_library::{DefFault, KeptDefinition, Member, MemberFile, defining_at};
-use statement_listing::Listing;
+use macro_library::{DefFault, KeptDefinition, defining_at};
 use std::alloc::Global;
 use std::rc::Rc;
 
@@ -52,39 +52,66 @@ fn defined(alloc: Global, asked: AskedDefinition) -> Result<AskedOperation, OutO
     }
 }
 
-/// The macro of this name in a list of statements.
-fn in_list(
+/// The macro whose definition begins at the MACRO of this number in a member: the one that is kept with the member, if there is
+/// one, and else it is read.
+fn at_macro(
     alloc: Global,
-    list: &Listing,
+    member: &KnownMember,
+    start: u32,
+    answers: &[Noted<Key, Known>],
+) -> Result<AskedOperation, OutOfMemory>
+    ensures { IfOk result (λ found. operation_led found
+        ≡ led_by (look_up (pairs_of key_tree known_tree answers.now)) (asked.in_lines (statements_in member.now) (Some start))) }
+{
+    match member.definition_at(start) {
+        Some(kept) => {
+            let definition = kept.definition.clone()?;
+            Ok(AskedOperation::Found(Sought::Macro(KeptDefinition { definition })))
+        }
+        None => defined(
+            alloc,
+            asked_definition(alloc, member.file().list(), start, answers)?,
+        ),
+    }
+}
+
+/// The macro of this name in a member that has a file.
+fn in_member(
+    alloc: Global,
+    member: &KnownMember,
     name: &Name,
     answers: &[Noted<Key, Known>],
 ) -> Result<AskedOperation, OutOfMemory>
     ensures { IfOk result (λ found. operation_led found
-        ≡ led_by (look_up (pairs_of key_tree known_tree answers.now)) (asked.in_lines list.now (defining_at name.now list.now))) }
+        ≡ led_by (look_up (pairs_of key_tree known_tree answers.now)) (asked.in_member name.now (File member.now))) }
 {
-    let Some(start) = defining_at(list, name) else {
+    let Some(start) = defining_at(member.file().list(), name) else {
         return Ok(AskedOperation::Found(Sought::Unknown));
     };
     let Ok(start) = u32::try_from(start) else {
         return Err(OutOfMemory);
     };
-    defined(alloc, asked_definition(alloc, list, start, answers)?)
+    at_macro(alloc, member, start, answers)
 }
 
-/// The macro of this name in a file.
-fn in_file(
-    alloc: Global,
-    file: &MemberFile,
-    name: &Name,
-    answers: &[Noted<Key, Known>],
-) -> Result<AskedOperation, OutOfMemory>
-    ensures { IfOk result (λ found. operation_led found
-        ≡ led_by (look_up (pairs_of key_tree known_tree answers.now)) (asked.in_member name.now (File file.now))) }
+/// What an operation is of whose member this was answered, which is no file.
+fn without_file(answer: &Answer) -> Sought
+    ensures { (name : List ℕ) → asked.in_member name (asked.member_in (answer_tree answer.now)) ≡ done (sought_by result) }
 {
-    in_list(alloc, file.list(), name, answers)
+    match answer {
+        Answer::Unreadable => Sought::Unreadable,
+        Answer::Nothing => Sought::Unknown,
+        Answer::Number(_) => Sought::Unknown,
+        Answer::Bit(_) => Sought::Unknown,
+        Answer::Chars(_) => Sought::Unknown,
+        Answer::Defined => Sought::Unknown,
+        Answer::File(_, _) => Sought::Unknown,
+        Answer::Meaning(_) => Sought::Unknown,
+    }
 }
 
 /// The macro of this name in the member of that name.
+#[tactic(auto, using(crate::proofs::MemberLaws::member_back))]
 fn in_library(
     alloc: Global,
     name: &Name,
@@ -97,15 +124,15 @@ fn in_library(
     let Some(known) = known_at(answers, &key) else {
         return Ok(AskedOperation::Wants(key));
     };
-    match member_of(known)? {
-        Member::Absent => Ok(AskedOperation::Found(Sought::Unknown)),
-        Member::Unreadable => Ok(AskedOperation::Found(Sought::Unreadable)),
-        Member::File(file) => in_file(alloc, &file, name, answers),
+    match known {
+        Known::Member(member) => in_member(alloc, member, name, answers),
+        Known::Plain(answer) => Ok(AskedOperation::Found(without_file(answer))),
+        Known::Macro(_) => Ok(AskedOperation::Found(Sought::Unknown)),
     }
 }
 
 /// How far the answers lead to what the operation of this name is: the macro that was defined so, or else the one that the
-/// member of that name defines, which is read at each call.
+/// member of that name defines: the one that is kept with the member, or one that is read at each call.
 pub fn asked_operation(
     alloc: Global,
     name: &Name,

@@ -1,3 +1,4 @@
+pub mod Owned
 pub mod Values
 pub mod Calls
 pub mod Rules

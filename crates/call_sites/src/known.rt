@@ -1,10 +1,13 @@
 //! What is answered to a key.
-ghost use Rattle.std.specs.Prelude.{◌≡◌, ◌↔◌, IfOk, IsTrue};
+ghost use Rattle.std.specs.Prelude.{◌≡◌, ◌↔◌, [], IfOk, IfSome, IsTrue, Ok};
 ghost use Rattle.hl_base.specs.declared.set.Answer.TheVariants.{Defined, Nothing};
 ghost use Rattle.kept_values.specs.Answers.{answer_tree};
 ghost use Rattle.macro_library.specs.Contents.{content_of};
+ghost use Rattle.macro_library.specs.Definitions.{definition_of};
+ghost use Rattle.macro_library.specs.Members.{statements_in};
 ghost use Rattle.call_sites.specs.Values.{definition_known, known_tree, member_known};
 
+use crate::own_definition::OwnDefinition;
 use hl_base::{Answer, OutOfMemory};
 use kept_values::Kept;
 use macro_library::{KeptDefinition, MemberFile};
@@ -61,6 +64,8 @@ impl KnownMacro {
 #[derive(Drop)]
 pub struct KnownMember {
     file: MemberFile,
+    /// The definition that it has, so that it is read once and not at each call.
+    own: Option<OwnDefinition>,
     /// What expressions are told of it.
     answer: Answer,
 }
@@ -69,22 +74,52 @@ impl Model for KnownMember {
     ghost use Rattle.std.specs.Prelude.{◌≡◌};
     ghost use Rattle.hl_base.specs.declared.set.Answer.TheVariants.{Nothing};
     ghost use Rattle.macro_library.specs.Files.{File};
+    ghost use Rattle.macro_library.specs.Members.{statements_in};
+    ghost use Rattle.call_sites.specs.Owned.{IsOwn};
 
     ghost Value = { File };
 
     ghost view = { λ m. m.file };
 
-    ghost invariant = { λ m. m.answer ≡ Nothing };
+    ghost invariant = { λ m. (m.answer ≡ Nothing) × IsOwn (statements_in m.file) m.own };
 }
 
 impl KnownMember {
     /// The member with this file.
-    pub fn of(file: MemberFile) -> KnownMember
-        ensures { result ≡ file }
+    pub fn of(alloc: Global, file: MemberFile) -> Result<KnownMember, OutOfMemory>
+        ensures { IfOk result (λ m. m ≡ file) }
     {
-        KnownMember {
+        let own = OwnDefinition::of(alloc, file.list())?;
+        Ok(KnownMember {
             file,
+            own,
             answer: Answer::Nothing,
+        })
+    }
+
+    /// The same member. It takes no memory; an `Err` comes only where it is shared more often than can be counted.
+    fn share(&self) -> Result<KnownMember, OutOfMemory>
+        ensures { IfOk result (λ m. m ≡ self.now) }
+    {
+        let file = self.file.share()?;
+        let own = match &self.own {
+            Some(own) => Some(own.share()?),
+            None => None,
+        };
+        Ok(KnownMember {
+            file,
+            own,
+            answer: Answer::Nothing,
+        })
+    }
+
+    /// The definition that begins at the MACRO of this number in its list, where it is kept: it copies nothing then.
+    pub fn definition_at(&self, start: u32) -> Option<&KeptDefinition>
+        ensures { IfSome result (λ kept. definition_of [] (statements_in self.now) start ≡ Ok kept.now.definition.value) }
+    {
+        match &self.own {
+            Some(own) => own.at(start),
+            None => None,
         }
     }
 
@@ -197,10 +232,7 @@ impl Kept for Known {
                 let definition = known.definition.copy(alloc)?;
                 Ok(Known::Macro(KnownMacro::of(definition)))
             }
-            Known::Member(known) => {
-                let file = known.file.share()?;
-                Ok(Known::Member(KnownMember::of(file)))
-            }
+            Known::Member(known) => Ok(Known::Member(known.share()?)),
         }
     }
 }

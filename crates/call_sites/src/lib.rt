@@ -14,6 +14,7 @@ mod call_site;
 mod known;
 mod laws;
 mod number;
+mod own_definition;
 mod rules;
 
 pub use call_site::{CallSite, MacroCall};

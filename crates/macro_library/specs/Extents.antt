@@ -81,6 +81,14 @@ abbrev pub defining : (operation : List ℕ) → Option Headed → Option ℕ
 defining operation None = None
 defining operation (Some h) = if begins_at h.line && is_prototype_of operation (headed h.rest) then Some h.at else None
 
+abbrev pub beginning : Option Headed → Option ℕ
+beginning None = None
+beginning (Some h) = if begins_at h.line then Some h.at else None
+
+-- Where the definition of a member begins: at its first statement that is neither a comment nor blank, if that is MACRO.
+abbrev pub macro_at : List Listed → Option ℕ
+macro_at list = beginning (headed list)
+
 -- A member defines an operation where its first statement that is neither a comment nor blank is MACRO, and the prototype
 -- behind that has the operation, whatever else is wrong with it: then the number of the MACRO in the member's list.
 abbrev pub defining_at : (operation : List ℕ) → List Listed → Option ℕ

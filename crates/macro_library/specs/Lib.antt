@@ -1,3 +1,4 @@
+pub use Rattle.statement_listing.specs.Listings
 pub mod Files
 pub mod Members
 pub mod Extents

@@ -99,6 +99,21 @@ fn is_prototype_of(operation: &Name, prototype: Option<Headed<'_>>) -> bool
     }
 }
 
+/// The number of the MACRO that begins the list of a member: it is the first statement that is neither a comment nor blank.
+pub fn macro_at(list: &Listing) -> Option<usize>
+    ensures { result ≡ extents.macro_at list.now }
+{
+    match first_plain(list.lines()) {
+        Some(first) => {
+            if begins(first.line) {
+                return Some(first.at);
+            }
+            None
+        }
+        None => None,
+    }
+}
+
 /// The number of the MACRO in the list of a member that defines an operation: it is the first statement that is neither a
 /// comment nor blank, and the prototype behind it has the operation, whatever else is wrong with it.
 pub fn defining_at(list: &Listing, operation: &Name) -> Option<usize>

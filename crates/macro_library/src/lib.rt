@@ -30,9 +30,10 @@ mod survey;
 mod variables;
 
 pub use definition::{Def, read_definition};
-pub use extent::{behind_definition, defining_at};
+pub use extent::{behind_definition, defining_at, macro_at};
 pub use fault::DefFault;
 pub use kept_definition::KeptDefinition;
 pub use laws::contents_are_read_back;
 pub use member::{Member, MemberFile, Members};
+pub use statement_listing;
 pub use variables::SystemVariables;

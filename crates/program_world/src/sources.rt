@@ -51,7 +51,7 @@ fn look_for<P: Present>(alloc: Global, present: &P, name: &Name) -> Result<Known
         Answer::File(path, text) => {
             let text = present.pool().shared(alloc, text)?;
             let file = MemberFile::of(alloc, path, text)?;
-            Ok(Known::Member(KnownMember::of(file)))
+            Ok(Known::Member(KnownMember::of(alloc, file)?))
         }
         Answer::Unreadable => Ok(Known::Plain(Answer::Unreadable)),
         _ => Ok(Known::Plain(Answer::Nothing)),
