@@ -1,16 +1,16 @@
 //! Constants and literals of a statement.
-ghost use Rattle.std.specs.Prelude.{◌≡◌, [], ◌∷◌, ◌++◌, map, IfOk, OnOk};
+ghost use Rattle.std.specs.Prelude.{◌≡◌, [], ◌∷◌, ◌++◌, map, is_some, IfOk, OnOk};
 ghost use Rattle.std.specs.Str.{chars};
-ghost use Rattle.std.specs.List.{filter_map};
-ghost use Rattle.std.specs.Option.{option_map};
 ghost use Rattle.constant_operands.specs.Operands.{operand};
 ghost use Rattle.constant_operands.specs.Views.{operand_of};
 ghost use Rattle.layout_statements.specs.Lists as spec;
+ghost use Rattle.literal_operands.specs.Views.{literal_of};
 ghost use Rattle.layout_statements.specs.Views.{read_literal_of};
 
+use crate::symbols::head;
 use constant_operands::{ConstantOperand, ConstantUse};
 use hl_base::{OutOfMemory, Text};
-use literal_operands::literal_operand;
+use literal_operands::{LiteralOperand, literal_operand};
 use std::alloc::Global;
 
 /// A literal in an operand: its text behind the equals sign, and what that is as a constant.
@@ -20,14 +20,15 @@ pub struct ReadLiteral {
     pub constant: ConstantOperand,
 }
 
-/// Adds an operand behind others.
+/// Adds an operand behind others. Room is asked for by itself, so that no answer has to hold an operand that was refused.
 fn push_constant(
     constants: &mut Vec<ConstantOperand>,
     constant: ConstantOperand,
 ) -> Result<(), OutOfMemory>
     ensures { OnOk result (constants.new.items ≡ constants.old.items ++ constant ∷ []) }
 {
-    constants.push(constant)?;
+    constants.reserve(1)?;
+    constants.push_reserved(constant);
     Ok(())
 }
 
@@ -40,7 +41,7 @@ fn read_each(
 ) -> Result<Vec<ConstantOperand>, OutOfMemory>
     ensures { IfOk result (λ constants. map operand_of constants.items ≡ map (operand used) operands.now) }
 {
-    let mut constants = Vec::new(alloc);
+    let mut constants = Vec::with_capacity(alloc, operands.len())?;
     for text in operands {
         push_constant(
             &mut constants,
@@ -80,28 +81,57 @@ pub(crate) fn read_constants(
     read_each(alloc, used, operands)
 }
 
-/// Reads the literal in an operand, if there is one.
-fn read_literal(alloc: Global, operand: &str) -> Result<Option<ReadLiteral>, OutOfMemory>
-    ensures { IfOk result (λ literal. option_map read_literal_of literal ≡ spec.literal (chars operand.now)) }
+/// Whether an operand is a literal: it begins with an equals sign. Most operands are told by this alone.
+fn is_literal(operand: &str) -> bool
+    ensures { result ≡ is_some (spec.literal (chars operand.now)) }
+{
+    matches!(head(operand), Some(('=', _)))
+}
+
+/// Adds what was found of a literal behind others.
+fn push_found(
+    alloc: Global,
+    literals: &mut Vec<ReadLiteral>,
+    found: LiteralOperand<'_>,
+) -> Result<(), OutOfMemory>
+    ensures { OnOk result (map read_literal_of literals.new.items
+        ≡ map read_literal_of literals.old.items ++ spec.without_behind (literal_of found.entry) ∷ []) }
+{
+    let text = Text::of(alloc, found.text)?;
+    literals.reserve(1)?;
+    literals.push_reserved(ReadLiteral {
+        text,
+        constant: found.constant,
+    });
+    Ok(())
+}
+
+/// Adds the literal in an operand behind others, if it is read as one.
+fn push_read(
+    alloc: Global,
+    literals: &mut Vec<ReadLiteral>,
+    operand: &str,
+) -> Result<(), OutOfMemory>
+    ensures { OnOk result (map read_literal_of literals.new.items
+        ≡ map read_literal_of literals.old.items ++ spec.listed (spec.literal (chars operand.now))) }
 {
     match literal_operand(alloc, operand)? {
-        Some(found) => Ok(Some(ReadLiteral {
-            text: Text::of(alloc, found.text)?,
-            constant: found.constant,
-        })),
-        None => Ok(None),
+        Some(found) => push_found(alloc, literals, found),
+        None => Ok(()),
     }
 }
 
-/// Adds a literal behind others, if there is one.
+/// Adds the literal in an operand behind others, if there is one.
 fn push_literal(
+    alloc: Global,
     literals: &mut Vec<ReadLiteral>,
-    literal: Option<ReadLiteral>,
+    operand: &str,
 ) -> Result<(), OutOfMemory>
-    ensures { OnOk result (map read_literal_of literals.new.items ≡ map read_literal_of literals.old.items ++ spec.listed (option_map read_literal_of literal)) }
+    ensures { OnOk result (map read_literal_of literals.new.items
+        ≡ map read_literal_of literals.old.items ++ spec.listed (spec.literal (chars operand.now))) }
 {
-    if let Some(literal) = literal {
-        literals.push(literal)?;
+    if is_literal(operand) {
+        return push_read(alloc, literals, operand);
     }
     Ok(())
 }
@@ -115,7 +145,7 @@ pub(crate) fn read_literals(
 {
     let mut literals = Vec::new(alloc);
     for operand in operands {
-        push_literal(&mut literals, read_literal(alloc, operand.as_str())?)?;
+        push_literal(alloc, &mut literals, operand.as_str())?;
     }
     Ok(literals)
 }

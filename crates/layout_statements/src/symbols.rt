@@ -20,7 +20,7 @@ pub enum ReadSymbol {
 }
 
 /// The first character of a text, and what is behind it.
-fn head(text: &str) -> Option<(char, &str)>
+pub(crate) fn head(text: &str) -> Option<(char, &str)>
     ensures { MatchOption result (chars text.now ≡ []) (λ p. chars text.now ≡ p.0 ∷ chars p.1.now) }
 {
     let mut rest = text.chars();

@@ -2,8 +2,12 @@
 use Rattle.std.proofs.Common.{◌≡◌, ◌∙◌, List, [], ◌∷◌, ◌++◌, map, ap, append_assoc}
 use Rattle.std.proofs.lemmas.List.{map-append}
 
--- one more element, seen through a view, and then the rest
-pub mapped_next : {A B : Type 0} (view : A → B) (front : List A) (one : A) (rest : List B) →
-    map view (front ++ one ∷ []) ++ rest ≡ map view front ++ view one ∷ rest
-mapped_next view front one rest =
-    ap (λ all. all ++ rest) (map-append view front (one ∷ [])) ∙ append_assoc (map view front) (view one ∷ []) rest
+-- one more element, seen through a view
+pub mapped_push : {A B : Type 0} (view : A → B) (front grown : List A) (one : A) → grown ≡ front ++ one ∷ [] →
+    map view grown ≡ map view front ++ view one ∷ []
+mapped_push view front grown one is = ap (map view) is ∙ map-append view front (one ∷ [])
+
+-- one more, and then the rest
+pub next_mapped : {B : Type 0} (front grown : List B) (one : B) (rest : List B) → grown ≡ front ++ one ∷ [] →
+    grown ++ rest ≡ front ++ one ∷ rest
+next_mapped front grown one rest is = ap (λ all. all ++ rest) is ∙ append_assoc front (one ∷ []) rest

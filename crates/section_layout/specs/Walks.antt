@@ -17,8 +17,11 @@ pub record Met : Type 0 where
 unfoldable pub read : Line → Statement
 read line = statement line.label line.op line.operands
 
+abbrev pub met_of_read : Statement → State → Met
+met_of_read statement state = record { laid = laid statement state; symbols = length (behind statement state).symbols }
+
 unfoldable pub met : Line → State → Met
-met line state = record { laid = laid (read line) state; symbols = length (behind (read line) state).symbols }
+met line state = met_of_read (read line) state
 
 unfoldable pub state_behind : Line → State → State
 state_behind line state = behind (read line) state

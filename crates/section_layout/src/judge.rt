@@ -36,10 +36,24 @@ fn rows_of(
     Ok(rows)
 }
 
-/// A statement when these symbols are known.
-#[tactic(auto, unfolding(crate::specs::Layout::judged, crate::specs::Rows::rows))]
-fn judge(symbols: &Symbols, one: Met) -> Result<StatementLayout, OutOfMemory>
-    ensures { IfOk result (λ statement. statement_of statement ≡ spec.judged (table_of symbols.now) (met_of one)) }
+/// Adds a statement behind others. Room is asked for by itself, so that no answer has to hold a statement that was refused.
+fn push(statements: &mut Vec<StatementLayout>, one: StatementLayout) -> Result<(), OutOfMemory>
+    ensures { OnOk result (statements.new.items ≡ statements.old.items ++ one ∷ []) }
+{
+    statements.reserve(1)?;
+    statements.push_reserved(one);
+    Ok(())
+}
+
+/// A statement when these symbols are known, behind others.
+#[tactic(auto, unfolding(crate::specs::Layout::judged, crate::specs::Rows::rows), using(crate::proofs::Maps::mapped_push))]
+fn judge(
+    symbols: &Symbols,
+    one: Met,
+    statements: &mut Vec<StatementLayout>,
+) -> Result<(), OutOfMemory>
+    ensures { OnOk result (map statement_of statements.new.items
+        ≡ map statement_of statements.old.items ++ spec.judged (table_of symbols.now) (met_of one) ∷ []) }
 {
     let Met {
         laid,
@@ -55,38 +69,34 @@ fn judge(symbols: &Symbols, one: Met) -> Result<StatementLayout, OutOfMemory>
         left,
     } = laid;
     let rows = rows_of(symbols, here, &left, said, said_of_symbols)?;
-    Ok(StatementLayout {
-        place,
-        bytes,
-        here,
-        uses,
-        symbols: behind,
-        rows,
-        left,
-    })
+    push(
+        statements,
+        StatementLayout {
+            place,
+            bytes,
+            here,
+            uses,
+            symbols: behind,
+            rows,
+            left,
+        },
+    )
 }
 
 /// The same of all statements.
-#[tactic(auto, using(crate::proofs::Maps::mapped_next))]
+#[tactic(auto, using(crate::proofs::Maps::next_mapped))]
 pub(crate) fn judge_all(
     alloc: Global,
     symbols: &Symbols,
-    mut all: VecDeque<Met>,
+    all: Vec<Met>,
 ) -> Result<Vec<StatementLayout>, OutOfMemory>
     ensures { IfOk result (λ statements. map statement_of statements.items
         ≡ map (spec.judged (table_of symbols.now)) (map met_of all.items)) }
 {
-    let mut statements = Vec::new(alloc);
-    while let Some(one) = all.pop_front() {
-        push(&mut statements, judge(symbols, one)?)?;
+    let mut statements = Vec::with_capacity(alloc, all.len())?;
+    let mut left = VecDeque::from(all);
+    while let Some(one) = left.pop_front() {
+        judge(symbols, one, &mut statements)?;
     }
     Ok(statements)
-}
-
-/// Adds a statement behind others.
-fn push(statements: &mut Vec<StatementLayout>, one: StatementLayout) -> Result<(), OutOfMemory>
-    ensures { OnOk result (statements.new.items ≡ statements.old.items ++ one ∷ []) }
-{
-    statements.push(one)?;
-    Ok(())
 }

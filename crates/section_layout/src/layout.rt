@@ -14,7 +14,6 @@ use ordinary_symbols::Symbols;
 use section_steps::{Left, State};
 use section_table::Place;
 use std::alloc::Global;
-use std::collections::VecDeque;
 use trace_values::{Reloc, Sections};
 
 /// A statement that is laid out. Which of the layout's symbols are defined before it is told by the number behind the statement
@@ -63,7 +62,7 @@ impl Layout {
 
 /// The layout of statements that were met, with what there is behind them.
 #[tactic(auto, unfolding(crate::specs::Layout::settled))]
-fn settle(alloc: Global, all: VecDeque<Met>, state: State) -> Result<Layout, OutOfMemory>
+fn settle(alloc: Global, all: Vec<Met>, state: State) -> Result<Layout, OutOfMemory>
     ensures { IfOk result (λ layout. layout_view layout ≡ spec.settled (map met_of all.items) (state_of state)) }
 {
     let State {
@@ -84,7 +83,7 @@ fn settle(alloc: Global, all: VecDeque<Met>, state: State) -> Result<Layout, Out
 
 /// The same where the last pool is still to be placed.
 #[tactic(auto, unfolding(crate::specs::Layout::ended))]
-fn end(alloc: Global, mut all: VecDeque<Met>, mut state: State) -> Result<Layout, OutOfMemory>
+fn end(alloc: Global, mut all: Vec<Met>, mut state: State) -> Result<Layout, OutOfMemory>
     ensures { IfOk result (λ layout. layout_view layout ≡ spec.ended (map met_of all.items) (state_of state)) }
 {
     let mut said = Vec::new(alloc);

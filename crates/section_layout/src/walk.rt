@@ -1,8 +1,10 @@
 //! Statements that are laid out one after the other.
 ghost use Rattle.std.specs.Prelude.{◌≡◌, ◌++◌, ◌∷◌, [], map, IfOk, OnOk};
 ghost use Rattle.std.specs.List.{list_any};
+ghost use Rattle.section_steps.specs.StatementViews.{statement_of as layout_statement_of};
 ghost use Rattle.section_layout.specs.Views.{lines_of, met_of};
 ghost use Rattle.section_layout.specs.Walks as spec;
+ghost use Rattle.section_steps.specs.Steps as steps;
 ghost use Rattle.section_steps.specs.Views.{state_of};
 
 use hl_base::{Line, OutOfMemory};
@@ -10,7 +12,6 @@ use note_rows::Row;
 use section_steps::layout_statements::LayoutStatement;
 use section_steps::{Laid, State};
 use std::alloc::Global;
-use std::collections::VecDeque;
 
 /// A statement that is laid out, and how many symbols there are behind it.
 #[derive(Drop)]
@@ -19,42 +20,66 @@ pub(crate) struct Met {
     pub(crate) symbols: usize,
 }
 
-/// Lays out the statement of a line.
-#[tactic(auto, unfolding(crate::specs::Walks::read, crate::specs::Walks::met, crate::specs::Walks::state_behind))]
-fn meet(alloc: Global, state: &mut State, line: &Line) -> Result<Met, OutOfMemory>
-    ensures behind { OnOk result (state_of state.new ≡ spec.state_behind line.now (state_of state.old)) }
-    ensures met { IfOk result (λ one. met_of one ≡ spec.met line.now (state_of state.old)) }
-{
-    let statement = LayoutStatement::read(alloc, line)?;
-    let laid = state.step(alloc, statement)?;
-    Ok(Met {
-        laid,
-        symbols: state.symbols.count(),
-    })
-}
-
-/// Adds a statement behind others.
-fn push(all: &mut VecDeque<Met>, one: Met) -> Result<(), OutOfMemory>
+/// Adds a statement behind others. Room is asked for by itself, so that no answer has to hold a statement that was refused.
+fn push(all: &mut Vec<Met>, one: Met) -> Result<(), OutOfMemory>
     ensures { OnOk result (all.new.items ≡ all.old.items ++ one ∷ []) }
 {
-    all.push_back(one)?;
+    all.reserve(1)?;
+    all.push_reserved(one);
     Ok(())
 }
 
+/// Lays out a statement behind others.
+#[tactic(auto, using(crate::proofs::Maps::mapped_push))]
+fn lay(
+    alloc: Global,
+    state: &mut State,
+    statement: LayoutStatement,
+    all: &mut Vec<Met>,
+) -> Result<(), OutOfMemory>
+    ensures behind { OnOk result (state_of state.new ≡ steps.behind (layout_statement_of statement) (state_of state.old)) }
+    ensures met { OnOk result (map met_of all.new.items
+        ≡ map met_of all.old.items ++ spec.met_of_read (layout_statement_of statement) (state_of state.old) ∷ []) }
+{
+    match state.step(alloc, statement) {
+        Ok(laid) => {
+            let symbols = state.symbols.count();
+            push(all, Met { laid, symbols })
+        }
+        Err(fault) => Err(fault),
+    }
+}
+
+/// Lays out the statement of a line behind others.
+#[tactic(auto, unfolding(crate::specs::Walks::read, crate::specs::Walks::met, crate::specs::Walks::state_behind))]
+fn meet(
+    alloc: Global,
+    state: &mut State,
+    line: &Line,
+    all: &mut Vec<Met>,
+) -> Result<(), OutOfMemory>
+    ensures behind { OnOk result (state_of state.new ≡ spec.state_behind line.now (state_of state.old)) }
+    ensures met { OnOk result (map met_of all.new.items ≡ map met_of all.old.items ++ spec.met line.now (state_of state.old) ∷ []) }
+{
+    match LayoutStatement::read(alloc, line) {
+        Ok(statement) => lay(alloc, state, statement, all),
+        Err(fault) => Err(fault),
+    }
+}
+
 /// Lays out the statements of some lines.
-#[tactic(auto, using(crate::proofs::Maps::mapped_next))]
+#[tactic(auto, using(crate::proofs::Maps::next_mapped))]
 pub(crate) fn meet_all(
     alloc: Global,
     state: &mut State,
     mut lines: &[&Line],
-) -> Result<VecDeque<Met>, OutOfMemory>
+) -> Result<Vec<Met>, OutOfMemory>
     ensures behind { OnOk result (state_of state.new ≡ spec.all_behind (lines_of lines.entry.now) (state_of state.old)) }
     ensures met { IfOk result (λ all. map met_of all.items ≡ spec.all_met (lines_of lines.entry.now) (state_of state.old)) }
 {
-    let mut all = VecDeque::new(alloc);
+    let mut all = Vec::with_capacity(alloc, lines.len())?;
     while let [line, rest @ ..] = lines {
-        let one = meet(alloc, state, line)?;
-        push(&mut all, one)?;
+        meet(alloc, state, line, &mut all)?;
         lines = rest;
     }
     Ok(all)
@@ -91,10 +116,10 @@ fn say_once(said: &mut Vec<Row>, rows: &mut Vec<Row>) -> Result<(), OutOfMemory>
 
 /// Of the place of the last statement this is said too.
 #[tactic(auto, using(crate::proofs::Lasts::said_of_last))]
-pub(crate) fn say_of_last(all: &mut VecDeque<Met>, mut rows: Vec<Row>) -> Result<(), OutOfMemory>
+pub(crate) fn say_of_last(all: &mut Vec<Met>, mut rows: Vec<Row>) -> Result<(), OutOfMemory>
     ensures { OnOk result (map met_of all.new.items ≡ spec.also_said_of_last rows.items (map met_of all.old.items)) }
 {
-    if let Some(mut last) = all.pop_back() {
+    if let Some(mut last) = all.pop() {
         say_once(&mut last.laid.said, &mut rows)?;
         push(all, last)?;
     }

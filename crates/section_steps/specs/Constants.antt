@@ -75,35 +75,45 @@ abbrev pub constants_here : Operand → State → Option Reloc
 constants_here first state = here_at first state.sections
 
 -- the statement stands where its first operand does; where that takes no place, where the counter stood
+unfoldable pub first_place : Knowledge → Operand → Table → Option Place
+first_place known first table = option_or (operand_place known (here_at first table) first table) (sections.here table)
+
 unfoldable pub constants_place : Operand → State → Option Place
-constants_place first state =
-    option_or (operand_place (known state.symbols) (constants_here first state) first state.sections) (sections.here state.sections)
+constants_place first state = first_place (known state.symbols) first state.sections
 
 unfoldable pub constants_attr : Operand → State → Attr
 constants_attr first state = (measured (known state.symbols) (constants_here first state) first).attr
 
+-- what there is when the label of a statement is defined whose operands are placed, and what is kept of it
+unfoldable pub set_behind : Option Place → Attr → Option (List ℕ) → State → State
+set_behind place attr label state = record state { symbols = with_label label place attr state.symbols }
+
+unfoldable pub set_laid : Option Place → Option Reloc → List Row → List Operand → Option (List ℕ) → State → Laid
+set_laid place here said operands label state = record {
+  place = place;
+  bytes = bytes_between place (sections.here state.sections);
+  here = here;
+  uses = [];
+  said = said;
+  said_of_symbols = said_of_label label state.symbols;
+  left = Operands (all_legible (known state.symbols) here operands);
+}
+
+-- the state when a first operand and others are placed
+abbrev pub constants_placed : Operand → List Operand → State → State
+constants_placed first others state =
+    record state { sections = all_taken (known state.symbols) (constants_here first state) (first ∷ others) state.sections }
+
 -- the state behind a first operand and others
 unfoldable pub constants_behind_first : Operand → List Operand → Option (List ℕ) → State → State
-constants_behind_first first others label state = record {
-  sections = all_taken (known state.symbols) (constants_here first state) (first ∷ others) state.sections;
-  symbols = with_label label (constants_place first state) (constants_attr first state) state.symbols;
-  literals = state.literals;
-  externals = state.externals;
-}
+constants_behind_first first others label state =
+    set_behind (constants_place first state) (constants_attr first state) label (constants_placed first others state)
 
 unfoldable pub constants_laid_first : Operand → List Operand → Option (List ℕ) → State → Laid
 constants_laid_first first others label state =
-    let known = known state.symbols in
-    let here = constants_here first state in
-    record {
-      place = constants_place first state;
-      bytes = bytes_between (constants_place first state) (sections.here (all_taken known here (first ∷ others) state.sections));
-      here = here;
-      uses = [];
-      said = said_of_all false known here (first ∷ others) state.sections;
-      said_of_symbols = said_of_label label state.symbols;
-      left = Operands (all_legible known here (first ∷ others));
-    }
+    set_laid (constants_place first state) (constants_here first state)
+    (said_of_all false (known state.symbols) (constants_here first state) (first ∷ others) state.sections) (first ∷ others) label
+    (constants_placed first others state)
 
 -- the state behind DC or DS; there is no statement without operands
 abbrev pub constants_behind : List Operand → Option (List ℕ) → State → State

@@ -22,5 +22,8 @@ is_read (other ∷ rows) = true
 abbrev pub legible_by : List Row → Operand → List Operand
 legible_by said operand = if is_read said then operand ∷ [] else []
 
+unfoldable pub is_legible : Knowledge → Option Reloc → Operand → Bool
+is_legible known here operand = is_read (measured known here operand).said
+
 unfoldable pub legible : Knowledge → Option Reloc → Operand → List Operand
 legible known here operand = legible_by (measured known here operand).said operand

@@ -1,5 +1,6 @@
 pub use Rattle.constant_expressions.specs.Notes
 pub use Rattle.layout_statements.specs.Statements
+pub use Rattle.layout_statements.specs.Views as StatementViews
 pub mod Places
 pub mod States
 pub mod Labels

@@ -1,5 +1,5 @@
 //! What is gathered from operands with constants.
-ghost use Rattle.std.specs.Prelude.{◌≡◌, ◌++◌, [], map, IfOk, OnOk};
+ghost use Rattle.std.specs.Prelude.{◌≡◌, ◌++◌, ◌∷◌, [], map, IfOk, OnOk};
 ghost use Rattle.constant_operands.specs.Views.{measure_of, operand_of};
 ghost use Rattle.ordinary_symbols.specs.Shown.{table_of};
 ghost use Rattle.ordinary_symbols.specs.Table.{known};
@@ -38,13 +38,47 @@ pub(crate) fn measured(
 }
 
 /// Whether an operand of which this is said can be read.
-fn is_read(said: &[Row]) -> bool
+pub(crate) fn is_read(said: &[Row]) -> bool
     ensures { result ≡ spec.is_read said.now }
 {
     match said {
         [Row::BadConstant, ..] => false,
         _ => true,
     }
+}
+
+/// Adds an operand behind others. Room is asked for by itself, so that no answer has to hold an operand that was refused.
+fn push(operands: &mut Vec<ConstantOperand>, operand: ConstantOperand) -> Result<(), OutOfMemory>
+    ensures { OnOk result (operands.new.items ≡ operands.old.items ++ operand ∷ []) }
+{
+    operands.reserve(1)?;
+    operands.push_reserved(operand);
+    Ok(())
+}
+
+/// Adds an operand of which this is said behind others, if it can be read.
+pub(crate) fn push_legible(
+    operands: &mut Vec<ConstantOperand>,
+    operand: ConstantOperand,
+    said: &[Row],
+) -> Result<(), OutOfMemory>
+    ensures { OnOk result (map operand_of operands.new.items
+        ≡ map operand_of operands.old.items ++ spec.legible_by said.now (operand_of operand)) }
+{
+    if is_read(said) {
+        return push(operands, operand);
+    }
+    Ok(())
+}
+
+/// It is said that the section gets too long, where something does not fit.
+pub(crate) fn say_fits(said: &mut Vec<Row>, fits: bool) -> Result<(), OutOfMemory>
+    ensures { OnOk result (said.new.items ≡ said.old.items ++ too_long fits) }
+{
+    if !fits {
+        said.push(Row::SectionTooLong)?;
+    }
+    Ok(())
 }
 
 impl Gathered {
@@ -72,22 +106,8 @@ impl Gathered {
         ensures operands { OnOk result (map operand_of self.new.operands.items
             ≡ map operand_of self.old.operands.items ++ spec.legible_by said.items (operand_of operand)) }
     {
-        if is_read(said.as_slice()) {
-            self.operands.push(operand)?;
-        }
+        push_legible(&mut self.operands, operand, said.as_slice())?;
         self.said.append(&mut said)?;
-        Ok(())
-    }
-
-    /// It is said that the section gets too long, where something does not fit.
-    pub(crate) fn say_fits(&mut self, fits: bool) -> Result<(), OutOfMemory>
-        ensures uses { self.new.uses.items ≡ self.old.uses.items }
-        ensures said { OnOk result (self.new.said.items ≡ self.old.said.items ++ too_long fits) }
-        ensures operands { self.new.operands.items ≡ self.old.operands.items }
-    {
-        if !fits {
-            self.said.push(Row::SectionTooLong)?;
-        }
         Ok(())
     }
 }

@@ -5,7 +5,7 @@ ghost use Rattle.layout_statements.specs.Views.{read_literal_of};
 ghost use Rattle.section_steps.specs.Instructions as spec;
 ghost use Rattle.section_steps.specs.Views.{laid_of, state_of};
 
-use crate::gathering::Gathered;
+use crate::gathering::{Gathered, say_fits};
 use crate::labels::define_label;
 use crate::literals::use_literals;
 use crate::places::{bytes_between, take, value_at};
@@ -43,7 +43,7 @@ pub(crate) fn instruction(
     let stand = take(&mut state.sections, 2, u64::from(bytes));
     let here = value_at(stand.place)?;
     let mut gathered = Gathered::new(alloc);
-    gathered.say_fits(stand.fits)?;
+    say_fits(&mut gathered.said, stand.fits)?;
     use_literals(
         alloc,
         &state.symbols,

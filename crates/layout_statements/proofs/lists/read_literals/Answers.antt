@@ -7,9 +7,8 @@ use Rattle.layout_statements.proofs.lists.read_literals.Goals as goal
 pub loop-operand-preserved : goal.loop-operand-preserved
 loop-operand-preserved c =
     let made = map read_literal_of c.loop-operand.literals.items in
-    let found = c.in_ok-read_literal.ensures ∙ ap literal c.as_str.ensures.characters in
     literals_more made (map read_literal_of c.push_literal.new.literals.items) c.args.operands.now c.loop-operand.operand-index c.operand-item.result
     c.loop-operand.invariant
-    (c.in_ok-push_literal.ensures ∙ ap (λ more. made ++ listed more) found)
+    (c.in_ok-push_literal.ensures ∙ ap (λ text. made ++ listed (literal text)) c.as_str.ensures.characters)
     c.loop-operand-test.true
     c.operand-item.is

@@ -8,7 +8,7 @@ use Rattle.section_layout.proofs.judge.judge_all.Given as goal
 abbrev pub invariant-loop-one : goal.invariant-loop-one
 invariant-loop-one l =
     let judge = judged (table_of l.symbols) in
-    map statement_of l.statements.items ++ map judge (map met_of l.all.items) ≡ map judge (map met_of l.initial.all.items)
+    map statement_of l.statements.items ++ map judge (map met_of l.left.items) ≡ map judge (map met_of l.initial.left.items)
 
 abbrev pub decreases-loop-one : goal.decreases-loop-one
-decreases-loop-one l = length l.all.items
+decreases-loop-one l = length l.left.items
