@@ -8,3 +8,5 @@ pub mod Stacks
 pub mod Notes
 pub mod Runs
 pub mod Assembly
+pub mod Figures
+pub mod Globals
