@@ -28,6 +28,5 @@ pub use assembled_figures::assemble_figures;
 pub use assembler::Assembler;
 pub use assembly::{Assembly, assemble};
 pub use figures::{Figures, Summary};
-pub use macro_expand;
 pub use plain::{assemblies_are_plain, assembly_notes};
 pub use statement_checks::section_layout;
