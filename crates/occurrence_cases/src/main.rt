@@ -1,5 +1,5 @@
 //! Compares tables of cases with what assembled programs come to, their occurrences, what `symbol_answers` answers of these, and the
-//! figures that `program_figures` has: `occurrence_cases TABLE` reads the cases of one table from standard input, prints each whose
+//! figures that `program_assembly` has: `occurrence_cases TABLE` reads the cases of one table from standard input, prints each whose
 //! answer differs, and at the end `N passed, M failed`.
 //!
 //! tests/cases/README.md says what each table reads. What the crates promise is said by their own contracts; this program only

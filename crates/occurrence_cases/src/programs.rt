@@ -5,7 +5,7 @@ ghost use Rattle.text_pool.specs.Pool.{IsLive};
 use document_store::{DocumentStore, MemberText, StoreFault};
 use group_members::{GroupMembers, MemberIndex};
 use hl_base::{Ledger, Name, OutOfMemory, PathId, Steps, Text, TextId};
-use program_figures::{Figures, assemble_figures};
+use program_assembly::{Figures, assemble_figures};
 use std::alloc::Global;
 use std::marker::Brand;
 use std::sync::ledger::Blank;

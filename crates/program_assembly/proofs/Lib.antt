@@ -5,3 +5,4 @@ pub mod PointLaws
 pub mod StatementLaws
 pub mod PlainRuns
 pub mod OpenCode
+mod FigureLaws

@@ -1,6 +1,5 @@
 pub use Rattle.statement_checks.specs.Layout
 pub use Rattle.statement_checks.specs.Views
-pub use Rattle.macro_expand.specs.Language
 pub mod ColumnNotes
 pub mod PointNotes
 pub mod Statements
@@ -8,3 +7,5 @@ pub mod Stacks
 pub mod Notes
 pub mod Runs
 pub mod Assembly
+pub mod Figures
+pub mod Globals

@@ -5,14 +5,18 @@
 //! reported of each point at its whole stack, then that the budget was used up, or that the text ended without END. It is
 //! the same for every machine that runs the calls.
 //!
+//! `assemble_figures` assembles a program afresh and tells what the assembly comes to in figures (`specs/Figures`).
+//!
 //! It knows nothing of messages, of documents and of when an assembly is made.
 #![tactic(auto)]
 
+mod assembled_figures;
 mod assembler;
 mod assembly;
 mod checked_layout;
 mod column_notes;
 mod end_notes;
+mod figures;
 mod notes;
 mod places;
 mod plain;
@@ -20,8 +24,9 @@ mod point_notes;
 mod report;
 mod statements;
 
+pub use assembled_figures::assemble_figures;
 pub use assembler::Assembler;
 pub use assembly::{Assembly, assemble};
-pub use macro_expand;
+pub use figures::{Figures, Summary};
 pub use plain::{assemblies_are_plain, assembly_notes};
 pub use statement_checks::section_layout;

@@ -1,5 +1,4 @@
 pub mod PathLaws
 pub mod PrototypeLaws
 pub mod SymbolLaws
-mod OpenCode
 mod NameLaws

@@ -1,11 +1,9 @@
 //! Assembling a program for what it tells of names.
 ghost use Rattle.std.specs.Prelude.{◌≡◌, IfOk};
-ghost use Rattle.std.specs.Rc.{rc_str_bytes};
 ghost use Rattle.std.specs.Str.{chars};
 ghost use Rattle.text_pool.specs.Pool.{IsLive as IsLiveText, text_of};
 ghost use Rattle.trace_arena.specs.Nodes.{IsLive};
 ghost use Rattle.trace_arena.specs.Points.{points};
-ghost use Rattle.program_launch.specs.Traces.{trace_of};
 ghost use Rattle.program_names.specs.Names.{names_in, names_of};
 
 use crate::names::AssembledNames;
@@ -13,17 +11,12 @@ use crate::paths::{met_paths, touched};
 use crate::prototypes::prototypes;
 use crate::symbols::{Defined, symbols_of};
 use crate::texts::texts_at;
-use call_sites::CallSite;
 use called_definitions::{add_definitions, definitions_of};
 use document_store::DocumentStore;
-use expansion_memo::Memo;
-use expansion_step::runs_are_expansions;
 use hl_base::{Ledger, OutOfMemory, PathId, Steps, TextId};
-use program_assembly::macro_expand::{Expander, HlasmLanguage};
+use program_launch::trace_program;
 use program_occurrences::occurrences;
-use program_world::{ProgramWorld, the_world_fits};
 use std::alloc::Global;
-use std::rc::RcStr;
 use text_pool::Present;
 use trace_arena::{NodeId, TraceArena};
 use trace_values::TraceItem;
@@ -58,31 +51,6 @@ fn names_in<P: Present>(
     })
 }
 
-/// The points of the open code of a path and a text, as `assemble_names` has it.
-fn run<P: Present, L: Ledger>(
-    alloc: Global,
-    path: PathId,
-    text: &RcStr,
-    parm: &str,
-    present: &P,
-    budget: u32,
-    arena: &mut TraceArena<TraceItem>,
-    steps: &mut Steps<L>,
-) -> Result<NodeId, OutOfMemory>
-    ensures live { IfOk result (λ root. IsLive arena.new.nodes root.0) }
-    ensures points { IfOk result (λ root. points arena.new.nodes root.0
-        ≡ trace_of path.0 (chars (rc_str_bytes text.now)) (chars parm.now) (P.members present.now) budget) }
-{
-    the_world_fits();
-    runs_are_expansions::<HlasmLanguage, ProgramWorld<P>>();
-    let machine = Expander::new(HlasmLanguage);
-    let mut memo: Memo<Expander> = Memo::new(alloc);
-    let call = CallSite::OpenCode(path, text.clone()?);
-    let mut world = ProgramWorld::new(alloc, text.clone()?, parm, present)?;
-    let outcome = memo.expand(&machine, alloc, &call, &mut world, budget, 0, arena, steps)?;
-    Ok(outcome.node)
-}
-
 /// What an assembly of the program of a path and a text tells of names, with this SYSPARM, these members and this budget, where its
 /// statements stand in the texts of this store.
 pub fn assemble_names<P: Present, L: Ledger>(
@@ -101,6 +69,6 @@ pub fn assemble_names<P: Present, L: Ledger>(
 {
     let text = present.pool().shared(alloc, text)?;
     let mut arena = TraceArena::new(alloc);
-    let root = run(alloc, path, &text, parm, present, budget, &mut arena, steps)?;
+    let root = trace_program(alloc, path, &text, parm, present, budget, &mut arena, steps)?;
     names_in(alloc, path, store, present, &arena, root)
 }

@@ -5,7 +5,7 @@ use Rattle.hl_base.specs.declared.place.PathId.{PathId}
 use Rattle.document_store.specs.Store.{OpenDocument}
 use Rattle.document_store.specs.Shown.{IsShown}
 use Rattle.document_store.specs.declared.document.Document.{Document}
-use Rattle.program_figures.specs.declared.figures.Figures.{Figures}
+use Rattle.program_names.specs.DeclaredFigures.{Figures}
 use Rattle.session_core.specs.Figures.{figures_told, is_assembled, figures_at, figures_named, TellsFigures}
 use Rattle.session_core.specs.State.{State, number_named, document_at}
 

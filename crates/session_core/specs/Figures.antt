@@ -6,10 +6,10 @@ use Rattle.document_store.specs.Shown.{Shows}
 use Rattle.document_store.specs.declared.document.Document.{Document}
 use Rattle.library_folders.specs.declared.configuration.Configuration.{Configuration}
 use Rattle.library_folders.specs.Folders.{parm_for}
-use Rattle.program_figures.specs.declared.figures.Figures.{Figures}
-use Rattle.program_figures.specs.declared.figures.Summary.{Summary}
-use Rattle.program_figures.specs.Figures.{figures_of}
-use Rattle.program_figures.specs.Globals.{number_of}
+use Rattle.program_names.specs.DeclaredFigures.{Figures}
+use Rattle.program_names.specs.DeclaredSummary.{Summary}
+use Rattle.program_names.specs.Figures.{figures_of}
+use Rattle.program_names.specs.Globals.{number_of}
 use Rattle.session_core.specs.Diagnostics.{members_of}
 use Rattle.session_core.specs.State.{State, number_named, document_at, is_queued, last_list}
 

@@ -1,7 +1,7 @@
-pub use Rattle.program_figures.specs.declared.figures.Summary as DeclaredSummary
-pub use Rattle.program_figures.specs.Globals
-pub use Rattle.program_figures.specs.Figures as ProgramFigures
-pub use Rattle.program_figures.specs.declared.figures.Figures as DeclaredFigures
+pub use Rattle.program_names.specs.DeclaredSummary
+pub use Rattle.program_names.specs.Globals
+pub use Rattle.program_names.specs.Figures as ProgramFigures
+pub use Rattle.program_names.specs.DeclaredFigures
 pub mod Codes
 pub mod Debugging
 pub mod Diagnostics

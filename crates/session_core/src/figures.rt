@@ -6,7 +6,7 @@ ghost use Rattle.document_store.specs.Store.{OpenDocument};
 ghost use Rattle.document_store.specs.Shown.{IsShown, Shows};
 ghost use Rattle.group_members.specs.Members.{Indexes};
 ghost use Rattle.library_folders.specs.Folders.{parm_for};
-ghost use Rattle.program_figures.specs.Figures as assembled;
+ghost use Rattle.program_names.specs.Figures as assembled;
 ghost use Rattle.text_pool.specs.Pool.{IsLive, text_of};
 ghost use Rattle.session_core.specs.Diagnostics.{members_of};
 ghost use Rattle.session_core.specs.Figures.{figures_over, is_assembled, figures_at, figures_named, TellsFigures};
@@ -19,7 +19,7 @@ use document_store::{Document, MemberText};
 use group_members::{GroupMembers, MemberIndex};
 use hl_base::{Ledger, OutOfMemory, PathId, Steps, TextId};
 use library_folders::{folders_for, parm_for};
-use program_figures::{Figures, assemble_figures};
+use program_names::program_assembly::{Figures, assemble_figures};
 use std::alloc::Global;
 
 impl Surroundings<'_> {

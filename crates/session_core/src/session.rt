@@ -12,7 +12,7 @@ use crate::state::Stage;
 use crate::{Phase, SessionFault};
 use hl_base::{Ledger, Name, OutOfMemory, Steps};
 use io_edge::Library;
-use program_figures::Summary;
+use program_names::program_assembly::Summary;
 use std::alloc::Global;
 use std::marker::Model;
 use std::mem;

@@ -1,7 +1,7 @@
-//! Figures.
+//! The figures of an assembly: how many points, symbols and notes there are, and what the global SET symbols hold in the end.
 ghost use Rattle.std.specs.Prelude.{◌≡◌, find};
 ghost use Rattle.std.specs.Option.{option_copied};
-ghost use Rattle.program_figures.specs.Globals as rules;
+ghost use Rattle.program_assembly.specs.Globals as rules;
 
 use hl_base::{Name, SetValue};
 use trace_values::{Setting, Settings};

@@ -2,8 +2,8 @@ use Rattle.std.proofs.Common.{◌∙◌}
 use Rattle.std.specs.Str.{chars}
 use Rattle.std.proofs.lemmas.Result.{IfOk-weaker}
 use Rattle.text_pool.specs.Pool.{text_of}
-use Rattle.program_figures.proofs.FigureLaws.{figures_are}
-use Rattle.program_figures.proofs.assembling.assemble_figures.Goals as goal
+use Rattle.program_assembly.proofs.FigureLaws.{figures_are}
+use Rattle.program_assembly.proofs.assembled_figures.assemble_figures.Goals as goal
 
 pub returns : goal.returns
 returns g c =

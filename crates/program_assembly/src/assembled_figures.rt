@@ -4,15 +4,15 @@ ghost use Rattle.std.specs.Str.{chars};
 ghost use Rattle.text_pool.specs.Pool.{IsLive as IsLiveText, text_of};
 ghost use Rattle.trace_arena.specs.Nodes.{IsLive};
 ghost use Rattle.trace_arena.specs.Points.{points};
-ghost use Rattle.program_figures.specs.Figures.{figures_of, symbol_count};
+ghost use Rattle.program_assembly.specs.Figures.{figures_of, symbol_count};
 
 use crate::figures::{Figures, Summary};
 use crate::statements::generated;
+use crate::{Assembly, assemble, assemblies_are_plain};
 use expansion_memo::Memo;
 use hl_base::{Ledger, OutOfMemory, PathId, Steps, TextId};
-use program_assembly::macro_expand::{Expander, HlasmLanguage};
-use program_assembly::section_layout::lay_out;
-use program_assembly::{Assembly, assemble, assemblies_are_plain};
+use macro_expand::{Expander, HlasmLanguage};
+use statement_checks::section_layout::lay_out;
 use std::alloc::Global;
 use text_pool::Present;
 use trace_arena::{NodeId, TraceArena};
@@ -67,7 +67,8 @@ fn figures_in(
     })
 }
 
-/// The figures of an assembly of the program of a path and a text, with this SYSPARM, these members and this budget.
+/// The figures of an assembly of the program of a path and a text, with this SYSPARM, these members and this budget. It is
+/// assembled afresh, and nothing of the assembly is kept but its figures.
 pub fn assemble_figures<P: Present, L: Ledger>(
     alloc: Global,
     path: PathId,

@@ -4,11 +4,10 @@ use Rattle.std.specs.Rc.{rc_str_bytes}
 use Rattle.call_sites.specs.Calls.{open_code_tree, call_of}
 use Rattle.call_sites.specs.Rules.{rebased}
 use Rattle.expansion_memo.specs.Reuse.{ComesTo}
-use Rattle.program_assembly.specs.Assembly.{open_code_machine}
 use Rattle.program_world.specs.World.{ProgramState, program_world, first_world}
 use Rattle.program_world.specs.States.{state_of}
-use Rattle.program_names.proofs.OpenCode.{run_is_trace}
-use Rattle.program_names.proofs.assembling.run.Goals as goal
+use Rattle.program_launch.proofs.OpenCode.{machine, run_is_trace}
+use Rattle.program_launch.proofs.trace_program.Goals as goal
 
 pub returns-clause-points : goal.returns-clause-points
 returns-clause-points g c =
@@ -25,6 +24,6 @@ returns-clause-points g c =
     let begun : state c.in_ok-world.world ≡ first_world text parm members =
     c.in_ok-world.ensures ∙ ap (λ t. first_world t parm members) parted in
     let from : (t : List ℕ) (s : ProgramState) → Type 0 = λ t s.
-    ComesTo open_code_machine program_world rebased (λ item. item) (λ frames. frames) c.args.budget 0 (call_of (open_code_tree path t)) s world nodes outcome in
+    ComesTo machine program_world rebased (λ item. item) (λ frames. frames) c.args.budget 0 (call_of (open_code_tree path t)) s world nodes outcome in
     run_is_trace c.runs_are_expansions.ensures path text parm members c.args.budget nodes world outcome
     (subst (λ s. from text s) begun (subst (λ t. from t (state c.in_ok-world.world)) given c.in_ok-outcome.ensures.comes))

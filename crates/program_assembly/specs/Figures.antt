@@ -3,11 +3,11 @@ use Rattle.std.specs.Prelude.{ℕ, List, length}
 use Rattle.text_pool.specs.Members.{Member}
 use Rattle.trace_arena.specs.Points.{Point}
 use Rattle.trace_values.specs.declared.item.TraceItem.{TraceItem}
-use Rattle.program_assembly.specs.Layout.{layout_of}
+use Rattle.statement_checks.specs.Layout.{layout_of}
 use Rattle.program_assembly.specs.Statements.{generated}
 use Rattle.program_assembly.specs.Assembly.{open_code_run, assembly_notes, assembly_globals}
-use Rattle.program_figures.specs.declared.figures.Summary.{Summary}
-use Rattle.program_figures.specs.declared.figures.Figures.{Figures}
+use Rattle.program_assembly.specs.declared.figures.Summary.{Summary}
+use Rattle.program_assembly.specs.declared.figures.Figures.{Figures}
 
 -- how many symbols the statements define that some points generated
 unfoldable pub symbol_count : List (Point TraceItem) → ℕ

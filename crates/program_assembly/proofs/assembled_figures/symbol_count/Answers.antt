@@ -1,11 +1,11 @@
 use Rattle.std.proofs.Common.{◌≡◌, List, length, ap, ◌∙◌}
 use Rattle.hl_base.specs.declared.set.Line.{Line}
-use Rattle.program_assembly.specs.Layout.{Layout, layout_of}
-use Rattle.program_assembly.specs.Views.{layout_view, lines_of}
+use Rattle.statement_checks.specs.Layout.{Layout, layout_of}
+use Rattle.statement_checks.specs.Views.{layout_view, lines_of}
 use Rattle.trace_arena.specs.Points.{points}
 use Rattle.program_assembly.specs.Statements.{generated}
-use Rattle.program_figures.specs.Figures.{symbol_count}
-use Rattle.program_figures.proofs.assembling.symbol_count.Goals as goal
+use Rattle.program_assembly.specs.Figures.{symbol_count}
+use Rattle.program_assembly.proofs.assembled_figures.symbol_count.Goals as goal
 
 pub returns : goal.returns
 unfolding symbol_count

@@ -8,8 +8,8 @@ use Rattle.trace_values.specs.declared.item.TraceItem.{TraceItem}
 use Rattle.trace_values.specs.declared.variable.Setting.{Setting}
 use Rattle.program_assembly.specs.Assembly.{IsPlain}
 use Rattle.program_assembly.specs.declared.assembly.Assembly.{Assembly}
-use Rattle.program_figures.specs.declared.figures.Figures.{Figures}
-use Rattle.program_figures.specs.Figures.{figures_of, symbol_count}
+use Rattle.program_assembly.specs.declared.figures.Figures.{Figures}
+use Rattle.program_assembly.specs.Figures.{figures_of, symbol_count}
 
 -- figures by their parts
 abbrev pub figures_by : (points symbols diagnostics : ℕ) → List Setting → Figures
