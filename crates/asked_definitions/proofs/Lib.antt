@@ -2,3 +2,4 @@ pub mod AnswerLaws
 pub mod MemberLaws
 pub mod WrittenLaws
 pub mod DefiningLaws
+pub mod KeptLaws
