@@ -35,7 +35,7 @@ fn push_calls(alloc: Global, said: &mut String, library: &MemoryLibrary) -> Resu
 }
 
 /// What a run over a source, a sink and a library comes to.
-fn come(
+fn outcome(
     alloc: Global,
     words: &[String],
     source: &mut MemorySource,
@@ -50,7 +50,7 @@ fn come(
 }
 
 /// The same over the source and the sink of some settings.
-fn come_over(
+fn outcome_over(
     alloc: Global,
     words: &[String],
     settings: &[String],
@@ -58,14 +58,14 @@ fn come_over(
 ) -> Result<String, OutOfMemory> {
     let mut source = source(alloc, settings)?;
     let mut sink = sink(alloc, settings)?;
-    come(alloc, words, &mut source, &mut sink, library)
+    outcome(alloc, words, &mut source, &mut sink, library)
 }
 
 /// The same over the library of the settings, too.
-fn come_under(alloc: Global, text: &str, settings: &[String]) -> Result<String, OutOfMemory> {
+fn outcome_under(alloc: Global, text: &str, settings: &[String]) -> Result<String, OutOfMemory> {
     let words = words(alloc, text)?;
     let mut library = library(alloc, settings)?;
-    come_over(alloc, &words, settings, &mut library)
+    outcome_over(alloc, &words, settings, &mut library)
 }
 
 /// What the run of some words under some settings comes to: the bodies that were written, how it ended, how many bytes of the
@@ -73,6 +73,6 @@ fn come_under(alloc: Global, text: &str, settings: &[String]) -> Result<String, 
 pub fn told(alloc: Global, text: &str, settings: &[String]) -> Result<String, OutOfMemory> {
     match wrong_setting(settings) {
         Some(name) => Ok(format!(in alloc; "no setting {name}")?),
-        None => come_under(alloc, text, settings),
+        None => outcome_under(alloc, text, settings),
     }
 }
