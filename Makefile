@@ -4,7 +4,7 @@
 # no PREFIX, and says whether that is on your PATH.
 # make dist: makes dist/hlasm_ls-VERSION-linux-x86_64.tar.gz, which needs no kit where it is unpacked. The version is that of the
 # file VERSION.
-# make test: the gate: proves every crate and its tests from nothing, tries at most six edits that must fail of each crate, runs everything.
+# make test: the gate: proves every crate from nothing, tries at most six edits that must fail of each crate, runs everything.
 # make edits: tries every edit that must fail, outside the gate.
 # make bench: runs all measurements, on a machine with nothing else to do, and writes bench/README.md.
 # All want the command rt of the kit on the PATH, and Python 3.

@@ -10,7 +10,7 @@ program_of() {
         sources | sinks | libraries | readings) echo io_cases ;;
         command_lines | statement_names) echo io_cases ;;
         debug_requests | debug_arguments | debug_bodies) echo message_cases ;;
-        debug_sessions) echo debug_cases ;;
+        debug_sessions | runs | patient_clients | statuses) echo session_cases ;;
         config_groups | config_programs | config_choices) echo message_cases ;;
         library_folders | library_paths | program_groups) echo message_cases ;;
         nodes | chains | variables | set_symbols) echo trace_cases ;;

@@ -15,7 +15,7 @@ import tempfile
 TOP = os.path.normpath(os.path.join(os.path.dirname(os.path.realpath(__file__)), "../.."))
 BUILT = os.path.join(TOP, "crates/hlasm_ls/out/hlasm_ls")
 TABLE = os.path.join(TOP, "tests/cases/debug_sessions.txt")
-TEXTS = os.path.join(TOP, "crates/debug_cases/src/texts.rt")
+TEXTS = os.path.join(TOP, "crates/session_cases/src/texts.rt")
 ESCAPES = {"n": "\n", "r": "\r"}
 CONFIGURATION = {
     "proc_grps.json": {"pgroups": [{"name": "G", "libs": ["lib"]}]},

@@ -20,10 +20,3 @@ mod status;
 
 pub use serving::run;
 pub use status::Status;
-
-#[cfg(test)]
-mod held_tests;
-#[cfg(test)]
-mod library_tests;
-#[cfg(test)]
-mod tests;
