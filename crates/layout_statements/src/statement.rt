@@ -19,7 +19,7 @@ use crate::symbols::{ReadSymbol, read_symbols};
 use constant_operands::{ConstantOperand, ConstantUse};
 use hl_base::{Line, Name, OutOfMemory, Text};
 use instruction_table::Format;
-use operand_list::split_operands;
+use plain_fields::split_field;
 use std::alloc::Global;
 use symbol_attributes::{OpMeaning, defines};
 
@@ -176,7 +176,7 @@ impl LayoutStatement {
         ensures { IfOk result (λ statement. statement_of statement ≡ spec.statement line.now.label line.now.op line.now.operands) }
     {
         let op = meaning(line.op.as_str());
-        let operands = split_operands(alloc, line.operands.as_str())?;
+        let operands = split_field(alloc, line.operands.as_str())?;
         let task = read_task(alloc, &op, line.operands.as_str(), operands.as_slice())?;
         Ok(LayoutStatement {
             label: label_on(&op, line.label.as_str()),

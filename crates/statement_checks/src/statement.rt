@@ -24,8 +24,8 @@ use instruction_table::Format;
 use literal_places::{LiteralUse, Literals};
 use note_rows::Row;
 use operand_checks::{Setting, address_notes, machine_notes};
-use operand_list::split_operands;
 use ordinary_symbols::Symbols;
+use plain_fields::split_field;
 use section_layout::StatementLayout;
 use section_layout::section_steps::Left;
 use std::alloc::Global;
@@ -46,7 +46,7 @@ fn push_machine(
         (said_of_machine (setting_of setting.now) format (places_in (literals_of literals.now) uses.now) (operands_of (chars field.now)))) }
 {
     let places = places_in(alloc, literals, uses)?;
-    let operands = split_operands(alloc, field)?;
+    let operands = split_field(alloc, field)?;
     machine_notes(
         alloc,
         setting,

@@ -1,0 +1,107 @@
+//! A field without apostrophes, cut byte by byte.
+ghost use Rattle.std.specs.Prelude.{◌≡◌, ◌==◌, ◌&&◌, ℕ, List, [], ◌∷◌, ◌++◌, ◌+◌, drop, false, IfOk, OnOk};
+ghost use Rattle.std.specs.Str.{chars};
+ghost use Rattle.plain_fields.specs.Cutting.{IsBehind, depth_behind, left_of, part_of};
+ghost use Rattle.operand_list.specs.Split.{whole_parts};
+
+use hl_base::{OutOfMemory, Text};
+use operand_list::Operands;
+use operand_list::hlasm_statements::split_columns;
+use std::alloc::Global;
+
+/// The operands so far, what is left of the field from the beginning of the one that is read on, how many characters of this are
+/// read, and how many parentheses are open.
+#[derive(Drop)]
+pub(crate) struct Cutting<'a> {
+    done: Operands,
+    from: &'a str,
+    count: usize,
+    depth: u32,
+}
+
+/// How many parentheses are open behind a character.
+#[inline(always)]
+fn depth_behind(depth: u32, byte: u8) -> Result<u32, OutOfMemory>
+    ensures { IfOk result (λ behind. behind ≡ depth_behind depth byte) }
+{
+    match byte {
+        b'(' => depth.checked_add(1).ok_or(OutOfMemory),
+        b')' => Ok(depth.saturating_sub(1)),
+        _ => Ok(depth),
+    }
+}
+
+/// Whether a character is a comma outside parentheses, where so many are open.
+#[inline(always)]
+fn separates(depth: u32, byte: u8) -> bool
+    ensures { result ≡ ((byte == 44) && (depth == 0)) }
+{
+    byte == b',' && depth == 0
+}
+
+/// One more than so many.
+#[inline(always)]
+fn one_more(count: usize) -> Result<usize, OutOfMemory>
+    ensures { IfOk result (λ more. more ≡ count + 1) }
+{
+    count.checked_add(1).ok_or(OutOfMemory)
+}
+
+impl<'a> Cutting<'a> {
+    pub(crate) fn new(alloc: Global, text: &'a str) -> Cutting<'a>
+        ensures none { result.done ≡ [] }
+        ensures from { result.from.now ≡ text.now }
+        ensures count { result.count ≡ 0 }
+        ensures depth { result.depth ≡ 0 }
+    {
+        Cutting {
+            done: Operands::new(alloc),
+            from: text,
+            count: 0,
+            depth: 0,
+        }
+    }
+
+    /// Reads the next character.
+    #[inline(always)]
+    pub(crate) fn read(&mut self, alloc: Global, byte: u8) -> Result<(), OutOfMemory>
+        ensures { OnOk result ((before left : List ℕ) → IsBehind self.old.depth before → left_of self.old ≡ byte ∷ left → (byte == 39) ≡ false
+            → IsBehind self.new.depth (byte ∷ before)
+            × (left_of self.new ≡ left)
+            × ((rest : List ℕ) → whole_parts 0 self.new.done (part_of self.new) (byte ∷ before) rest
+            ≡ whole_parts 0 self.old.done (part_of self.old) before (byte ∷ rest))) }
+    {
+        if separates(self.depth, byte) {
+            self.cut(alloc)?;
+            return Ok(());
+        }
+        let count = one_more(self.count)?;
+        self.depth = depth_behind(self.depth, byte)?;
+        self.count = count;
+        Ok(())
+    }
+
+    /// Ends the text that is read on before the next character, and begins another behind it.
+    #[inline(never)]
+    fn cut(&mut self, alloc: Global) -> Result<(), OutOfMemory>
+        ensures depth { self.new.depth ≡ self.old.depth }
+        ensures done { OnOk result (self.new.done ≡ self.old.done ++ part_of self.old ∷ []) }
+        ensures count { OnOk result (self.new.count ≡ 0) }
+        ensures from { OnOk result (chars self.new.from.now ≡ drop 1 (left_of self.old)) }
+    {
+        let (part, left) = split_columns(self.from, self.count);
+        self.done.push(Text::of(alloc, part)?)?;
+        self.from = split_columns(left, 1).1;
+        self.count = 0;
+        Ok(())
+    }
+
+    /// The texts, with the one that was read last.
+    pub(crate) fn close(self, alloc: Global) -> Result<Operands, OutOfMemory>
+        ensures { IfOk result (λ s. s ≡ self.entry.done ++ part_of self.entry ∷ []) }
+    {
+        let mut done = self.done;
+        done.push(Text::of(alloc, split_columns(self.from, self.count).0)?)?;
+        Ok(done)
+    }
+}

@@ -1,0 +1,11 @@
+//! The operand field of a generated statement, split into its operands as `operand_list` has it, at less cost: where no apostrophe
+//! stands in a field, and each of its characters is ASCII, as in most fields, its bytes alone tell where it is to be cut.
+//!
+//! It knows nothing of operations, expressions or values. Its contract: the operands of a field are the texts between its commas
+//! outside quotes and parentheses (`split_field`), as everywhere.
+#![tactic(auto)]
+
+mod cutting;
+mod split;
+
+pub use split::split_field;
