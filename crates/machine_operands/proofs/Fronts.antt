@@ -251,6 +251,12 @@ begins_with text n count front behind tree cut rest counted is delimited =
     subst (λ t. BeginsWith t count tree behind) joined
     (subst (λ k. BeginsWith (front ++ behind) k tree behind) (sym counted) (begun_with front behind tree is delimited))
 
+-- a text that is a term
+pub begins_alone : (text : List ℕ) (tree : Tree) → IsTerm text tree → BeginsWith (chars text) (length (chars text)) tree []
+begins_alone text tree is =
+    subst (λ t. BeginsWith t (length t) tree []) (sym (term_characters text tree is))
+    (subst (λ t. BeginsWith t (length text) tree []) (append-nil text) (begun_with text [] tree is refl))
+
 -- Digits, one after the other.
 
 pub digits_next : (digit : ℕ) (rest : List ℕ) → digit_value digit < 10 → list_all (is_figure Decimal) (digit ∷ rest) ≡ list_all (is_figure Decimal) rest

@@ -1,3 +1,4 @@
 pub mod TextLaws
 pub mod Fronts
 pub mod LiteralLaws
+pub mod Alone

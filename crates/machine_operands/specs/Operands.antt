@@ -1,13 +1,14 @@
 -- Operands of machine instructions as they are written (HLASM Language Reference SC26-4940, "Operand entries", "Addresses",
 -- "Literals"). One that cannot be read tells how many characters it has of the longest text that a right operand of its kind
 -- begins with and it begins with too.
-use Rattle.std.specs.Prelude.{ℕ, ◌+◌, ◌==◌, Bool, true, false, List, [], ◌∷◌, length, take, drop, Option, Some, None, Result, Ok, Err, if◌then◌else◌}
+use Rattle.std.specs.Prelude.{◌≡◌, ℕ, ◌≤◌, not, ◌+◌, ◌==◌, Bool, true, false, List, [], ◌∷◌, length, take, drop, Option, Some, None, Result, Ok, Err, if◌then◌else◌}
 use Rattle.constant_grammar.specs.Constants.{Constant}
 use Rattle.constant_grammar.specs.Elements.{tree_in}
 use Rattle.constant_operands.specs.Operands as constants
 use Rattle.expression_grammar.specs.declared.character.Grammar.TheVariants.{Ordinary}
 use Rattle.expression_grammar.specs.Readings.{read}
-use Rattle.expression_grammar.specs.Trees.{Tree}
+use Rattle.expression_grammar.specs.Spelling.{most_parts}
+use Rattle.expression_grammar.specs.Trees.{Tree, size}
 use Rattle.instruction_table.specs.declared.encodings.Kind.{Kind}
 use Rattle.literal_operands.specs.Literals as literals
 use Rattle.machine_operands.specs.declared.form.AddressForm.{AddressForm}
@@ -141,3 +142,20 @@ operand_of_form form targets text = operand_by form text (literal_if (takes_lite
 
 unfoldable pub operand : Kind → (targets : Bool) → List ℕ → Operand
 operand kind targets text = operand_of_form (form_of kind) targets text
+
+-- what an operand of a form is that is an expression alone
+abbrev pub written_alone : OperandForm → Tree → Written
+written_alone form.Value tree = value tree
+written_alone form.Target tree = value tree
+written_alone (form.Address form) tree = address (record { displacement = expression tree; first = None; base = None })
+
+-- whether an operand of a form may be an expression alone
+abbrev pub may_be_alone : OperandForm → Bool
+may_be_alone form.Value = true
+may_be_alone form.Target = true
+may_be_alone (form.Address form) = not (needs_parts form)
+
+-- an operand of a kind is this expression alone, whichever literals its instruction lets be targets
+pub record IsAlone (kind : Kind) (text : List ℕ) (tree : Tree) : Type 0 where
+  pub alone : (targets : Bool) → operand kind targets text ≡ record { literal = None; written = written_alone (form_of kind) tree }
+  pub small : size tree ≤ most_parts

@@ -18,4 +18,4 @@ mod term;
 mod text;
 
 pub use form::{AddressForm, OperandForm, form_of};
-pub use operand::{Address, Displacement, MachineOperand, Written, begins_literal};
+pub use operand::{Address, Displacement, MachineOperand, Written, begins_literal, read_term};

@@ -1,18 +1,21 @@
 //! Operands.
-ghost use Rattle.std.specs.Prelude.{◌≡◌, ◌&&◌, None, IfOk};
+ghost use Rattle.std.specs.Prelude.{◌≡◌, ◌&&◌, None, IfOk, IfSome};
 ghost use Rattle.std.specs.Option.{option_map};
 ghost use Rattle.std.specs.Str.{chars};
 ghost use Rattle.constant_operands.specs.Views.{operand_of};
+ghost use Rattle.expression_grammar.specs.Views.{tree_of};
 ghost use Rattle.literal_operands.specs.Views.{literal_of};
 ghost use Rattle.machine_operands.specs.Operands as spec;
 ghost use Rattle.machine_operands.specs.Views.{machine_operand_of, written_of};
 
 use crate::address::{behind_literal, plain_address};
 use crate::reading::{Reading, read_whole};
+use crate::term::term;
 use crate::text::{character_count, head, sum};
 use crate::{OperandForm, form_of};
 use constant_grammar::Formula;
 use constant_operands::ConstantOperand;
+use expression_grammar::Expr;
 use hl_base::OutOfMemory;
 use instruction_table::Kind;
 use literal_operands::{LiteralOperand, literal_operand};
@@ -159,6 +162,27 @@ pub fn begins_literal(text: &str) -> bool
     ensures { result ≡ spec.begins_literal (chars text.now) }
 {
     matches!(head(text), Some(('=', _)))
+}
+
+/// Whether an operand of a form may be an expression alone.
+fn may_be_alone(form: OperandForm) -> bool
+    ensures { result ≡ spec.may_be_alone form }
+{
+    match form {
+        OperandForm::Value | OperandForm::Target => true,
+        OperandForm::Address(form) => !form.needs_parts(),
+    }
+}
+
+/// The expression that is all of an operand of a kind, where it is a decimal number or a symbol. Most operands are such a term,
+/// and need nothing of what else an operand may be.
+pub fn read_term(kind: Kind, text: &str) -> Option<Expr>
+    ensures { IfSome result (λ tree. spec.IsAlone kind (chars text.now) (tree_of tree)) }
+{
+    if begins_literal(text) || !may_be_alone(form_of(kind)) {
+        return None;
+    }
+    term(text)
 }
 
 /// The literal in an operand, if one may stand there.

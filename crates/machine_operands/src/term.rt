@@ -50,7 +50,7 @@ fn symbol(text: &str) -> Option<Expr>
 }
 
 /// The number or the symbol that a text is, if it is one.
-fn term(text: &str) -> Option<Expr>
+pub(crate) fn term(text: &str) -> Option<Expr>
     ensures { IfSome result (λ tree. spec.IsTerm text.now (tree_of tree)) }
 {
     match decimal(text.as_bytes()) {

@@ -1,6 +1,6 @@
 -- What the ranges in force cover, as a test and as a relation.
-use Rattle.std.proofs.Common.{◌≡◌, ◌∙◌, ℕ, zero, suc, ◌+◌, ◌*◌, ◌<◌, ◌≤◌, inl, inr, Bool, true, false, ◌&&◌, ◌||◌, ◌==◌, ℤ, pos, negsuc, ◌+ℤ◌, ◌-ℤ◌, List, [], ◌∷◌, length, get_or, Option, Some, None, is_some, MatchOption, refl, sym, ap, subst, arith}
-use Rattle.std.specs.Prelude.{int_le, int_lt, ◌≤ℤ◌, ◌<ℤ◌, slice_index_or}
+use Rattle.std.proofs.Common.{◌≡◌, ◌∙◌, ℕ, suc, ◌+◌, ◌*◌, ◌<◌, inl, inr, Bool, true, false, ◌&&◌, ◌||◌, ℤ, pos, negsuc, ◌+ℤ◌, ◌-ℤ◌, [], ◌∷◌, length, get_or, Option, Some, None, is_some, MatchOption, refl, sym, ap, subst, arith}
+use Rattle.std.specs.Prelude.{int_le, int_lt}
 use Rattle.std.specs.List.{list_any}
 use Rattle.std.proofs.lemmas.Bool.{false≢true, eqb-true, eq-eqb, cases_lt}
 use Rattle.std.proofs.lemmas.List.{get_or_past}
@@ -8,7 +8,7 @@ use Rattle.std.proofs.lemmas.Int.{ints}
 use Rattle.std.proofs.lemmas.List.Folds.{list_any_at}
 use Rattle.trace_values.specs.declared.section.SectionId.{SectionId}
 use Rattle.using_ranges.specs.declared.range.Range.{Range}
-use Rattle.using_ranges.specs.Ranges.{Held, IsWithin, IsBefore, Covers, IsCover, range_at}
+use Rattle.using_ranges.specs.Ranges.{Held, IsWithin, IsBefore, Covers, IsCover}
 use Rattle.operand_checks.specs.Coverage.{same_section, beginning, is_before, is_near, has_address, register_has, is_covered}
 
 both : (a b : Bool) → (a && b) ≡ true → (a ≡ true) × (b ≡ true)

@@ -1,5 +1,5 @@
 -- What is said of values is never left out: it names no symbol.
-use Rattle.std.proofs.Common.{◌≡◌, ◌||◌, ℤ, Bool, true, false, List, [], ◌∷◌, refl, if◌then◌else◌}
+use Rattle.std.proofs.Common.{◌≡◌, ◌||◌, ℤ, Bool, true, false, List, refl, if◌then◌else◌}
 use Rattle.std.specs.Prelude.{Option, Some, None, Ok, ◌&&◌}
 use Rattle.expression_notes.specs.Expressions.{listed}
 use Rattle.expression_notes.specs.Repeating.{once_behind}

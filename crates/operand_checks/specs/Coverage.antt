@@ -1,5 +1,5 @@
 -- Which addresses the ranges in force cover (HLASM Language Reference SC26-4940, "USING instruction").
-use Rattle.std.specs.Prelude.{ℕ, ◌*◌, ◌==◌, ◌&&◌, Bool, true, false, ℤ, pos, ◌+ℤ◌, int_le, int_lt, Option, Some, None}
+use Rattle.std.specs.Prelude.{◌*◌, ◌==◌, ◌&&◌, Bool, true, false, ℤ, pos, ◌+ℤ◌, int_le, int_lt, Option, Some, None}
 use Rattle.std.specs.List.{list_any}
 use Rattle.trace_values.specs.declared.section.SectionId.{SectionId}
 use Rattle.using_ranges.specs.declared.range.Range.{Range}

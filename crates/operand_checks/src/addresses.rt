@@ -1,6 +1,9 @@
 //! Addresses.
-ghost use Rattle.std.specs.Prelude.{◌≡◌, ◌++◌, is_some, OnOk};
-ghost use Rattle.constant_grammar.specs.Views.{tree_if, tree_in};
+ghost use Rattle.std.specs.Prelude.{◌≡◌, ◌≤◌, ◌++◌, is_some, OnOk};
+ghost use Rattle.constant_grammar.specs.Views.{tree_if};
+ghost use Rattle.expression_grammar.specs.Spelling.{most_parts};
+ghost use Rattle.expression_grammar.specs.Trees.{size};
+ghost use Rattle.expression_grammar.specs.Views.{tree_of};
 ghost use Rattle.expression_notes.specs.Repeating.{once_behind};
 ghost use Rattle.machine_operands.specs.Views.{address_of, displacement_of};
 ghost use Rattle.operand_checks.specs.Addresses as spec;
@@ -10,6 +13,7 @@ use crate::Setting;
 use crate::displacements::{displacement_note, displacements};
 use crate::expressions::{push_fault, push_part, value_of};
 use constant_grammar::Formula;
+use expression_grammar::Expr;
 use expression_notes::push_row;
 use hl_base::OutOfMemory;
 use instruction_table::Kind;
@@ -22,17 +26,18 @@ pub(crate) fn push_displacement(
     setting: &Setting<'_>,
     kind: Kind,
     is_based: bool,
-    formula: &Formula,
+    tree: &Expr,
     rows: &mut Vec<Row>,
 ) -> Result<(), OutOfMemory>
-    ensures { OnOk result (rows.new.items ≡ rows.old.items ++ once_behind rows.old.items (spec.said_of_displacement (setting_of setting.now) kind is_based (tree_in formula.now))) }
+    requires { size (tree_of tree.now) ≤ most_parts }
+    ensures { OnOk result (rows.new.items ≡ rows.old.items ++ once_behind rows.old.items (spec.said_of_displacement (setting_of setting.now) kind is_based (tree_of tree.now))) }
 {
-    match value_of(setting, formula) {
+    match value_of(setting, tree) {
         Ok(place) => push_row(
             rows,
             displacement_note(setting.ranges, displacements(kind), is_based, place),
         ),
-        Err(_) => push_fault(setting, formula, rows),
+        Err(_) => push_fault(setting, tree, rows),
     }
 }
 
@@ -81,7 +86,7 @@ fn push_either(
 {
     match displacement {
         Displacement::Expression(formula) => {
-            push_displacement(setting, kind, is_based, formula, rows)
+            push_displacement(setting, kind, is_based, &formula.tree, rows)
         }
         Displacement::Literal => push_literal_if(setting, kind, is_based, place, rows),
     }

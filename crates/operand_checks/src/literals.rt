@@ -26,7 +26,13 @@ fn push_front(
 ) -> Result<(), OutOfMemory>
     ensures { OnOk result (rows.new.items ≡ rows.old.items ++ once_behind rows.old.items (spec.said_of_front (setting_of setting.now) (tree_in displacement.now) (tree_if base.now))) }
 {
-    push_displacement(setting, Kind::Based, is_given(base), displacement, rows)
+    push_displacement(
+        setting,
+        Kind::Based,
+        is_given(base),
+        &displacement.tree,
+        rows,
+    )
 }
 
 /// Says what there is to say of an address, and of its base.

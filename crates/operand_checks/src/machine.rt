@@ -1,19 +1,23 @@
 //! Machine instructions.
-ghost use Rattle.std.specs.Prelude.{◌≡◌, ◌++◌, OnOk};
+ghost use Rattle.std.specs.Prelude.{◌≡◌, ◌++◌, Option, OnOk};
+ghost use Rattle.expression_grammar.specs.Views.{tree_of};
 ghost use Rattle.expression_notes.specs.Repeating.{once_behind};
+ghost use Rattle.machine_operands.specs.Operands.{IsAlone};
 ghost use Rattle.machine_operands.specs.Views.{machine_operand_of, written_of};
+ghost use Rattle.trace_values.specs.declared.section.Reloc.{Reloc};
 ghost use Rattle.operand_checks.specs.Machine as spec;
 ghost use Rattle.operand_checks.specs.Settings.{setting_of};
 
 use crate::Setting;
-use crate::addresses::push_address;
+use crate::addresses::{push_address, push_displacement};
 use crate::expressions::push_alone;
 use crate::literals::push_within;
+use expression_grammar::Expr;
 use expression_notes::push_row;
 use hl_base::{OutOfMemory, Text};
 use instruction_table::{Encoding, Format, Kind, encoding, operands};
 use machine_check::count_note;
-use machine_operands::{MachineOperand, Written, begins_literal};
+use machine_operands::{MachineOperand, OperandForm, Written, begins_literal, form_of, read_term};
 use note_rows::Row;
 use std::alloc::Global;
 use trace_values::Reloc;
@@ -29,7 +33,7 @@ fn push_written(
     ensures { OnOk result (rows.new.items ≡ rows.old.items ++ once_behind rows.old.items (spec.said_of_written (setting_of setting.now) kind place (written_of written.now))) }
 {
     match written {
-        Written::Value(formula) => push_alone(setting, kind, formula, rows),
+        Written::Value(formula) => push_alone(setting, kind, &formula.tree, rows),
         Written::Address(address) => push_address(setting, kind, place, address, rows),
         Written::LiteralTarget | Written::NoLiteral => Ok(()),
         Written::Wrong(count) => push_row(rows, Some(Row::Unreadable(*count))),
@@ -50,9 +54,29 @@ fn push_operand(
     push_within(setting, place, &operand.literal, rows)
 }
 
-/// The same of an operand as it is written.
+/// Says what there is to say of an operand of this kind that is an expression alone.
+fn push_term(
+    setting: &Setting<'_>,
+    targets: bool,
+    kind: Kind,
+    text: &Text,
+    tree: &Expr,
+    rows: &mut Vec<Row>,
+) -> Result<(), OutOfMemory>
+    requires { IsAlone kind text.now (tree_of tree.now) }
+    ensures { OnOk result ((place : Option Reloc) → rows.new.items ≡ rows.old.items ++ once_behind rows.old.items (spec.said_of_text (setting_of setting.now) targets kind place text.now)) }
+{
+    match form_of(kind) {
+        OperandForm::Value => push_alone(setting, kind, tree, rows),
+        OperandForm::Target => push_alone(setting, kind, tree, rows),
+        OperandForm::Address(_) => push_displacement(setting, kind, false, tree, rows),
+    }
+}
+
+/// The same of any operand.
+#[inline(never)]
 #[tactic(auto, unfolding(crate::specs::Machine::said_of_text))]
-fn push_text(
+fn push_read(
     alloc: Global,
     setting: &Setting<'_>,
     targets: bool,
@@ -65,6 +89,24 @@ fn push_text(
 {
     let operand = MachineOperand::read(alloc, kind, targets, text.as_str())?;
     push_operand(setting, kind, place, &operand, rows)
+}
+
+/// The same of an operand as it is written.
+fn push_text(
+    alloc: Global,
+    setting: &Setting<'_>,
+    targets: bool,
+    kind: Kind,
+    place: Option<Reloc>,
+    text: &Text,
+    rows: &mut Vec<Row>,
+) -> Result<(), OutOfMemory>
+    ensures { OnOk result (rows.new.items ≡ rows.old.items ++ once_behind rows.old.items (spec.said_of_text (setting_of setting.now) targets kind place text.now)) }
+{
+    match read_term(kind, text.as_str()) {
+        Some(tree) => push_term(setting, targets, kind, text, &tree, rows),
+        None => push_read(alloc, setting, targets, kind, place, text, rows),
+    }
 }
 
 /// The first of some places.
