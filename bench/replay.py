@@ -34,7 +34,8 @@ def run(command, path):
     with open(path, "rb") as source:
         start = time.perf_counter()
         child = subprocess.Popen(command, stdin=source, stdout=subprocess.PIPE)
-        output, seen = b"", []
+        # Bytes in place: to copy all that came before with each piece would take longer than the session.
+        output, seen = bytearray(), []
         while piece := os.read(child.stdout.fileno(), 1 << 20):
             output += piece
             seen.append((len(output), time.perf_counter() - start))
@@ -43,4 +44,4 @@ def run(command, path):
     child.returncode = os.waitstatus_to_exitcode(status)
     if child.returncode:
         sys.exit(f"{command[0]} ended with {child.returncode}: {output[-200:]}")
-    return output, seen, whole, usage.ru_maxrss
+    return bytes(output), seen, whole, usage.ru_maxrss
