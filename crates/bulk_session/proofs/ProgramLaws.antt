@@ -1,7 +1,6 @@
 -- What the session knows of the program behind each event.
 use Rattle.std.proofs.Common.{◌≡◌, ◌≢◌, ◌∙◌, ℕ, ℤ, pos, suc, ◌+◌, ◌<◌, ◌≤◌, true, false, List, [], ◌∷◌, ◌++◌, map, Option, Some, Result, Ok, Err, refl, ap, sym, subst, arith, add-one}
-use Rattle.std.specs.Prelude.{codes, unwrap_or, OnOk}
-use Rattle.std.specs.Option.{option_map, option_and_then}
+use Rattle.std.specs.Prelude.{codes, OnOk}
 use Rattle.std.specs.Str.{chars}
 use Rattle.std.proofs.lemmas.List.{append-nil}
 use Rattle.json_view.specs.Texts.{reading}
@@ -9,20 +8,18 @@ use Rattle.io_edge.specs.LibraryCall.{LibraryCall}
 use Rattle.io_edge.specs.Told.{Gains}
 use Rattle.library_reading.specs.Asked.{Asked, Came, Lacks, Differs}
 use Rattle.session_core.specs.declared.fault.SessionFault.{SessionFault}
-use Rattle.session_core.specs.Figures.{figures_named, summary_named, global_named}
+use Rattle.session_core.specs.Figures.{figures_named}
 use Rattle.session_core.specs.Held.{Held, ComesOver}
 use Rattle.session_core.specs.Message.{event, message}
 use Rattle.session_core.specs.State.{State, start}
 use Rattle.session_core.specs.Step.{Goes, Stopped, Other, Effect, step_of}
 use Rattle.session_core.specs.Turn.{turn}
 use Rattle.session_core.specs.DeclaredFigures.{Figures}
-use Rattle.session_core.specs.DeclaredSummary.{Summary}
-use Rattle.session_core.specs.Globals.{number_of}
 use Rattle.bulk_script.specs.Messages.{initialize_value, initialized_value, opened_value, changed_value, program_uri}
 use Rattle.bulk_script.specs.Texts.{program_text, edited_line, first_column, end_column}
 use Rattle.bulk_script.specs.declared.texts.Place.{Place}
 use Rattle.bulk_session.specs.Shelf.{answered}
-use Rattle.bulk_session.specs.Bulk.{budget, text_behind, figures_behind, total_in}
+use Rattle.bulk_session.specs.Bulk.{budget, text_behind, figures_behind}
 use Rattle.bulk_session.specs.Inside.{AreAnswered, IsHeard, program, begun, ready, state_with, IsQueued, IsListed}
 use Rattle.bulk_session.proofs.EditLaws.{may_be_opened, edit_of, edit_makes, line_small, first_small, end_small}
 use Rattle.bulk_session.proofs.EventLaws.{Leads, led, begins_in_folder, becomes_ready, opens, changes, changes_text, turns, has_figures}
@@ -136,23 +133,11 @@ figures_are : (state : State) (count edits : ℕ) → IsListed state count edits
 figures_are state count edits listed =
     ap (λ s. figures_named s program_uri) listed.is ∙ has_figures listed.published (pos (edits + 1)) (text_behind count edits) listed.listed
 
-summary_is : (state : State) (count edits : ℕ) → IsListed state count edits → summary_named state program_uri ≡ Some (figures_behind count edits).summary
-summary_is state count edits listed = ap (λ found. option_map (λ (f : Figures). f.summary) found) (figures_are state count edits listed)
-
-total_is : (state : State) (count edits : ℕ) → IsListed state count edits → unwrap_or (global_named state program_uri (codes "TOT")) (pos 0) ≡ total_in (figures_behind count edits)
-total_is state count edits listed =
-    ap (λ found. unwrap_or (option_and_then (λ (f : Figures). number_of (codes "TOT") f.globals) found) (pos 0)) (figures_are state count edits listed)
-
 pub uri_is : chars (codes "file:///bulk/BULK.hlasm") ≡ program_uri
 unfolding chars
 uri_is = refl
 
 -- what the session answers, by whichever text names the program
-pub summary_told : (state : State) (uri : List ℕ) (found : Option Summary) (count edits : ℕ) → uri ≡ program_uri → IsListed state count edits
-    → found ≡ summary_named state uri → found ≡ Some (figures_behind count edits).summary
-summary_told state uri found count edits named listed told = told ∙ ap (λ u. summary_named state u) named ∙ summary_is state count edits listed
-
-pub total_told : (state : State) (uri name : List ℕ) (found : Option ℤ) (count edits : ℕ) → uri ≡ program_uri → name ≡ codes "TOT" → IsListed state count edits
-    → found ≡ global_named state uri name → unwrap_or found (pos 0) ≡ total_in (figures_behind count edits)
-total_told state uri name found count edits named called listed told =
-    ap (λ z. unwrap_or z (pos 0)) (told ∙ ap (λ u. global_named state u name) named ∙ ap (λ n. global_named state program_uri n) called) ∙ total_is state count edits listed
+pub figures_told : (state : State) (uri : List ℕ) (found : Option Figures) (count edits : ℕ) → uri ≡ program_uri → IsListed state count edits
+    → found ≡ figures_named state uri → found ≡ Some (figures_behind count edits)
+figures_told state uri found count edits named listed told = told ∙ ap (λ u. figures_named state u) named ∙ figures_are state count edits listed

@@ -11,7 +11,7 @@ use bulk_script::{
     program_text,
 };
 use hl_base::{Ledger, Name, OutOfMemory, Steps};
-use session_core::{Session, Summary};
+use session_core::{Figures, Session};
 use std::alloc::Global;
 
 /// How many statements the program may be given.
@@ -186,39 +186,32 @@ fn make_edits<L: Ledger>(
     Ok(())
 }
 
-/// What the program's assembly has behind so many edits.
-fn summary<L: Ledger>(
+/// What the program's assembly behind so many edits comes to in figures.
+fn figures<L: Ledger>(
     alloc: Global,
     count: u32,
     edits: u32,
-    session: &Session,
+    session: &mut Session,
     steps: &mut Steps<L>,
-) -> Result<Summary, OutOfMemory>
-    requires listed { inside.IsListed session.now.state count edits }
-    ensures { IfOk result (λ summary. summary ≡ (rules.figures_behind count edits).summary) }
+) -> Result<Figures, OutOfMemory>
+    requires listed { inside.IsListed session.old.state count edits }
+    ensures figures { IfOk result (λ figures. figures ≡ rules.figures_behind count edits) }
+    ensures same { session.new ≡ session.old }
 {
-    match session.summary(alloc, PROGRAM, steps)? {
-        Some(summary) => Ok(summary),
+    match session.figures(alloc, PROGRAM, steps)? {
+        Some(figures) => Ok(figures),
         None => unreachable!(),
     }
 }
 
-/// The total that the members made in the program's assembly behind so many edits; 0 where none declares it.
-fn total<L: Ledger>(
-    alloc: Global,
-    count: u32,
-    edits: u32,
-    session: &Session,
-    steps: &mut Steps<L>,
-) -> Result<i32, OutOfMemory>
-    requires listed { inside.IsListed session.now.state count edits }
-    ensures { IfOk result (λ total. total ≡ rules.total_in (rules.figures_behind count edits)) }
+/// The total that the members made in an assembly with these figures; 0 where none declares it.
+fn total_in(figures: &Figures) -> i32
+    ensures { result ≡ rules.total_in figures.now }
 {
     let Some(name) = Name::read(TOTAL) else {
         unreachable!()
     };
-    let total = session.global_at_end(alloc, PROGRAM, &name, steps)?;
-    Ok(total.unwrap_or(0))
+    figures.global(&name).unwrap_or(0)
 }
 
 /// What the assemblies of a program of so many calls come to, in a session that has not begun.
@@ -235,16 +228,15 @@ fn outcome_in<L: Ledger>(
     ensures { IfOk result (λ outcome. outcome ≡ rules.outcome_of (rules.figures_behind count 0) (rules.figures_behind count 10)) }
 {
     open_and_list(alloc, count, session, library, steps)?;
-    let first = summary(alloc, count, 0, session, steps)?;
-    let before = total(alloc, count, 0, session, steps)?;
+    let before = figures(alloc, count, 0, session, steps)?;
     make_edits(alloc, count, session, library, steps)?;
-    let behind = total(alloc, count, 10, session, steps)?;
+    let behind = figures(alloc, count, 10, session, steps)?;
     Ok(Outcome {
-        points: first.points,
-        symbols: first.symbols,
-        diagnostics: first.diagnostics,
-        total: before,
-        total_behind: behind,
+        points: before.summary.points,
+        symbols: before.summary.symbols,
+        diagnostics: before.summary.diagnostics,
+        total: total_in(&before),
+        total_behind: total_in(&behind),
     })
 }
 

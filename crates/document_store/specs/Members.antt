@@ -1,6 +1,9 @@
 -- The files of members that are kept beside the open documents (this project).
 use Rattle.std.specs.Prelude.{ℕ, ◌&&◌, Bool, List, [], ◌∷◌, ◌++◌, Option, None, Some, Result, Ok, Err, length, map, count_by, sum_by, is_some, nat_le, slice_set, chars, encode_utf8_all, if◌then◌else◌}
 use Rattle.std.specs.Borrow.{Bor}
+use Rattle.std.specs.String.{string_bytes}
+use Rattle.std.specs.declared.string.String.{String}
+use Rattle.std.specs.declared.alloc.Global.{Global}
 use Rattle.document_store.specs.Store.{Store, File, Readable, Unreadable, number_of}
 use Rattle.document_store.specs.Changes.{with_path}
 use Rattle.document_store.specs.declared.fault.StoreFault.{StoreFault}
@@ -17,6 +20,11 @@ most_bytes = 67108864
 abbrev pub file_read : Option (Bor (List ℕ)) → File
 file_read (Some text) = Readable (chars text.now)
 file_read None = Unreadable
+
+-- the same of a text that is given away
+abbrev pub file_given : Option (String Global) → File
+file_given (Some text) = Readable (chars (string_bytes text))
+file_given None = Unreadable
 
 -- how many bytes of UTF-8 a file has; one that cannot be read has none
 abbrev pub size_of : File → ℕ

@@ -1,8 +1,9 @@
 //! What is kept of the files of members: their texts, how many they are, and how many bytes they have.
 ghost use Rattle.std.specs.Prelude.{◌≡◌, ◌+◌, ◌-◌, ◌≤◌, ◌<◌, ◌^◌, length, IfOk, IfErr, IfSome, OnErr, Some};
 ghost use Rattle.std.specs.Str.{chars};
+ghost use Rattle.std.specs.String.{string_len};
 ghost use Rattle.document_store.specs.Store.{Readable};
-ghost use Rattle.document_store.specs.Members.{file_read, size_of, size_kept, may_keep};
+ghost use Rattle.document_store.specs.Members.{file_read, file_given, size_of, size_kept, may_keep};
 ghost use Rattle.document_store.specs.Inside.{file_in, IsOwnedIn, IsTakenIn, IsLetGo};
 
 use crate::limits::{MOST_MEMBER_BYTES, MOST_MEMBERS};
@@ -57,14 +58,27 @@ impl Totals {
     }
 }
 
-/// How many bytes of UTF-8 a file has of which this was read.
-pub(crate) fn size_read(text: Option<&str>) -> u64
+/// A copy of what was read of a file.
+pub(crate) fn copied(alloc: Global, text: Option<&str>) -> Result<Option<String>, StoreFault>
     requires { IfSome text (λ text. length text.now ≤ LONGEST_TEXT) }
-    ensures size { result ≡ size_of (file_read text.entry) }
+    ensures copy { IfOk result (λ copy. file_given copy ≡ file_read text.entry) }
+    ensures short { IfOk result (λ copy. IfSome copy (λ text. string_len text ≤ LONGEST_TEXT)) }
+    ensures memory { IfErr result (λ fault. fault ≡ StoreFault.OutOfMemory) }
+{
+    match text {
+        Some(text) => Ok(Some(String::from_str(alloc, text)?)),
+        None => Ok(None),
+    }
+}
+
+/// How many bytes of UTF-8 a file has of which this was read.
+pub(crate) fn size_read(text: &Option<String>) -> u64
+    requires { IfSome text.now (λ text. string_len text ≤ LONGEST_TEXT) }
+    ensures size { result ≡ size_of (file_given text.now) }
     ensures small { result ≤ LONGEST_TEXT }
 {
     match text {
-        Some(text) => bytes_of(text),
+        Some(text) => bytes_of(text.as_str()),
         None => 0,
     }
 }
@@ -91,19 +105,15 @@ pub(crate) fn size_kept(pool: &TextPool, file: Option<MemberText>) -> u64
 }
 
 /// Takes what was read of a file into the pool. An `Err` changes nothing.
-pub(crate) fn take_in(
-    pool: &mut TextPool,
-    alloc: Global,
-    text: Option<&str>,
-) -> Result<MemberText, StoreFault>
-    requires short { IfSome text (λ text. length text.now ≤ LONGEST_TEXT) }
-    ensures taken { IfOk result (λ file. IsTakenIn pool.old pool.new (file_read text.entry) file) }
+pub(crate) fn take_in(pool: &mut TextPool, text: Option<String>) -> Result<MemberText, StoreFault>
+    requires short { IfSome text (λ text. string_len text ≤ LONGEST_TEXT) }
+    ensures taken { IfOk result (λ file. IsTakenIn pool.old pool.new (file_given text) file) }
     ensures memory { IfErr result (λ fault. fault ≡ StoreFault.OutOfMemory) }
     ensures kept { OnErr result (pool.new ≡ pool.old) }
 {
     match text {
         Some(text) => {
-            let id = pool.intern(alloc, text)?;
+            let id = pool.intern_owned(text)?;
             Ok(MemberText::File(id))
         }
         None => Ok(MemberText::Unreadable),

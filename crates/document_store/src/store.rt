@@ -7,14 +7,14 @@ ghost use Rattle.document_store.specs.Store as store;
 ghost use Rattle.document_store.specs.Changes.{opened, changed, closed, with_document, with_text, Answers, MayOpen};
 ghost use Rattle.document_store.specs.Holdings as holdings;
 ghost use Rattle.document_store.specs.Shown.{HaveNumbers, IsShown, IsPresent, HasTexts, HasFileTexts, HasNoOtherTexts, IsOwnedByHolders, PathsDiffer};
-ghost use Rattle.document_store.specs.Members.{file_read, size_of, placed, fits, with_file, file_set, file_dropped, files_dropped};
+ghost use Rattle.document_store.specs.Members.{file_read, file_given, size_of, placed, fits, with_file, file_set, file_dropped, files_dropped};
 ghost use Rattle.document_store.specs.Inside.{AreCounted, AreWithin};
 ghost use Rattle.document_store.specs.Positions as positions;
 ghost use Rattle.text_pool.specs.Pool.{TextsDiffer};
 
 use crate::changes::after_edits;
 use crate::kept::{KeptDocument, append, place_in};
-use crate::members::{Totals, let_go, size_kept, size_read, take_in};
+use crate::members::{Totals, copied, let_go, size_kept, size_read, take_in};
 use crate::opening::prepare;
 use crate::paths::{enter, number_for, number_in};
 use crate::{Document, MOST_DOCUMENTS, MemberText, StoreFault, place};
@@ -353,20 +353,19 @@ impl DocumentStore {
     /// Keeps what was read of the file of a number.
     fn replace_file(
         &mut self,
-        alloc: Global,
         at: usize,
-        text: Option<&str>,
+        text: Option<String>,
         totals: Totals,
     ) -> Result<(), StoreFault>
         requires there { at < length self.old.store.files }
-        requires short { IfSome text (λ text. length text.now ≤ LONGEST_TEXT) }
-        requires within { AreWithin totals (placed self.old.store.files (Some at) (file_read text)) }
-        ensures replaced { OnOk result (self.new.store ≡ record self.old.store { files = placed self.old.store.files (Some at) (file_read text.entry) }) }
+        requires short { IfSome text (λ text. string_len text ≤ LONGEST_TEXT) }
+        requires within { AreWithin totals (placed self.old.store.files (Some at) (file_given text)) }
+        ensures replaced { OnOk result (self.new.store ≡ record self.old.store { files = placed self.old.store.files (Some at) (file_given text) }) }
         ensures memory { IfErr result (λ fault. fault ≡ StoreFault.OutOfMemory) }
         ensures kept { OnErr result (self.new ≡ self.old) }
     {
         let old = self.files[at];
-        let file = take_in(&mut self.pool, alloc, text)?;
+        let file = take_in(&mut self.pool, text)?;
         let_go(&mut self.pool, old);
         self.files[at] = Some(file);
         self.totals = totals;
@@ -378,13 +377,13 @@ impl DocumentStore {
         &mut self,
         alloc: Global,
         path: &str,
-        text: Option<&str>,
+        text: Option<String>,
         totals: Totals,
     ) -> Result<PathId, StoreFault>
         requires absent { store.number_of self.old.store.paths (chars path.now) ≡ None }
-        requires short { IfSome text (λ text. length text.now ≤ LONGEST_TEXT) }
-        requires within { AreWithin totals (placed self.old.store.files None (file_read text)) }
-        ensures added { OnOk result (self.new.store ≡ with_file self.old.store (chars path.now) (file_read text.entry)) }
+        requires short { IfSome text (λ text. string_len text ≤ LONGEST_TEXT) }
+        requires within { AreWithin totals (placed self.old.store.files None (file_given text)) }
+        ensures added { OnOk result (self.new.store ≡ with_file self.old.store (chars path.now) (file_given text)) }
         ensures number { IfOk result (λ id. store.number_of self.new.store.paths (chars path.now) ≡ Some id.0) }
         ensures memory { IfErr result (λ fault. fault ≡ StoreFault.OutOfMemory) }
         ensures kept { OnErr result (self.new ≡ self.old) }
@@ -393,7 +392,7 @@ impl DocumentStore {
         let key = String::from_str(alloc, path)?;
         self.paths.reserve(1)?;
         self.files.reserve(1)?;
-        let file = take_in(&mut self.pool, alloc, text)?;
+        let file = take_in(&mut self.pool, text)?;
         enter(&mut self.paths, &mut self.files, key, Some(file));
         self.totals = totals;
         Ok(number)
@@ -412,14 +411,30 @@ impl DocumentStore {
         ensures number { IfOk result (λ id. store.number_of self.new.store.paths (chars path.now) ≡ Some id.0) }
         ensures kept { OnErr result (self.new ≡ self.old) }
     {
+        let text = copied(alloc, text)?;
+        self.keep_member(alloc, path, text)
+    }
+
+    /// The same of a text that is given away: it is kept without a copy.
+    pub fn keep_member(
+        &mut self,
+        alloc: Global,
+        path: &str,
+        text: Option<String>,
+    ) -> Result<PathId, StoreFault>
+        requires short { IfSome text (λ text. string_len text ≤ LONGEST_TEXT) }
+        ensures answer { Answers (file_set self.old.store (chars path.now) (file_given text)) result self.new.store }
+        ensures number { IfOk result (λ id. store.number_of self.new.store.paths (chars path.now) ≡ Some id.0) }
+        ensures kept { OnErr result (self.new ≡ self.old) }
+    {
         let at = number_in(&self.paths, path);
-        let totals = self.totals_with(at, size_read(text));
+        let totals = self.totals_with(at, size_read(&text));
         if !totals.may_stand() {
             return Err(StoreFault::LibraryTooLarge);
         }
         match at {
             Some(number) => {
-                self.replace_file(alloc, number, text, totals)?;
+                self.replace_file(number, text, totals)?;
                 Ok(PathId(number as u32))
             }
             None => self.add_file(alloc, path, text, totals),

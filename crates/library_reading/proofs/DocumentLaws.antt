@@ -1,14 +1,13 @@
 -- Readings leave the open documents alone.
-use Rattle.std.proofs.Common.{◌≡◌, ℕ, Bool, true, false, cond, List, [], ◌∷◌, Option, Some, None, Result, Ok, Err, refl, ◌∙◌}
+use Rattle.std.proofs.Common.{◌≡◌, ℕ, Bool, true, false, cond, List, [], ◌∷◌, Option, Some, None, Ok, Err, refl, ◌∙◌}
 use Rattle.io_edge.specs.LibraryCall.{LibraryCall}
 use Rattle.document_store.specs.Store.{Store, OpenDocument, File, number_of}
-use Rattle.document_store.specs.Members.{with_file, fits, file_set, files_dropped}
-use Rattle.document_store.specs.declared.fault.StoreFault.{StoreFault}
+use Rattle.document_store.specs.Members.{with_file, fits, files_dropped}
 use Rattle.document_store.specs.declared.fault.StoreFault.TheVariants.{LibraryTooLarge}
 use Rattle.library_folders.specs.declared.folders.Folder.{Folder}
 use Rattle.library_folders.specs.Folders.{folders_of}
 use Rattle.library_reading.specs.Asked.{Asked, Came, Lacks, Differs, Asking, answered, behind, file_asked, folder_asked}
-use Rattle.library_reading.specs.Reading.{Reading, Files, files_read, folders_read, folder_read, members_read, names_told, folder_told, path_in, configuration_read}
+use Rattle.library_reading.specs.Reading.{Reading, files_read, folders_read, folder_read, names_told, folder_told, path_in, configuration_read}
 use Rattle.library_reading.specs.Taking.{Taking, Passed, number_dropped, file_told, file_taken, file_admitted, member_read, each_with_room}
 
 -- where questions came to a value, this is so of it

@@ -19,6 +19,10 @@ not_true : (b : Bool) → (b ≡ true → ⊥) → b ≡ false
 not_true true other = absurd (other refl)
 not_true false other = refl
 
+-- a refusal is no text
+pub no_text : false ≡ true → ⊥
+no_text same = cc
+
 -- other bytes cannot be read
 pub file_of_others : (bytes : List ℕ) → (IsUtf8 bytes → ⊥) → file_of_bytes bytes ≡ Unreadable
 file_of_others bytes other = ap (λ b. file_if bytes b (nat_le (length bytes) LONGEST_TEXT)) (not_true (is_utf8 bytes) (λ e. other (IsUtf8-from_is_utf8 bytes e)))

@@ -1,6 +1,7 @@
 -- Texts of ASCII that stand in the code are their characters.
-use Rattle.std.proofs.Common.{◌≡◌, ℕ, Bool, true, false, cond, List, [], ◌∷◌, ◌++◌, codes, refl, ap, sym, ◌∙◌, append_assoc}
-use Rattle.std.specs.Str.{chars}
+use Rattle.std.proofs.Common.{◌≡◌, ℕ, zero, suc, ◌<◌, slice_index, arith, Bool, true, false, cond, List, [], ◌∷◌, ◌++◌, codes, refl, ap, sym, ◌∙◌, append_assoc}
+use Rattle.std.specs.Str.{chars, IsUtf8}
+use Rattle.std.proofs.lemmas.Str.{chars-append, IsUtf8-from_ascii}
 use Rattle.library_folders.specs.declared.folders.Folder.{Folder}
 use Rattle.library_reading.specs.Inside.{folder_answer}
 use Rattle.library_reading.specs.Log.{Log, said, said_full}
@@ -61,6 +62,23 @@ pub three : (front middle sign back first second third : List ℕ) → first ≡
     → third ≡ front ++ (sign ++ back)
 three front middle sign back first second third one is behind same =
     behind ∙ ap (λ z. z ++ back) (two front middle sign first second one is same) ∙ append_assoc front sign back
+
+-- a slash is a character
+slash_ascii : (i : ℕ) → slice_index (codes "/") i < 128
+slash_ascii zero = omega arith
+slash_ascii (suc i) = omega arith
+
+pub slash_utf8 : IsUtf8 (codes "/")
+slash_utf8 = IsUtf8-from_ascii (codes "/") slash_ascii
+
+-- a path that is put together from bytes
+pub path_spelled : (folder path name none first second whole : List ℕ) → none ≡ [] → first ≡ none ++ folder → second ≡ first ++ codes "/"
+    → whole ≡ second ++ name → IsUtf8 folder → IsUtf8 (codes "/") → chars folder ≡ path → chars whole ≡ path ++ (codes "/" ++ chars name)
+path_spelled folder path name none first second whole empty one two all utf8 sign spelled =
+    let bytes : whole ≡ folder ++ (codes "/" ++ name) =
+    all ∙ ap (λ z. z ++ name) (two ∙ ap (λ z. z ++ codes "/") (one ∙ ap (λ z. z ++ folder) empty)) ∙ append_assoc folder (codes "/") name in
+    ap chars bytes ∙ chars-append folder (codes "/" ++ name) utf8 ∙ ap (λ z. z ++ chars (codes "/" ++ name)) spelled
+    ∙ ap (λ z. path ++ z) (chars-append (codes "/") name sign ∙ ap (λ z. z ++ chars name) slash_is)
 
 -- ---- the log
 

@@ -12,7 +12,7 @@ use crate::asking::ask_folder;
 use crate::logs::Logs;
 use crate::members::read_member;
 use document_store::DocumentStore;
-use hl_base::{OutOfMemory, Text};
+use hl_base::OutOfMemory;
 use io_edge::Library;
 use library_folders::Folder;
 use member_paths::member_name;
@@ -81,11 +81,14 @@ fn list_folder<B: Library>(
     ask_folder(alloc, folder.path.as_str(), library)
 }
 
-/// The path of the file of a name in a folder.
-fn path_in(alloc: Global, folder: &Folder, name: &str) -> Result<Text, OutOfMemory>
-    ensures { IfOk result (λ path. path ≡ path_in folder.now.path name.now) }
+/// The path of the file of a name in a folder. It is made at its length, so that it takes memory once.
+fn path_in(alloc: Global, folder: &Folder, name: &str) -> Result<String, OutOfMemory>
+    ensures { IfOk result (λ path. chars (string_bytes path) ≡ path_in folder.now.path name.now) }
 {
-    let mut path = folder.path.copy(alloc)?;
+    let folder = folder.path.as_str();
+    let length = folder.len().saturating_add(name.len()).saturating_add(1);
+    let mut path = String::with_capacity(alloc, length)?;
+    path.push_str(folder)?;
     path.push_str("/")?;
     path.push_str(name)?;
     Ok(path)

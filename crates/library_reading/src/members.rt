@@ -1,7 +1,8 @@
 //! Members that are read.
-ghost use Rattle.std.specs.Prelude.{◌≡◌, ◌≤◌, length, IfOk, IfSome, OnOk, Some};
+ghost use Rattle.std.specs.Prelude.{◌≡◌, ◌≤◌, IfOk, IfSome, OnOk, Some};
 ghost use Rattle.std.specs.Str.{chars};
-ghost use Rattle.document_store.specs.Members.{file_read};
+ghost use Rattle.std.specs.String.{string_len};
+ghost use Rattle.document_store.specs.Members.{file_given};
 ghost use Rattle.library_reading.specs.Asked.{AsksOver};
 ghost use Rattle.library_reading.specs.Inside.{file_answer};
 ghost use Rattle.library_reading.specs.Log.{said_full};
@@ -25,15 +26,15 @@ pub fn drop_path(store: &mut DocumentStore, path: &str)
     }
 }
 
-/// The text of a file; none where its bytes are not UTF-8, or more than 4 MiB.
-fn text_of(bytes: &[u8]) -> Option<&str>
-    ensures text { file_read result ≡ file_of_bytes bytes.now }
-    ensures short { IfSome result (λ text. length text.now ≤ LONGEST_TEXT) }
+/// The text of a file, of which no copy is made; none where its bytes are not UTF-8, or more than 4 MiB.
+fn text_of(bytes: Vec<u8>) -> Option<String>
+    ensures text { file_given result ≡ file_of_bytes bytes.items }
+    ensures short { IfSome result (λ text. string_len text ≤ LONGEST_TEXT) }
 {
     if bytes.len() > LONGEST_TEXT {
         return None;
     }
-    match std::str::from_utf8(bytes) {
+    match String::from_utf8(bytes) {
         Ok(text) => Some(text),
         Err(_) => None,
     }
@@ -57,16 +58,16 @@ fn refuse(
 fn keep(
     alloc: Global,
     path: &str,
-    text: Option<&str>,
+    text: Option<String>,
     store: &mut DocumentStore,
     logs: &mut Logs,
 ) -> Result<bool, OutOfMemory>
-    requires short { IfSome text (λ text. length text.now ≤ LONGEST_TEXT) }
+    requires short { IfSome text (λ text. string_len text ≤ LONGEST_TEXT) }
     ensures { IfOk result (λ room.
-        file_taken (record { store = store.old.store; log = logs.old }) (chars path.now) (Some (file_read text.entry))
+        file_taken (record { store = store.old.store; log = logs.old }) (chars path.now) (Some (file_given text))
         ≡ record { taking = record { store = store.new.store; log = logs.new }; room = room }) }
 {
-    match store.set_member(alloc, path, text) {
+    match store.keep_member(alloc, path, text) {
         Ok(_) => Ok(true),
         Err(StoreFault::OutOfMemory) => Err(OutOfMemory),
         Err(_) => {
@@ -93,7 +94,7 @@ fn take(
             drop_path(store, path);
             Ok(true)
         }
-        FileAnswer::Found(bytes) => keep(alloc, path, text_of(&bytes), store, logs),
+        FileAnswer::Found(bytes) => keep(alloc, path, text_of(bytes), store, logs),
         FileAnswer::Refused => keep(alloc, path, None, store, logs),
     }
 }

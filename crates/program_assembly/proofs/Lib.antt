@@ -6,3 +6,4 @@ pub mod StatementLaws
 pub mod PlainRuns
 pub mod OpenCode
 mod FigureLaws
+mod KeptRootLaws

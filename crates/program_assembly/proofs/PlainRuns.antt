@@ -1,10 +1,10 @@
 -- What a run comes to that gives an expansion.
-use Rattle.std.proofs.Common.{◌≡◌, ℕ, ◌-◌, List, [], ◌∷◌, map, refl, sym, ap, ◌∙◌, subst, arith}
+use Rattle.std.proofs.Common.{◌≡◌, ℕ, ◌-◌, List, [], ◌∷◌, map, refl, ap, ◌∙◌, subst, arith}
 use Rattle.kept_values.specs.Trees.{Tree}
 use Rattle.trace_arena.specs.Points.{Point}
 use Rattle.asking_core.specs.Worlds.{WorldModel}
 use Rattle.asking_core.specs.Machines.{MachineModel, Nothing}
-use Rattle.asking_core.specs.Runs.{Run, Plain}
+use Rattle.asking_core.specs.Runs.{Plain}
 use Rattle.plain_expansion.specs.Expansion.{Expansion}
 use Rattle.plain_expansion.specs.Laws.{Gives}
 use Rattle.kept_outcomes.specs.Moments.{Finish, PlainRunTo, begun}

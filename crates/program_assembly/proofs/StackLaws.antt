@@ -1,20 +1,19 @@
 -- The whole stack of a point, from the places of its items.
-use Rattle.std.proofs.Common.{◌≡◌, ℕ, zero, suc, ◌+◌, ◌-◌, ◌<◌, Bool, true, false, ◌&&◌, List, [], ◌∷◌, ◌++◌, length, map, Option, Some, None, refl, sym, ap, ◌∙◌, subst, arith, append_assoc, append-nil, length-append}
+use Rattle.std.proofs.Common.{◌≡◌, ℕ, zero, suc, ◌+◌, ◌-◌, true, false, ◌&&◌, List, [], ◌∷◌, ◌++◌, length, map, Some, refl, sym, ap, ◌∙◌, arith, append_assoc, append-nil, length-append}
 use Rattle.std.specs.Prelude.{slice_get, unwrap_or, drop}
 use Rattle.std.specs.List.{flat_map}
 use Rattle.std.specs.Option.{option_map, option_map_or}
 use Rattle.std.proofs.lemmas.List.{length-map, map-append}
 use Rattle.std.proofs.lemmas.Option.{none-some}
-use Rattle.hl_base.specs.declared.place.Frame.{Frame}
 use Rattle.note_rows.specs.Table.{line}
 use Rattle.note_rows.specs.declared.row.Row.TheVariants.{BranchLimit}
 use Rattle.trace_values.specs.CallFrames.{frames_of}
 use Rattle.trace_values.specs.declared.item.TraceItem.{TraceItem}
 use Rattle.trace_arena.specs.Nodes.{Node, node_at}
 use Rattle.trace_arena.specs.Points.{Point, points}
-use Rattle.trace_cursor.specs.Stacks.{frames_in, stack_of}
+use Rattle.trace_cursor.specs.Stacks.{frames_in}
 use Rattle.trace_cursor.specs.declared.descent.ItemPlace.{ItemPlace}
-use Rattle.trace_cursor.specs.Pasts.{Past, pasts, with_pasts, traced, plain, past_at, IsPath}
+use Rattle.trace_cursor.specs.Pasts.{Past, pasts, traced, plain, past_at, IsPath}
 use Rattle.trace_cursor.proofs.PathLemmas.{traced_at}
 use Rattle.trace_cursor.proofs.TracedLemmas.{points_plain}
 use Rattle.program_assembly.specs.PointNotes.{stack_at}

@@ -6,7 +6,6 @@ use Rattle.trace_values.specs.declared.item.TraceItem.{TraceItem}
 use Rattle.statement_checks.specs.Layout.{layout_of}
 use Rattle.program_assembly.specs.Statements.{generated}
 use Rattle.program_assembly.specs.Assembly.{open_code_run, assembly_notes, assembly_globals}
-use Rattle.program_assembly.specs.declared.figures.Summary.{Summary}
 use Rattle.program_assembly.specs.declared.figures.Figures.{Figures}
 
 -- how many symbols the statements define that some points generated

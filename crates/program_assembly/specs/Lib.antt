@@ -9,3 +9,4 @@ pub mod Runs
 pub mod Assembly
 pub mod Figures
 pub mod Globals
+pub mod KeptRoots

@@ -8,10 +8,8 @@ ghost use Rattle.program_assembly.specs.Figures.{figures_of, symbol_count};
 
 use crate::figures::{Figures, Summary};
 use crate::statements::generated;
-use crate::{Assembly, assemble, assemblies_are_plain};
-use expansion_memo::Memo;
+use crate::{Assembly, KeptExpansions};
 use hl_base::{Ledger, OutOfMemory, PathId, Steps, TextId};
-use macro_expand::{Expander, HlasmLanguage};
 use statement_checks::section_layout::lay_out;
 use std::alloc::Global;
 use text_pool::Present;
@@ -40,7 +38,7 @@ fn symbol_count(
 }
 
 /// The figures of an assembly whose points stand in this arena.
-fn figures_in(
+pub(crate) fn figures_in(
     alloc: Global,
     arena: &TraceArena<TraceItem>,
     assembly: Assembly,
@@ -82,12 +80,5 @@ pub fn assemble_figures<P: Present, L: Ledger>(
     ensures { IfOk result (λ figures. figures
         ≡ figures_of path.0 (text_of (P.texts present.now) text.0) (chars parm.now) (P.members present.now) budget) }
 {
-    assemblies_are_plain::<P>();
-    let machine = Expander::new(HlasmLanguage);
-    let mut memo: Memo<Expander> = Memo::new(alloc);
-    let mut arena = TraceArena::new(alloc);
-    let assembly = assemble(
-        &machine, alloc, path, text, parm, present, &mut memo, &mut arena, budget, steps,
-    )?;
-    figures_in(alloc, &arena, assembly)
+    KeptExpansions::new(alloc).figures(alloc, path, text, parm, present, budget, steps)
 }

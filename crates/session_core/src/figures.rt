@@ -19,8 +19,9 @@ use document_store::{Document, MemberText};
 use group_members::{GroupMembers, MemberIndex};
 use hl_base::{Ledger, OutOfMemory, PathId, Steps, TextId};
 use library_folders::{folders_for, parm_for};
-use program_names::program_assembly::{Figures, assemble_figures};
+use program_names::program_assembly::{Figures, KeptExpansions};
 use std::alloc::Global;
+use std::mem;
 
 impl Surroundings<'_> {
     /// The figures of the program of a path and a text.
@@ -29,6 +30,7 @@ impl Surroundings<'_> {
         alloc: Global,
         path: PathId,
         text: TextId,
+        expansions: &mut KeptExpansions,
         steps: &mut Steps<L>,
     ) -> Result<Figures, OutOfMemory>
         requires given { path.0 < length self.now.store.now.store.paths }
@@ -45,7 +47,7 @@ impl Surroundings<'_> {
         let folders = folders_for(alloc, root, self.configuration, place)?;
         let parm = parm_for(root, self.configuration, place);
         let members = GroupMembers::new(self.store, self.index, &folders);
-        assemble_figures(alloc, path, text, parm, &members, self.budget, steps)
+        expansions.figures(alloc, path, text, parm, &members, self.budget, steps)
     }
 
     /// The figures of the program of a document, as it is shown.
@@ -54,6 +56,7 @@ impl Surroundings<'_> {
         alloc: Global,
         path: PathId,
         document: &Document<'_>,
+        expansions: &mut KeptExpansions,
         steps: &mut Steps<L>,
     ) -> Result<Figures, OutOfMemory>
         requires given { path.0 < length self.now.store.now.store.paths }
@@ -65,7 +68,7 @@ impl Surroundings<'_> {
             self.now.budget path shown) }
     {
         match self.store.present(path) {
-            Some(MemberText::File(text)) => self.figures(alloc, path, text, steps),
+            Some(MemberText::File(text)) => self.figures(alloc, path, text, expansions, steps),
             Some(MemberText::Unreadable) => unreachable!(),
             None => unreachable!(),
         }
@@ -87,6 +90,7 @@ impl Standing {
         index: &MemberIndex,
         path: PathId,
         document: &Document<'_>,
+        expansions: &mut KeptExpansions,
         steps: &mut Steps<L>,
     ) -> Result<Figures, OutOfMemory>
         requires given { path.0 < length self.now.store.paths }
@@ -102,7 +106,7 @@ impl Standing {
             index,
             budget: self.budget,
         };
-        around.figures_of(alloc, path, document, steps)
+        around.figures_of(alloc, path, document, expansions, steps)
     }
 
     /// The figures of the program of a document, as it is shown.
@@ -111,6 +115,7 @@ impl Standing {
         alloc: Global,
         path: PathId,
         document: &Document<'_>,
+        expansions: &mut KeptExpansions,
         steps: &mut Steps<L>,
     ) -> Result<Figures, OutOfMemory>
         requires given { path.0 < length self.now.store.paths }
@@ -118,10 +123,10 @@ impl Standing {
         ensures { IfOk result (λ figures. TellsFigures self.now path document.now figures) }
     {
         match &self.index {
-            Some(index) => self.figures_with(alloc, index, path, document, steps),
+            Some(index) => self.figures_with(alloc, index, path, document, expansions, steps),
             None => {
                 let index = MemberIndex::of(alloc, &self.store)?;
-                self.figures_with(alloc, &index, path, document, steps)
+                self.figures_with(alloc, &index, path, document, expansions, steps)
             }
         }
     }
@@ -131,6 +136,7 @@ impl Standing {
         &self,
         alloc: Global,
         path: PathId,
+        expansions: &mut KeptExpansions,
         steps: &mut Steps<L>,
     ) -> Result<Option<Figures>, OutOfMemory>
         ensures { IfOk result (λ figures. figures ≡ figures_at self.now path) }
@@ -141,7 +147,7 @@ impl Standing {
         let Some(document) = document_at(&self.store, path) else {
             return Ok(None);
         };
-        let figures = self.figures_shown(alloc, path, &document, steps)?;
+        let figures = self.figures_shown(alloc, path, &document, expansions, steps)?;
         Ok(Some(figures))
     }
 
@@ -150,14 +156,31 @@ impl Standing {
         &self,
         alloc: Global,
         uri: &str,
+        expansions: &mut KeptExpansions,
         steps: &mut Steps<L>,
     ) -> Result<Option<Figures>, OutOfMemory>
         ensures { IfOk result (λ figures. figures ≡ figures_named self.now (chars uri.now)) }
     {
         let number = number_named(alloc, &self.store, uri)?;
         match number {
-            Some(path) => self.figures_at(alloc, path, steps),
+            Some(path) => self.figures_at(alloc, path, expansions, steps),
             None => Ok(None),
         }
+    }
+
+    /// The figures of the program that a URI names, if it is an assembled one. What the last Turn expanded is not expanded again.
+    pub(crate) fn figures_kept<L: Ledger>(
+        &mut self,
+        alloc: Global,
+        uri: &str,
+        steps: &mut Steps<L>,
+    ) -> Result<Option<Figures>, OutOfMemory>
+        ensures figures { IfOk result (λ figures. figures ≡ figures_named self.old (chars uri.now)) }
+        ensures state { self.new ≡ self.old }
+    {
+        let mut expansions = mem::replace(&mut self.expansions, KeptExpansions::new(alloc));
+        let figures = self.figures_named(alloc, uri, &mut expansions, steps)?;
+        self.expansions = expansions;
+        Ok(figures)
     }
 }

@@ -37,5 +37,5 @@ mod watching;
 
 pub use fault::SessionFault;
 pub use phase::Phase;
-pub use program_names::program_assembly::Summary;
+pub use program_names::program_assembly::{Figures, Summary};
 pub use session::Session;

@@ -24,7 +24,7 @@ use group_members::{GroupMembers, MemberIndex};
 use hl_base::{Ledger, Notes, OutOfMemory, PathId, Steps, Text, TextId};
 use library_folders::{Configuration, Folder, folders_for, parm_for};
 use lsp_messages::Diagnostics;
-use program_names::program_assembly::assembly_notes;
+use program_names::program_assembly::KeptExpansions;
 use program_names::program_launch::launch;
 use program_names::{AssembledNames, assemble_names};
 use std::alloc::Global;
@@ -65,6 +65,7 @@ impl Surroundings<'_> {
         alloc: Global,
         path: PathId,
         text: &RcStr,
+        expansions: &mut KeptExpansions,
         steps: &mut Steps<L>,
     ) -> Result<Notes, OutOfMemory>
         requires given { path.0 < length self.now.store.now.store.paths }
@@ -79,7 +80,7 @@ impl Surroundings<'_> {
         let folders = folders_for(alloc, root, self.configuration, place)?;
         let parm = parm_for(root, self.configuration, place);
         let members = GroupMembers::new(self.store, self.index, &folders);
-        assembly_notes(alloc, path, text, parm, &members, self.budget, steps)
+        expansions.notes(alloc, path, text, parm, &members, self.budget, steps)
     }
 
     /// The list of a program, as its document is shown.
@@ -88,6 +89,7 @@ impl Surroundings<'_> {
         alloc: Global,
         path: PathId,
         document: &Document<'_>,
+        expansions: &mut KeptExpansions,
         steps: &mut Steps<L>,
     ) -> Result<Diagnostics, OutOfMemory>
         requires given { path.0 < length self.now.store.now.store.paths }
@@ -99,7 +101,7 @@ impl Surroundings<'_> {
             self.now.budget path shown) }
     {
         let text = text_at(alloc, self.store, path)?;
-        let notes = self.notes(alloc, path, &text, steps)?;
+        let notes = self.notes(alloc, path, &text, expansions, steps)?;
         published(alloc, notes.as_slice(), path, self.folders, self.store)
     }
 

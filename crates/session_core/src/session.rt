@@ -1,7 +1,7 @@
 //! The session, as `run` drives it.
 ghost use Rattle.std.specs.Prelude.{◌≡◌, ◌≢◌, ◌≤◌, [], IfOk, OnOk, OnErr, MatchBool};
 ghost use Rattle.std.specs.Str.{chars};
-ghost use Rattle.session_core.specs.Figures.{summary_named, global_named};
+ghost use Rattle.session_core.specs.Figures.{figures_named, summary_named, global_named};
 ghost use Rattle.session_core.specs.Held.{beginning, phase_of, Comes, ComesOver};
 ghost use Rattle.session_core.specs.Inside.{Adds, HearsOver, KeepsOutput};
 ghost use Rattle.session_core.specs.Message.{event, message};
@@ -12,7 +12,7 @@ use crate::state::Stage;
 use crate::{Phase, SessionFault};
 use hl_base::{Ledger, Name, OutOfMemory, Steps};
 use io_edge::Library;
-use program_names::program_assembly::Summary;
+use program_names::program_assembly::{Figures, KeptExpansions, Summary};
 use std::alloc::Global;
 use std::marker::Model;
 use std::mem;
@@ -162,7 +162,8 @@ impl Session {
     ) -> Result<Option<Summary>, OutOfMemory>
         ensures { IfOk result (λ summary. summary ≡ summary_named self.now.state (chars uri.now)) }
     {
-        match self.standing.figures_named(alloc, uri, steps)? {
+        let mut nothing = KeptExpansions::new(alloc);
+        match self.standing.figures_named(alloc, uri, &mut nothing, steps)? {
             Some(figures) => Ok(Some(figures.summary)),
             None => Ok(None),
         }
@@ -179,9 +180,24 @@ impl Session {
     ) -> Result<Option<i32>, OutOfMemory>
         ensures { IfOk result (λ number. number ≡ global_named self.now.state (chars uri.now) name.now) }
     {
-        match self.standing.figures_named(alloc, uri, steps)? {
+        let mut nothing = KeptExpansions::new(alloc);
+        match self.standing.figures_named(alloc, uri, &mut nothing, steps)? {
             Some(figures) => Ok(figures.global(name)),
             None => Ok(None),
         }
+    }
+
+    /// All figures of that assembly at once. What the last Turn expanded is not expanded again, so this costs less than the two
+    /// calls above; nothing that can be seen changes.
+    pub fn figures<L: Ledger>(
+        &mut self,
+        alloc: Global,
+        uri: &str,
+        steps: &mut Steps<L>,
+    ) -> Result<Option<Figures>, OutOfMemory>
+        ensures figures { IfOk result (λ figures. figures ≡ figures_named self.old.state (chars uri.now)) }
+        ensures same { self.new ≡ self.old }
+    {
+        self.standing.figures_kept(alloc, uri, steps)
     }
 }

@@ -20,6 +20,7 @@ use hl_base::{Ledger, OutOfMemory, PathId, Steps, Text};
 use library_folders::{Configuration, Folder};
 use lsp_messages::{Diagnostic, Diagnostics};
 use program_names::AssembledNames;
+use program_names::program_assembly::KeptExpansions;
 use std::alloc::Global;
 use std::marker::Model;
 use waiting_requests::Waiting;
@@ -46,6 +47,8 @@ pub(crate) struct Standing {
     pub(crate) names: Option<Vec<AssembledNames>>,
     pub(crate) debuggers: DebugSessions,
     pub(crate) waiting: Waiting,
+    // What the last Turn expanded, for the next one.
+    pub(crate) expansions: KeptExpansions,
 }
 
 impl Model for Standing {
@@ -133,6 +136,7 @@ impl Standing {
             names: None,
             debuggers: DebugSessions::new(alloc),
             waiting: Waiting::new(alloc),
+            expansions: KeptExpansions::new(alloc),
         }
     }
 
@@ -203,7 +207,7 @@ impl Standing {
             index: &index,
             budget: self.budget,
         };
-        let list = around.list_of(alloc, path, &document, steps)?;
+        let list = around.list_of(alloc, path, &document, &mut self.expansions, steps)?;
         self.index = Some(index);
         self.listed.reserve(1)?;
         if is_published(&self.published, path, &document, list.as_slice()) {

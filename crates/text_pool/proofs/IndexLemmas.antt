@@ -13,6 +13,7 @@ use Rattle.std.proofs.lemmas.Str.{encodes-chars}
 use Rattle.std.proofs.lemmas.Slice.Eq.{bytes_eq-Decides}
 use Rattle.std.proofs.lemmas.Map.Text.{is_eq-slice_cmp}
 use Rattle.slab.specs.Slab.{Slab, get, Updates}
+use Rattle.text_pool.specs.Marks.{mark_of}
 use Rattle.text_pool.specs.Entries.{stamp, number_of, IsIndexed}
 use Rattle.text_pool.specs.declared.entry.Entry.{Entry}
 use Rattle.text_pool.specs.declared.entry.Key.{Key}
@@ -26,11 +27,11 @@ same_bytes a b one two same = sym (encodes-chars a one) ∙ ap encode_utf8_all s
 pub same_text : (a b : Key) → stamp a ≡ stamp b → rc_str_bytes a.text ≡ rc_str_bytes b.text
 same_text a b same = cc
 
--- two keys of the same bytes, each with its length, compare as one
-pub same_stamp : (a b : Key) → a.length ≡ length (rc_str_bytes a.text) → b.length ≡ length (rc_str_bytes b.text) →
+-- two keys of the same bytes, each with its mark, compare as one
+pub same_stamp : (a b : Key) → a.mark ≡ mark_of (rc_str_bytes a.text) → b.mark ≡ mark_of (rc_str_bytes b.text) →
     rc_str_bytes a.text ≡ rc_str_bytes b.text → stamp a ≡ stamp b
 same_stamp a b one two same =
-    let lengths : a.length ≡ b.length = one ∙ ap length same ∙ sym two in λ i. lengths i ∷ same i
+    let marks : a.mark ≡ b.mark = one ∙ ap mark_of same ∙ sym two in λ i. marks i ∷ same i
 
 -- whether two texts tie in the order of the keys
 abbrev pub ties : List ℕ → List ℕ → Bool
@@ -115,11 +116,11 @@ IsIndexed-recounted old new numbers id entry written indexed was updates same ow
             (written, ap (get new) here ∙ updates.changed, ap stamp (same ∙ ap (λ e. e.key) is) ∙ before.2)
         | inr there ↦ (before.0, updates.others other there ∙ before.1, before.2)
       ];
-  counted = λ other now found. elim (after_update old new id _ updates other now found) [
+  marked = λ other now found. elim (after_update old new id _ updates other now found) [
     | inl here ↦
         let is : written ≡ now = same_Some _ _ here.1 in
-        subst (λ (k : Key). k.length ≡ length (rc_str_bytes k.text)) (sym same ∙ ap (λ e. e.key) is) (indexed.counted id entry was)
-    | inr there ↦ indexed.counted other now there.1
+        subst (λ (k : Key). k.mark ≡ mark_of (rc_str_bytes k.text)) (sym same ∙ ap (λ e. e.key) is) (indexed.marked id entry was)
+    | inr there ↦ indexed.marked other now there.1
   ];
   utf8 = λ other now found. elim (after_update old new id _ updates other now found) [
     | inl here ↦
@@ -162,9 +163,9 @@ either false = inr refl
 pub IsIndexed-admitted : (old new : Slab Entry) (numbers later : BTreeMap Key ℕ) (id : ℕ) (entry : Entry) (bytes : List ℕ) →
     IsIndexed old numbers → Updates old new id (Some entry) → get old id ≡ None → stamp entry.key ≡ bytes →
     number_at numbers bytes ≡ None → ChangesAt numbers later bytes (Some id) →
-    entry.key.length ≡ length (rc_str_bytes entry.key.text) → IsUtf8 (rc_str_bytes entry.key.text) →
+    entry.key.mark ≡ mark_of (rc_str_bytes entry.key.text) → IsUtf8 (rc_str_bytes entry.key.text) →
     length (rc_str_bytes entry.key.text) ≤ LONGEST_TEXT → 0 < entry.owners → IsIndexed new later
-IsIndexed-admitted old new numbers later id entry bytes indexed updates free is absent changes counted utf8 short owned = record {
+IsIndexed-admitted old new numbers later id entry bytes indexed updates free is absent changes marked utf8 short owned = record {
   listed = λ other now found. elim (after_update old new id _ updates other now found) [
     | inl here ↦
         let same : bytes ≡ stamp now.key = sym is ∙ ap (λ e. stamp e.key) (same_Some _ _ here.1) in
@@ -183,9 +184,9 @@ IsIndexed-admitted old new numbers later id entry bytes indexed updates free is 
         let differ : other ≢ id = λ same. none_is_some (get old id) before.0 free (ap (get old) (sym same) ∙ before.1) in
         (before.0, updates.others other differ ∙ before.1, before.2)
   ];
-  counted = λ other now found. elim (after_update old new id _ updates other now found) [
-    | inl here ↦ subst (λ (e : Entry). e.key.length ≡ length (rc_str_bytes e.key.text)) (same_Some _ _ here.1) counted
-    | inr there ↦ indexed.counted other now there.1
+  marked = λ other now found. elim (after_update old new id _ updates other now found) [
+    | inl here ↦ subst (λ (e : Entry). e.key.mark ≡ mark_of (rc_str_bytes e.key.text)) (same_Some _ _ here.1) marked
+    | inr there ↦ indexed.marked other now there.1
   ];
   utf8 = λ other now found. elim (after_update old new id _ updates other now found) [
     | inl here ↦ subst (λ (e : Entry). IsUtf8 (rc_str_bytes e.key.text)) (same_Some _ _ here.1) utf8
@@ -222,9 +223,9 @@ IsIndexed-removed old new numbers later id entry indexed was updates changes = r
         true_is_false _ (ties-same _ _ (ap (λ e. stamp e.key) is ∙ before.2)) apart in
         (before.0, updates.others other differ ∙ before.1, before.2)
   ];
-  counted = λ other now found. elim (after_update old new id _ updates other now found) [
+  marked = λ other now found. elim (after_update old new id _ updates other now found) [
     | inl here ↦ absurd (none_is_some None now refl here.1)
-    | inr there ↦ indexed.counted other now there.1
+    | inr there ↦ indexed.marked other now there.1
   ];
   utf8 = λ other now found. elim (after_update old new id _ updates other now found) [
     | inl here ↦ absurd (none_is_some None now refl here.1)
@@ -252,7 +253,7 @@ IsIndexed-kept old new numbers later slots listed indexed =
       found = λ text id found.
           let entry = indexed.found text id (sym (at text) ∙ found) in
           (entry.0, sym (there id) ∙ entry.1, entry.2);
-      counted = λ id entry found. indexed.counted id entry (there id ∙ found);
+      marked = λ id entry found. indexed.marked id entry (there id ∙ found);
       utf8 = λ id entry found. indexed.utf8 id entry (there id ∙ found);
       short = λ id entry found. indexed.short id entry (there id ∙ found);
       owned = λ id entry found. indexed.owned id entry (there id ∙ found);

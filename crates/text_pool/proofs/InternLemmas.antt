@@ -1,5 +1,5 @@
 -- What comes of a text that is live already, and of one that is not.
-use Rattle.std.proofs.Common.{◌≡◌, ◌+◌, ℕ, length, List, Option, Some, None, Result, Ok, Err, IfOk, refl, sym, ap, subst, ◌∙◌}
+use Rattle.std.proofs.Common.{◌≡◌, ◌+◌, ℕ, List, Option, Some, None, Result, Ok, Err, IfOk, refl, sym, ap, subst, ◌∙◌}
 use Rattle.std.specs.Str.{chars, IsUtf8}
 use Rattle.std.specs.Rc.{rc_str_bytes}
 use Rattle.std.specs.Option.{option_map, option_map_or}
@@ -8,6 +8,7 @@ use Rattle.std.specs.BTreeMap.{BTreeMap}
 use Rattle.hl_base.specs.declared.place.TextId.{TextId}
 use Rattle.slab.specs.Slab.{Slab, get, Updates}
 use Rattle.text_pool.specs.Pool.{Held, Pool, IsLive, text_of, owners_of, with_owners, IsInterned}
+use Rattle.text_pool.specs.Marks.{mark_of}
 use Rattle.text_pool.specs.Entries.{held_of, stamp, pool_of, IsIndexed}
 use Rattle.text_pool.specs.declared.entry.Entry.{Entry}
 use Rattle.text_pool.specs.declared.entry.Key.{Key}
@@ -20,7 +21,7 @@ abbrev pub IsAbsent : Pool → List ℕ → Type 0
 IsAbsent pool text = (id : ℕ) → IsLive pool id → ¬ (text_of pool id ≡ text)
 
 module _ (slab : Slab Entry) (numbers : BTreeMap Key ℕ) (pool : Pool) (key : Key)
-    (counted : key.length ≡ length (rc_str_bytes key.text)) (is : pool_of slab ≡ pool) (indexed : IsIndexed slab numbers) where
+    (marked : key.mark ≡ mark_of (rc_str_bytes key.text)) (is : pool_of slab ≡ pool) (indexed : IsIndexed slab numbers) where
   -- a number that is found is live
   pub found-live : (id : ℕ) → number_at numbers (stamp key) ≡ Some id → IsLive pool id
   found-live id found =
@@ -33,7 +34,7 @@ module _ (slab : Slab Entry) (numbers : BTreeMap Key ℕ) (pool : Pool) (key : K
   absent_from_number utf8 absent id live same =
       let entry = live_entry slab pool id is live in
       absent_entry slab numbers indexed (stamp key) id entry.0 absent entry.1
-      (same_stamp entry.0.key key (indexed.counted id entry.0 entry.1) counted
+      (same_stamp entry.0.key key (indexed.marked id entry.0 entry.1) marked
       (same_bytes _ _ (indexed.utf8 id entry.0 entry.1) utf8 (sym (text_of-entry slab pool id entry.0 is entry.1) ∙ same)))
 
   number_by_cases : IsAbsent pool (chars (rc_str_bytes key.text)) → (found : Option ℕ) → number_at numbers (stamp key) ≡ found →
@@ -59,7 +60,7 @@ module _ (slab : Slab Entry) (numbers : BTreeMap Key ℕ) (pool : Pool) (key : K
         number = λ other live.
             let held = live_entry slab pool other is live in (
               (λ same. same_number slab numbers indexed other id held.0 entry.0 held.1 entry.1
-                  (same_stamp held.0.key entry.0.key (indexed.counted other held.0 held.1) (indexed.counted id entry.0 entry.1)
+                  (same_stamp held.0.key entry.0.key (indexed.marked other held.0 held.1) (indexed.marked id entry.0 entry.1)
                   (same_bytes _ _ (indexed.utf8 other held.0 held.1) (indexed.utf8 id entry.0 entry.1)
                   (sym (text_of-entry slab pool other held.0 is held.1) ∙ same ∙ ap chars (sym bytes))))),
               (λ same. ap (text_of pool) same ∙ text),

@@ -1,4 +1,5 @@
 pub mod Pool
+pub mod Marks
 pub mod Entries
 pub mod Laws
 pub mod Members

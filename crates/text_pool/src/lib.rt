@@ -3,7 +3,7 @@
 //! Contracts see the pool as a finite map from the live numbers to what is held of each, the characters and the count
 //! of owners. Equal numbers of live texts are equal texts and equal texts have equal numbers, so callers compare
 //! numbers. A number is free again with its last owner, and may be given out again for another text. Texts are told apart
-//! by their lengths before they are compared.
+//! by a hash before they are compared.
 //!
 //! `Present` is the bound for who has the members of an assembly, whose texts are live in a pool.
 //!

@@ -6,6 +6,7 @@ ghost use Rattle.std.specs.Rc.{rc_str_bytes};
 ghost use Rattle.std.specs.Option.{option_map};
 ghost use Rattle.std.specs.FinMap as map;
 ghost use Rattle.hl_base.specs.Texts as texts;
+ghost use Rattle.text_pool.specs.Marks.{mark_of};
 ghost use Rattle.text_pool.specs.Pool.{IsLive, text_of, owners_of, with_owners, IsInterned, TextsDiffer, AllOwned};
 ghost use Rattle.text_pool.specs.declared.fault.PoolFault.TheVariants.{TooLong};
 
@@ -30,6 +31,7 @@ pub struct TextPool {
 }
 
 impl Model for TextPool {
+    ghost use Rattle.text_pool.specs.Marks.{mark_of};
     ghost use Rattle.text_pool.specs.Pool.{Pool, pool_code};
 
     ghost Value = { Pool };
@@ -162,7 +164,7 @@ impl TextPool {
     fn take_in(&mut self, key: Key) -> Result<TextId, PoolFault>
         requires utf8 { IsUtf8 (rc_str_bytes key.text) }
         requires short { length (rc_str_bytes key.text) ≤ LONGEST_TEXT }
-        requires counted { key.length ≡ length (rc_str_bytes key.text) }
+        requires marked { key.mark ≡ mark_of (rc_str_bytes key.text) }
         ensures ok { IfOk result (λ id. IsInterned self.old self.new (chars (rc_str_bytes key.text)) id.0) }
         ensures err { OnErr result (self.new ≡ self.old) }
         ensures short { ¬ (IsErrOf result TooLong) }
@@ -180,7 +182,7 @@ impl TextPool {
     fn admit(&mut self, key: Key) -> Result<TextId, PoolFault>
         requires utf8 { IsUtf8 (rc_str_bytes key.text) }
         requires short { length (rc_str_bytes key.text) ≤ LONGEST_TEXT }
-        requires counted { key.length ≡ length (rc_str_bytes key.text) }
+        requires marked { key.mark ≡ mark_of (rc_str_bytes key.text) }
         requires absent { (id : ℕ) → IsLive self.old id → ¬ (text_of self.old id ≡ chars (rc_str_bytes key.text)) }
         ensures ok { IfOk result (λ id. IsInterned self.old self.new (chars (rc_str_bytes key.text)) id.0) }
         ensures err { OnErr result (self.new ≡ self.old) }
@@ -189,7 +191,10 @@ impl TextPool {
         let Ok(number) = u32::try_from(self.entries.vacant_key()) else {
             return Err(PoolFault::OutOfMemory);
         };
-        let sought = Key::of(key.text.clone()?);
+        let sought = Key {
+            mark: key.mark,
+            text: key.text.clone()?,
+        };
         self.entries.reserve(1)?;
         self.numbers.insert(sought, number)?;
         self.entries.insert_reserved(Entry { key, owners: 1 });

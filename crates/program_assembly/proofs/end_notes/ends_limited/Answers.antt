@@ -1,4 +1,4 @@
-use Rattle.std.proofs.Common.{◌≡◌, ℕ, ◌-◌, ◌<◌, ◌∷◌, [], Some, length, ap, sym, ◌∙◌, arith}
+use Rattle.std.proofs.Common.{◌≡◌, ◌-◌, ◌<◌, ◌∷◌, [], Some, length, ap, sym, ◌∙◌, arith}
 use Rattle.std.specs.Prelude.{slice_get, unwrap_or}
 use Rattle.hl_base.specs.declared.note.Note.{Note}
 use Rattle.note_rows.specs.Table.{line}
@@ -6,7 +6,7 @@ use Rattle.note_rows.specs.declared.row.Row.TheVariants.{BranchLimit}
 use Rattle.trace_values.specs.declared.item.TraceItem.{TraceItem}
 use Rattle.trace_arena.specs.Points.{points}
 use Rattle.trace_cursor.specs.Pasts.{plain}
-use Rattle.program_assembly.specs.Notes.{has_code, is_limited, ends_limited}
+use Rattle.program_assembly.specs.Notes.{has_code}
 use Rattle.program_assembly.proofs.ListLaws.{single}
 use Rattle.program_assembly.proofs.PointLaws.{found_at}
 use Rattle.program_assembly.proofs.StackLaws.{point_is, ends_limited-last, within_call, in_open_code}

@@ -1,6 +1,6 @@
-use Rattle.std.proofs.Common.{◌≡◌, ◌++◌, List, refl, ap, sym, ◌∙◌, append_assoc, append-nil}
+use Rattle.std.proofs.Common.{◌++◌, List, ap, sym, ◌∙◌, append_assoc, append-nil}
 use Rattle.std.proofs.lemmas.Result.{IfOk-weaker}
-use Rattle.std.proofs.lemmas.Bool.{OnTrue_at, OnFalse_at}
+use Rattle.std.proofs.lemmas.Bool.{OnTrue_at}
 use Rattle.std.specs.Prelude.{slice_get}
 use Rattle.hl_base.specs.declared.note.Note.{Note}
 use Rattle.trace_arena.specs.Points.{points}

@@ -1,16 +1,15 @@
-use Rattle.std.proofs.Common.{◌≡◌, ℕ, ◌+◌, ◌<◌, List, ◌++◌, [], Option, Some, length, take, ap, sym, ◌∙◌, arith, append_assoc, length-append}
+use Rattle.std.proofs.Common.{◌≡◌, ℕ, ◌+◌, ◌<◌, List, ◌++◌, [], Some, length, take, ap, sym, ◌∙◌, arith, append_assoc, length-append}
 use Rattle.std.specs.Prelude.{slice_get}
 use Rattle.std.specs.Option.{option_map, option_map_or}
 use Rattle.hl_base.specs.declared.note.Note.{Note}
 use Rattle.hl_base.specs.declared.set.Line.{Line}
 use Rattle.note_rows.specs.declared.row.Row.{Row}
-use Rattle.trace_values.specs.declared.item.TraceItem.{TraceItem}
-use Rattle.trace_arena.specs.Points.{Point, points}
+use Rattle.trace_arena.specs.Points.{points}
 use Rattle.trace_cursor.specs.Stacks.{stack_of}
 use Rattle.statement_checks.specs.Layout.{rows_of}
 use Rattle.statement_checks.specs.Views.{layout_view}
 use Rattle.program_assembly.specs.PointNotes.{point_notes}
-use Rattle.program_assembly.specs.Statements.{line_in, own_line, generated, rows_at, said_of, noted_point, noted_points}
+use Rattle.program_assembly.specs.Statements.{line_in, own_line, generated, rows_at, noted_point, noted_points}
 use Rattle.program_assembly.proofs.PointLaws.{own_item}
 use Rattle.program_assembly.proofs.StatementLaws.{fewer_statements, line_there, said_there, noted_points-more}
 use Rattle.trace_variables.proofs.ValueLemmas.{step_index}

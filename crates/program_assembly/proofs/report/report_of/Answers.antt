@@ -1,7 +1,6 @@
-use Rattle.std.proofs.Common.{◌≡◌, ℕ, List, refl, ap, sym, ◌∙◌, subst}
+use Rattle.std.proofs.Common.{◌≡◌, ℕ, List, refl, ap, ◌∙◌, subst}
 use Rattle.std.specs.Str.{chars}
 use Rattle.std.specs.Rc.{rc_str_bytes}
-use Rattle.kept_values.specs.Trees.{Tree}
 use Rattle.expansion_memo.specs.Reuse.{ComesTo}
 use Rattle.program_world.specs.World.{ProgramState, program_world, first_world}
 use Rattle.program_world.specs.States.{state_of}

@@ -1,5 +1,4 @@
-use Rattle.std.specs.Rc.{rc_str_bytes}
-use Rattle.std.proofs.Common.{length, ◌∷◌, ◌≡◌, ◌∙◌, ℕ, ap, sym, subst, refl, Some, None, List, Result, Ok, Err, OnErr, arith}
+use Rattle.std.proofs.Common.{◌∷◌, ◌≡◌, ◌∙◌, ℕ, ap, sym, subst, refl, Some, None, List, Result, Ok, Err, OnErr, arith}
 use Rattle.slab.specs.Slab.{get, Updates}
 use Rattle.text_pool.specs.declared.entry.Entry.{Entry}
 use Rattle.text_pool.specs.Entries.{stamp}
@@ -49,17 +48,14 @@ stands c =
 pub invariant_of-self-2 : goal.invariant_of-self-2
 invariant_of-self-2 c =
     let entry : Entry = record { key = c.args.key; owners = 1 } in
-    let sought : stamp c.of-sought.result ≡ stamp c.args.key =
-    ap stamp c.of-sought.ensures
-    ∙ (λ i. length (c.in_ok-clone.ensures.cases i) ∷ c.in_ok-clone.ensures.cases i)
-    ∙ ap (λ n. n ∷ rc_str_bytes c.args.key.text) (sym c.requires.counted) in
+    let sought = ap (λ bytes. c.args.key.mark ∷ bytes) c.in_ok-clone.ensures.cases in
     IsIndexed-admitted c.reserve.new.self _ c.self.inside.numbers c.insert.new.self c.in-Ok.number entry (stamp c.args.key)
     (IsIndexed-kept _ _ _ _ (ap (λ s. s.slots) c.reserve.ensures.rest_kept) refl c.self.invariant)
     (stands c) (stood c) refl
-    (number_from_absent _ _ _ c.args.key c.requires.counted c.self.view_is c.self.invariant c.requires.absent)
+    (number_from_absent _ _ _ c.args.key c.requires.marked c.self.view_is c.self.invariant c.requires.absent)
     (subst (λ (bytes : List ℕ). ChangesAt c.self.inside.numbers c.insert.new.self bytes (Some c.in-Ok.number)) sought
     (λ text. c.in_ok-insert.ensures.updates.0 text))
-    c.requires.counted c.requires.utf8 c.requires.short (omega arith)
+    c.requires.marked c.requires.utf8 c.requires.short (omega arith)
 
 pub returns-clause-ok : goal.returns-clause-ok
 returns-clause-ok c =

@@ -4,20 +4,20 @@ use Rattle.text_pool.proofs.pool.TextPool.take_in.Goals as goal
 
 pub own-requires : goal.own-requires
 own-requires c = record {
-  live = found-live _ _ _ c.args.key c.requires.counted c.self.view_is c.self.invariant _ (sym c.in-Some.ensures.value);
+  live = found-live _ _ _ c.args.key c.requires.marked c.self.view_is c.self.invariant _ (sym c.in-Some.ensures.value);
 }
 
 pub admit-requires : goal.admit-requires
 admit-requires c = record {
   utf8 = c.requires.utf8;
   short = c.requires.short;
-  counted = c.requires.counted;
+  marked = c.requires.marked;
   absent =
-      absent_from_number _ _ _ c.args.key c.requires.counted c.self.view_is c.self.invariant c.requires.utf8
+      absent_from_number _ _ _ c.args.key c.requires.marked c.self.view_is c.self.invariant c.requires.utf8
       (sym c.in-None.ensures.value);
 }
 
 pub returns-in-Some-clause-ok : goal.returns-in-Some-clause-ok
 returns-in-Some-clause-ok c =
-    interned_found _ _ _ c.args.key c.requires.counted c.self.view_is c.self.invariant c.requires.utf8 c.in-Some.number.now
+    interned_found _ _ _ c.args.key c.requires.marked c.self.view_is c.self.invariant c.requires.utf8 c.in-Some.number.now
     (sym c.in-Some.ensures.value) _ _ c.own.ensures.ok

@@ -1,10 +1,10 @@
-use Rattle.std.proofs.Common.{◌≡◌, ◌∙◌, ℕ, List, Option, Some, codes, rules, sym}
+use Rattle.std.proofs.Common.{◌≡◌, ◌∙◌, ℕ, List, Option, Some, pos, ap, codes, rules, sym}
+use Rattle.std.specs.Prelude.{unwrap_or}
 use Rattle.std.specs.Int.{w32}
-use Rattle.std.specs.Str.{chars}
 use Rattle.std.proofs.lemmas.Int.{to_z-of_z}
 use mir.Val.{SFits}
-use Rattle.bulk_session.proofs.ProgramLaws.{total_told, uri_is}
-use Rattle.bulk_session.proofs.running.total.Goals as goal
+use Rattle.session_core.specs.Globals.{number_of}
+use Rattle.bulk_session.proofs.running.total_in.Goals as goal
 
 pub returns : goal.returns
 returns g c =
@@ -13,5 +13,4 @@ returns g c =
     let called : c.in-Some.name ≡ codes "TOT" = cc in
     to_z-of_z w32 c.unwrap_or.result fits
     ∙ c.unwrap_or.ensures
-    ∙ total_told c.args.session.now.state (chars (codes "file:///bulk/BULK.hlasm")) c.in-Some.name c.in_ok-total.total c.args.count c.args.edits uri_is called c.requires.listed
-    c.in_ok-total.ensures
+    ∙ ap (λ found. unwrap_or found (pos 0)) (c.global.ensures ∙ ap (λ name. number_of name c.args.figures.now.globals) called)
