@@ -1,8 +1,15 @@
 use Rattle.std.proofs.Common.{◌≡◌, List, ℕ, [], ◌∷◌, ◌++◌, ◌-◌, ◌∙◌, length, take, drop, subst, sym, ap, arith, rules}
 use Rattle.rpc_framing.specs.Reading.{bodies_of}
 use Rattle.rpc_framing.specs.Steps.{Accepts}
-use Rattle.rpc_framing.proofs.Pieces.{Accepts-whole}
+use Rattle.rpc_framing.proofs.Pieces.{Accepts-whole, within_later}
 use Rattle.rpc_framing.proofs.unfinished.complete.Goals as goal
+
+pub returns-clause-stands : goal.returns-clause-stands
+returns-clause-stands c = rw c.take_up.ensures.rest c.in_ok-ahead.ensures.stands
+
+pub returns-clause-within : goal.returns-clause-within
+returns-clause-within c =
+    within_later c.args.piece.now c.args.end _ _ c.in_ok-ahead.ahead.fault c.map.result c.requires.reaches.1 c.in_ok-ahead.ensures.reads (search rules)
 
 pub returns-clause-reads : goal.returns-clause-reads
 returns-clause-reads c =
