@@ -28,11 +28,11 @@ use Rattle.session_core.specs.declared.state.LastList.{LastList}
 use Rattle.session_core.specs.declared.state.Stage.{Stage}
 use Rattle.session_core.specs.declared.state.Stage.TheVariants.{Fresh, Active, Closing, Ended}
 use Rattle.session_core.specs.declared.watching.Watch.{Watch}
-use Rattle.session_core.specs.Inside.{AreNumbered, Around, IsSound, IsWhole, libraries_in, names_among, configured_where, watched_so_far}
+use Rattle.session_core.specs.Inside.{AreNumbered, IsSound, IsWhole, libraries_in, names_among, configured_where, watched_so_far}
 use Rattle.session_core.specs.Message.{Watching, unconcerned, concerned_by, taking_of, after_reading, after_member, configured, member_changed, is_configuration, is_member_file, change_told, changes_told, after_watching, begun, effect, asked, asked_at, queue_all, settled}
 use Rattle.session_core.specs.Refusals.{is_active}
 use Rattle.session_core.specs.Replies.{logged_line}
-use Rattle.session_core.specs.State.{State, libraries}
+use Rattle.session_core.specs.State.{State, Around, libraries}
 use Rattle.session_core.specs.Step.{Effect, quiet, IsEffect}
 use Rattle.session_core.proofs.ListedLaws.{sound_none}
 use Rattle.session_core.proofs.ShortLaws.{short_configured, short_changes}

@@ -31,7 +31,7 @@ use Rattle.session_core.specs.Held.{Held}
 use Rattle.session_core.specs.Message.{after_change, after_closing, asked, asks_later, farewell, unless_refused, Watching, configured}
 use Rattle.session_core.specs.Names.{names_of, names_over_all}
 use Rattle.session_core.specs.Refusals.{Asks, too_early, out_of_place, repeats, first_of, log_fault}
-use Rattle.session_core.specs.State.{State, libraries, libraries_of, is_program, is_queued, number_at, document_at, last_list}
+use Rattle.session_core.specs.State.{State, Around, libraries, libraries_of, is_program, is_queued, number_at, document_at, last_list}
 use Rattle.session_core.specs.Step.{Effect, written}
 use Rattle.session_core.specs.Turn.{is_published}
 
@@ -81,15 +81,6 @@ symbols_asked s id uri question =
 abbrev pub AreNumbered : (paths : List (List ℕ)) → List OpenDocument → Type 0
 AreNumbered paths [] = Unit {0}
 AreNumbered paths (document ∷ others) = ((n : ℕ) × (number_of paths document.path ≡ Some n)) × AreNumbered paths others
-
--- what surrounds every program of a session, besides the documents and files
-pub record Around : Type 0 where
-  pub root : Option (List ℕ)
-  pub configuration : Configuration
-  pub budget : ℕ
-
-abbrev pub around_of : State → Around
-around_of s = record { root = s.root; configuration = s.configuration; budget = s.budget }
 
 -- the list of a program among these documents and files
 abbrev pub list_in : Around → Store → PathId → OpenDocument → List Diagnostic
