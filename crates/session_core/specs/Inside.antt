@@ -20,6 +20,7 @@ use Rattle.trace_arena.specs.Points.{Point}
 use Rattle.document_store.specs.Store.{Store, OpenDocument, number_of}
 use Rattle.document_store.specs.Shown.{Shows}
 use Rattle.document_store.specs.declared.document.Document.{Document}
+use Rattle.document_store.specs.declared.limits.TheConstants.{MOST_DOCUMENTS}
 use Rattle.document_store.specs.declared.fault.StoreFault.{StoreFault}
 use Rattle.waiting_requests.specs.Names.{Names}
 use Rattle.waiting_requests.specs.declared.request.Question.{Question}
@@ -103,7 +104,7 @@ AreListed listed around store published = (n : PathId) (document : OpenDocument)
 
 -- what is true of the documents of a session and of the programs whose lists are of what is there
 pub record IsSound (listed : List PathId) (around : Around) (store : Store) (published : List LastList) : Type 0 where
-  pub few : length store.documents ≤ 64
+  pub few : length store.documents ≤ MOST_DOCUMENTS
   pub numbered : AreNumbered store.paths store.documents
   pub given : (n : PathId) → is_queued listed n ≡ true → n.0 < length store.paths
   pub are_listed : AreListed listed around store published
