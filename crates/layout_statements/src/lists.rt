@@ -7,10 +7,10 @@ ghost use Rattle.layout_statements.specs.Lists as spec;
 ghost use Rattle.literal_operands.specs.Views.{literal_of};
 ghost use Rattle.layout_statements.specs.Views.{read_literal_of};
 
-use crate::symbols::head;
 use constant_operands::{ConstantOperand, ConstantUse};
 use hl_base::{OutOfMemory, Text};
 use literal_operands::{LiteralOperand, literal_operand};
+use operand_list::hlasm_statements::text::head;
 use std::alloc::Global;
 
 /// A literal in an operand: its text behind the equals sign, and what that is as a constant.

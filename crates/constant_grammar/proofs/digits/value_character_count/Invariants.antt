@@ -3,7 +3,7 @@ use denote.Text.{Utf8}
 use denote.Shadow.{shadow}
 use Rattle.std.specs.Str.{chars}
 use Rattle.constant_grammar.specs.Digits.{characters}
-use Rattle.constant_grammar.proofs.digits.character_count.Given as goal
+use Rattle.constant_grammar.proofs.digits.value_character_count.Given as goal
 
 -- the characters so far, and those that are left behind them
 abbrev pub invariant-loop-c : goal.invariant-loop-c

@@ -3,7 +3,7 @@ use Rattle.std.specs.Str.{chars}
 use Rattle.std.specs.Prelude.{IsUtf8}
 use Rattle.std.proofs.lemmas.Str.{encodes-chars, length-le-encodes}
 use Rattle.constant_grammar.specs.Digits.{characters}
-use Rattle.constant_grammar.proofs.digits.character_count.Goals as goal
+use Rattle.constant_grammar.proofs.digits.value_character_count.Goals as goal
 
 -- a text has no more characters than bytes
 few : (bytes : List ℕ) → IsUtf8 bytes → length (chars bytes) ≤ length bytes

@@ -1,18 +1,18 @@
-//! Texts, character by character.
-ghost use Rattle.std.specs.Prelude.{◌≡◌, ◌==◌, [], ◌∷◌, drop, length, take, slice_index, MatchOption};
+//! Texts, character by character, for those who read fields.
+ghost use Rattle.std.specs.Prelude.{◌≡◌, ◌==◌, [], ◌∷◌, length, take, drop, MatchOption};
 ghost use Rattle.std.specs.Str.{chars};
 
-use operand_list::hlasm_statements::split_columns;
+use crate::column::split_columns;
 
 /// How many characters a text has.
-pub(crate) fn character_count(text: &str) -> usize
+pub fn character_count(text: &str) -> usize
     ensures { result ≡ length (chars text.now) }
 {
     text.chars().count()
 }
 
 /// The first character of a text, and what is behind it.
-pub(crate) fn head(text: &str) -> Option<(char, &str)>
+pub fn head(text: &str) -> Option<(char, &str)>
     ensures { MatchOption result (chars text.now ≡ []) (λ p. chars text.now ≡ p.0 ∷ chars p.1.now) }
 {
     let mut rest = text.chars();
@@ -22,15 +22,22 @@ pub(crate) fn head(text: &str) -> Option<(char, &str)>
     }
 }
 
+/// Whether a text has no character.
+pub fn is_nothing(text: &str) -> bool
+    ensures { result ≡ (length (chars text.now) == 0) }
+{
+    head(text).is_none()
+}
+
 /// What is behind so many characters of a text.
-pub(crate) fn behind(text: &str, count: usize) -> &str
+pub fn behind(text: &str, count: usize) -> &str
     ensures { chars result.now ≡ drop count (chars text.now) }
 {
     split_columns(text, count).1
 }
 
 /// So many characters at the front of a text, or all of it.
-pub(crate) fn before(text: &str, count: usize) -> &str
+pub fn before(text: &str, count: usize) -> &str
     ensures { chars result.now ≡ take count (chars text.now) }
 {
     split_columns(text, count).0

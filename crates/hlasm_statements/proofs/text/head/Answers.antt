@@ -1,8 +1,8 @@
 use Rattle.std.proofs.Common.{◌∙◌, ◌++◌, sym, ap}
 use Rattle.std.specs.Prelude.{encode_utf8}
 use Rattle.std.proofs.lemmas.Str.{chars_past_char}
-use Rattle.constant_values.proofs.TextLaws.{chars-none}
-use Rattle.constant_values.proofs.character.head.Goals as goal
+use Rattle.hlasm_statements.proofs.CharLaws.{chars-none}
+use Rattle.hlasm_statements.proofs.text.head.Goals as goal
 
 pub returns-in-Some : goal.returns-in-Some
 returns-in-Some c =
