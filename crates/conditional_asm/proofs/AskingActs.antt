@@ -182,14 +182,14 @@ defined-asks frame op = answer-asks (Op op) (λ answer. done (record { value = g
 
 doing-asks : (frame : Frame) (body : bodies.Body) (name op : List ℕ) → IsAsking (λ answers. effects.doing body name op (told_by frame answers))
 doing-asks frame (bodies.unread at) name op = gives-asks act.Next (troubles.unreadable at ∷ [])
-doing-asks frame (bodies.limits count) name op = counting-asks frame count
-doing-asks frame (bodies.goes branch) name op = going-asks frame branch
-doing-asks frame (bodies.goes_if pairs) name op = choosing-asks frame pairs
+doing-asks frame (bodies.actr count) name op = counting-asks frame count
+doing-asks frame (bodies.ago branch) name op = going-asks frame branch
+doing-asks frame (bodies.aif pairs) name op = choosing-asks frame pairs
 doing-asks frame (bodies.declares list) name op = gives-asks (act.Declare list) []
 doing-asks frame (bodies.assigns kind setting) name op = assigning-asks frame kind setting
 doing-asks frame (bodies.copies member) name op = gives-asks (act.Copy member) []
 doing-asks frame (bodies.copies_varying parts) name op = copying-asks frame parts
-doing-asks frame (bodies.says message) name op = saying-asks frame message
+doing-asks frame (bodies.mnote message) name op = saying-asks frame message
 doing-asks frame (bodies.generates f) name op =
     then-asks (λ answers. generating.lined op f (told_by frame answers)) (λ answers line. gives (act.Generate line)) (lined-asks frame op f) (λ line. gives-asks (act.Generate line) [])
 doing-asks frame (bodies.generates_unread at open_end) name op =

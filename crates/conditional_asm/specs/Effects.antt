@@ -27,14 +27,14 @@ use Rattle.conditional_asm.specs.Troubles.{no_operation, undefined, left_out, un
 -- what is done by what the fields say, with this operation, whose name is that
 abbrev pub doing : bodies.Body → (name op : List ℕ) → Told → Outcome Act
 doing (bodies.unread at) name op told = Gives act.Next (unreadable at ∷ [])
-doing (bodies.limits count) name op told = counting count told
-doing (bodies.goes branch) name op told = going branch told
-doing (bodies.goes_if pairs) name op told = choosing pairs told
+doing (bodies.actr count) name op told = counting count told
+doing (bodies.ago branch) name op told = going branch told
+doing (bodies.aif pairs) name op told = choosing pairs told
 doing (bodies.declares list) name op told = gives (act.Declare list)
 doing (bodies.assigns kind setting) name op told = assigning kind setting told
 doing (bodies.copies member) name op told = gives (act.Copy member)
 doing (bodies.copies_varying parts) name op told = copying parts told
-doing (bodies.says message) name op told = saying message told
+doing (bodies.mnote message) name op told = saying message told
 doing (bodies.generates fields) name op told = and_then (lined op fields told) (λ line. gives (act.Generate line))
 doing (bodies.generates_unread at open_end) name op told = and_then (judged open_end) (λ _. Gives act.Next (unreadable at ∷ []))
 doing (bodies.ends fields) name op told = and_then (lined op fields told) (λ line. gives (act.End (Some line)))

@@ -125,14 +125,14 @@ pub fn doing<Q: Lookups>(
 {
     match body {
         Body::Unread(at) => refused(alloc, *at, notes),
-        Body::Limits(count) => counting(alloc, count, q, notes),
-        Body::Goes(goto) => going(alloc, goto, q, notes),
-        Body::GoesIf(choices) => choosing(alloc, choices.pairs.as_slice(), q, notes),
+        Body::Actr(count) => counting(alloc, count, q, notes),
+        Body::Ago(goto) => going(alloc, goto, q, notes),
+        Body::Aif(choices) => choosing(alloc, choices.pairs.as_slice(), q, notes),
         Body::Declares(list) => Ok(Act::Declare(list.copy(alloc)?)),
         Body::Assigns(kind, setting) => assigning(alloc, *kind, setting, q, notes),
         Body::Copies(member) => Ok(Act::Copy(member.copy())),
         Body::CopiesVarying(operand) => copying(alloc, operand, q, notes),
-        Body::Says(message) => saying(alloc, message, q, notes),
+        Body::Mnote(message) => saying(alloc, message, q, notes),
         Body::Generates(fields) => generating(alloc, op, fields, q, notes),
         Body::GeneratesUnread(at, open_end) => generating_unread(alloc, *at, *open_end, notes),
         Body::Ends(fields) => ending(alloc, op, fields, q, notes),

@@ -88,14 +88,14 @@ copied-gives (Err at) = tt
 
 doing-gives : (body : bodies.Body) (name op : List ℕ) (told : Told) → GivesAct (effects.doing body name op told)
 doing-gives (bodies.unread at) name op told = tt
-doing-gives (bodies.limits count) name op told = then-gives ℤ (number count told) _ (λ n. tt)
-doing-gives (bodies.goes branch) name op told = going-gives branch told
-doing-gives (bodies.goes_if pairs) name op told = choosing-gives pairs told
+doing-gives (bodies.actr count) name op told = then-gives ℤ (number count told) _ (λ n. tt)
+doing-gives (bodies.ago branch) name op told = going-gives branch told
+doing-gives (bodies.aif pairs) name op told = choosing-gives pairs told
 doing-gives (bodies.declares list) name op told = tt
 doing-gives (bodies.assigns kind setting) name op told = assigning-gives kind setting told
 doing-gives (bodies.copies member) name op told = tt
 doing-gives (bodies.copies_varying parts) name op told = then-gives (List ℕ) (substituted parts told) _ (λ text. copied-gives _)
-doing-gives (bodies.says message) name op told = saying-gives message told
+doing-gives (bodies.mnote message) name op told = saying-gives message told
 doing-gives (bodies.generates fields) name op told = then-gives _ (lined op fields told) _ (λ line. tt)
 doing-gives (bodies.generates_unread at open_end) name op told = then-gives Bool (judged open_end) _ (λ _. tt)
 doing-gives (bodies.ends fields) name op told = then-gives _ (lined op fields told) _ (λ line. tt)
