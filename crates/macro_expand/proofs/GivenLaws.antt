@@ -11,24 +11,21 @@ use Rattle.expression_grammar.specs.Trees.{Tree, Variable}
 use Rattle.instruction_table.specs.Operations.{operation_of}
 use Rattle.cond_expr.specs.Told.{Told}
 use Rattle.cond_expr.specs.Outcome.{Outcome, Gives, Asks, noting, and_then}
-use Rattle.cond_expr.specs.Values.{number, text}
+use Rattle.cond_expr.specs.Values.{number, numbers, text, is_true}
 use Rattle.statement_reading.specs.Bodies as bodies
 use Rattle.statement_reading.specs.Branches as branches
 use Rattle.statement_reading.specs.Branches.{Choice}
-use Rattle.statement_reading.specs.Messages.{Message}
 use Rattle.statement_reading.specs.Readings as readings
-use Rattle.statement_reading.specs.Settings.{Setting}
 use Rattle.statement_reading.specs.Tasks as tasks
 use Rattle.statement_reading.specs.declared.task.Task.{Task}
 use Rattle.conditional_asm.specs.declared.act.Act.{Act}
 use Rattle.conditional_asm.specs.declared.act.Act.TheVariants as act
-use Rattle.conditional_asm.specs.Branching.{label_of, going}
-use Rattle.conditional_asm.specs.Conditions.{holding, choosing}
-use Rattle.conditional_asm.specs.Copying.{copied}
+use Rattle.conditional_asm.specs.Branching.{label_of, by_first_true}
+use Rattle.conditional_asm.specs.Definitions.{defined}
 use Rattle.conditional_asm.specs.Effects as effects
-use Rattle.conditional_asm.specs.Generating.{defined, judged, lined}
-use Rattle.conditional_asm.specs.Messages.{saying, weighing}
-use Rattle.conditional_asm.specs.Setting.{assigning, subscripts_of, value, set_to, element}
+use Rattle.conditional_asm.specs.Generating.{open_quote, line_of}
+use Rattle.conditional_asm.specs.Messages.{weight_of}
+use Rattle.conditional_asm.specs.Setting.{put, value_as}
 use Rattle.conditional_asm.specs.Repeating.{once}
 use Rattle.conditional_asm.specs.Substitution.{substituted}
 use Rattle.call_knowledge.specs.Knowledge.{Knowledge}
@@ -61,86 +58,69 @@ chosen-is : (found : Option (List ℕ)) → IsAct (option_map_or act.Branch foun
 chosen-is None = tt
 chosen-is (Some label) = tt
 
-going-gives : (branch : branches.Branch) (told : Told) → GivesAct (going branch told)
-going-gives (branches.to label) told = tt
-going-gives (branches.among tree first others) told = then-gives ℤ (number tree told) _ (λ n. chosen-is (label_of n (first ∷ others)))
+by_first_true-gives : (pairs : List Choice) (told : Told) → GivesAct (by_first_true pairs told)
+by_first_true-gives [] told = tt
+by_first_true-gives (pair ∷ pairs) told =
+    then-gives ℤ (number pair.tree told) _ (λ n. if-gives (is_true n) (Gives (act.Branch pair.label) []) (by_first_true pairs told) tt (by_first_true-gives pairs told))
 
-choosing-gives : (pairs : List Choice) (told : Told) → GivesAct (choosing pairs told)
-choosing-gives [] told = tt
-choosing-gives (pair ∷ pairs) told =
-    then-gives Bool (holding pair.tree told) _ (λ holds. if-gives holds (Gives (act.Branch pair.label) []) (choosing pairs told) tt (choosing-gives pairs told))
+put-gives : (kind : SetKind) (target operand : Tree) (told : Told) → GivesAct (put kind target operand told)
+put-gives kind (Variable asked symbol subscripts) operand told =
+    then-gives (List ℤ) (numbers subscripts told) _ (λ at. then-gives SetValue (value_as kind operand told) _ (λ v. tt))
+put-gives kind other operand told = tt
 
-set_to-is : (target : Tree) (at : List ℤ) (v : SetValue) → IsAct (set_to target at v)
-set_to-is (Variable asked symbol subscripts) at v = tt
-set_to-is other at v = tt
-
-assigning-gives : (kind : SetKind) (setting : Setting) (told : Told) → GivesAct (assigning kind setting told)
-assigning-gives kind setting told =
-    then-gives (List ℤ) (subscripts_of setting.target told) _ (λ at. then-gives SetValue (value kind setting.value told) _ (λ v. set_to-is setting.target at v))
-
-saying-gives : (message : Message) (told : Told) → GivesAct (saying message told)
-saying-gives message told =
-    then-gives _ (weighing message.severity told) _ (λ weight. then-gives (List ℕ) (text message.text told) _ (λ words. tt))
-
-copied-gives : (found : Result (List ℕ) ℕ) → GivesAct (copied found)
-copied-gives (Ok name) = tt
+copied-gives : (found : Result (List ℕ) ℕ) → GivesAct (effects.copied found)
+copied-gives (Ok member) = tt
 copied-gives (Err at) = tt
 
 doing-gives : (body : bodies.Body) (name op : List ℕ) (told : Told) → GivesAct (effects.doing body name op told)
 doing-gives (bodies.unread at) name op told = tt
 doing-gives (bodies.actr count) name op told = then-gives ℤ (number count told) _ (λ n. tt)
-doing-gives (bodies.ago branch) name op told = going-gives branch told
-doing-gives (bodies.aif pairs) name op told = choosing-gives pairs told
+doing-gives (bodies.ago (branches.to label)) name op told = tt
+doing-gives (bodies.ago (branches.among tree first others)) name op told = then-gives ℤ (number tree told) _ (λ n. chosen-is (label_of n (first ∷ others)))
+doing-gives (bodies.aif pairs) name op told = by_first_true-gives pairs told
 doing-gives (bodies.declares list) name op told = tt
-doing-gives (bodies.assigns kind setting) name op told = assigning-gives kind setting told
+doing-gives (bodies.assigns kind setting) name op told = put-gives kind setting.target setting.value told
 doing-gives (bodies.copies member) name op told = tt
 doing-gives (bodies.copies_varying parts) name op told = then-gives (List ℕ) (substituted parts told) _ (λ text. copied-gives _)
-doing-gives (bodies.mnote message) name op told = saying-gives message told
-doing-gives (bodies.generates fields) name op told = then-gives _ (lined op fields told) _ (λ line. tt)
-doing-gives (bodies.generates_unread at open_end) name op told = then-gives Bool (judged open_end) _ (λ _. tt)
-doing-gives (bodies.ends fields) name op told = then-gives _ (lined op fields told) _ (λ line. tt)
-doing-gives (bodies.ends_unread at open_end) name op told = then-gives Bool (judged open_end) _ (λ _. tt)
+doing-gives (bodies.mnote message) name op told =
+    then-gives _ (weight_of message.severity told) _ (λ weight. then-gives (List ℕ) (text message.text told) _ (λ words. tt))
+doing-gives (bodies.generates fields) name op told = then-gives _ (line_of op fields told) _ (λ line. tt)
+doing-gives (bodies.generates_unread at open_end) name op told = tt
+doing-gives (bodies.ends fields) name op told = then-gives _ (line_of op fields told) _ (λ line. tt)
+doing-gives (bodies.ends_unread at open_end) name op told = tt
 doing-gives bodies.defines name op told = tt
 doing-gives bodies.leaves name op told = tt
 doing-gives bodies.nothing name op told = tt
 doing-gives bodies.leaves_out name op told = tt
 doing-gives bodies.calls name op told = tt
 
-performing-gives : (does : Task) (open_end : Bool) (body : bodies.Body) (name op : List ℕ) (told : Told) →
-    GivesAct (effects.performing does open_end body name op told)
-performing-gives does open_end body name op told =
-    if-gives (tasks.is_generated does) (effects.doing body name op told) (and_then (judged open_end) (λ _. effects.doing body name op told))
-    (doing-gives body name op told) (then-gives Bool (judged open_end) _ (λ _. doing-gives body name op told))
+named-gives : (name op : List ℕ) (does : Task) (lasting open_end : Bool) (body : bodies.Body) (told : Told) →
+    GivesAct (effects.named name op does lasting open_end body told)
+named-gives name op does lasting open_end body told =
+    let call = Gives (act.Call name) (open_quote open_end) in
+    let run = noting (effects.said_first does open_end) (effects.doing body name op told) in
+    let run-gives = noting-gives (effects.said_first does open_end) (effects.doing body name op told) (doing-gives body name op told) in
+    if-gives lasting run (and_then (defined name told) (λ is. cond is call run)) run-gives
+    (then-gives Bool (defined name told) _ (λ is. if-gives is call run tt run-gives))
 
-calling-gives : (name : List ℕ) (open_end : Bool) → GivesAct (effects.calling name open_end)
-calling-gives name open_end = then-gives Bool (judged open_end) _ (λ _. tt)
+nameless-gives : (op : List ℕ) (open_end : Bool) → GivesAct (effects.nameless op open_end)
+nameless-gives [] open_end = tt
+nameless-gives (c ∷ op) open_end = tt
 
-operating-gives : (name op : List ℕ) (does : Task) (lasting open_end : Bool) (body : bodies.Body) (told : Told) →
-    GivesAct (effects.operating name op does lasting open_end body told)
-operating-gives name op does lasting open_end body told =
-    if-gives lasting (effects.performing does open_end body name op told)
-    (and_then (defined name told) (λ is. cond is (effects.calling name open_end) (effects.performing does open_end body name op told)))
-    (performing-gives does open_end body name op told)
-    (then-gives Bool (defined name told) _ (λ is. if-gives is (effects.calling name open_end) (effects.performing does open_end body name op told)
-    (calling-gives name open_end) (performing-gives does open_end body name op told)))
-
-complaining-gives : (op : List ℕ) (open_end : Bool) → GivesAct (effects.complaining op open_end)
-complaining-gives op open_end = then-gives Bool (judged open_end) _ (λ _. tt)
-
-meaning-gives : (found : Option (List ℕ)) (label op operands : List ℕ) (open_end : Bool) (told : Told) →
-    GivesAct (effects.meaning found label op operands open_end told)
-meaning-gives (Some name) label op operands open_end told =
-    operating-gives name op (tasks.task name (operation_of name)) (tasks.is_lasting (operation_of name)) open_end
+named_now-gives : (label op operands : List ℕ) (open_end : Bool) (told : Told) (found : Option (List ℕ)) →
+    GivesAct (option_map_or (effects.named_now label op operands open_end told) found (effects.nameless op open_end))
+named_now-gives label op operands open_end told None = nameless-gives op open_end
+named_now-gives label op operands open_end told (Some name) =
+    named-gives name op (tasks.task name (operation_of name)) (tasks.is_lasting (operation_of name)) open_end
     (bodies.body (tasks.task name (operation_of name)) label operands) told
-meaning-gives None label op operands open_end told = complaining-gives op open_end
 
 instructed-gives : (instruction : readings.Instruction) (told : Told) → GivesAct (effects.instructed instruction told)
 instructed-gives readings.idle told = tt
 instructed-gives (readings.unread at) told = tt
-instructed-gives (readings.nameless op open_end) told = complaining-gives op open_end
-instructed-gives (readings.known name op does lasting open_end body) told = operating-gives name op does lasting open_end body told
+instructed-gives (readings.nameless op open_end) told = nameless-gives op open_end
+instructed-gives (readings.known name op does lasting open_end body) told = named-gives name op does lasting open_end body told
 instructed-gives (readings.varying parts label operands open_end) told =
-    then-gives (List ℕ) (substituted parts told) _ (λ op. meaning-gives (readings.name_of op) label op operands open_end told)
+    then-gives (List ℕ) (substituted parts told) _ (λ op. named_now-gives label op operands open_end told (readings.name_of op))
 
 pub effect-gives : (reading : readings.Reading) (told : Told) → GivesAct (effects.effect_of reading told)
 effect-gives reading told = instructed-gives reading.instruction told

@@ -21,6 +21,6 @@ returns c =
     let done = c.in_ok-effect.effect in
     if_ok-map c.acting.result (λ p. (e : Element) → performed_by means known p ≡ Some (led_to told (placed_by here e) known done.act done.notes))
     (λ p. (e : Element) → performed_by means known p ≡ Some (led_on_act told (placed_by here e) known (led_as (λ noted. noted) o)))
-    (λ p is. λ e. is e ∙ ap Some (ap {A = Effect} (λ x. led_to told (placed_by here e) known x.act x.notes) c.in_ok-effect.ensures.effect
+    (λ p is. λ e. is e ∙ ap Some (ap {A = Effect} (λ x. led_to told (placed_by here e) known x.act x.notes) c.in_ok-effect.ensures
     ∙ shown-led told (placed_by here e) known o (effect-gives (reading_of c.args.read.now) (standing.told_by known (answers_in told)))))
     c.acting.ensures
