@@ -3,3 +3,4 @@ pub mod BranchingLaws
 pub mod RepeatingLaws
 pub mod EffectLaws
 pub mod AskingActs
+pub mod ActLaws
