@@ -9,10 +9,10 @@ ghost use Rattle.literal_operands.specs.Views.{literal_of};
 ghost use Rattle.layout_statements.specs.Views.{read_literal_of};
 ghost use Rattle.operand_list.specs.Split.{operands_of};
 
-use crate::symbols::head;
 use constant_operands::{ConstantOperand, ConstantUse};
 use hl_base::{OutOfMemory, Text};
 use literal_operands::{LiteralOperand, literal_operand};
+use operand_list::hlasm_statements::text::head;
 use plain_fields::split_field;
 use std::alloc::Global;
 
