@@ -3,7 +3,8 @@
 looks at the prover's processor time as it says that it is done with a function; parts of a function that it checks ahead are in the
 time of another (bench/slowest.py takes the files of each, by the clock). What is kept of the crate is set aside first, so all of
 it is checked; the libraries below are those that are kept, and built where they are not. The first function of a check has the crate's
-own definitions in its time, and a lemma is in the time of the first function that cites it. Usage: bench/functions.py [--kept] CRATE.. (with --kept only what changed since the last check is checked, and timed)"""
+own definitions in its time, and a lemma is in the time of the first function that cites it. Usage:
+bench/functions.py [--kept] CRATE.. (with --kept only what changed since the last check is checked, and timed)"""
 import os
 import shutil
 import subprocess
