@@ -3,7 +3,7 @@ use Rattle.std.specs.Prelude.{chars}
 use Rattle.operand_list.proofs.SplitLaws.{whole-ends, whole-goes-on, take-one_more, drop-one_more}
 use Rattle.plain_fields.specs.Cutting.{IsBehind, part_of}
 use Rattle.plain_fields.proofs.CuttingLaws.{behind_more, separator, separator-stays}
-use Rattle.plain_fields.proofs.cutting.Cutting.read.Goals as goal
+use Rattle.plain_fields.proofs.state.Cutting.read.Goals as goal
 
 pub returns-then-separates : goal.returns-then-separates
 returns-then-separates c = λ before left behind at plain. (
