@@ -50,11 +50,13 @@ class Row:
         return f"| {self.what} | {figure:g} {self.unit}{ratio} | {peer} | {goal} | {met} |", met != "no"
 
 
-def expressions(what, kind, nth):
-    """The rows of one sort of expressions."""
+def expressions(what, kind, nth, least):
+    """The rows of one sort of expressions, of which so many MB a second are to be read at least."""
     return [
         Row("expressions.sh", f"a million characters of {what}", rf"(?m)^{kind}: \d+ bytes in ([\d.]+) ms", "ms",
             "a pass over the characters", rf"the characters of these {kind}: \d+ bytes in ([\d.]+) ms"),
+        Row("expressions.sh", f"a byte of {what}, at {least} MB/s", rf"(?m)^a byte of {kind}: ([\d.]+) ns", "ns",
+            most=round(1000 / least, 1)),
         Row("expressions.sh", f"the time of twice the text of {what}", r"twice the text: ([\d.]+)", "times", most=2.2, nth=nth),
     ]
 
@@ -77,9 +79,12 @@ ROWS = [
     Row("statements.sh", "the statements of 4 MiB", r"(?m)^statements: \d+ bytes in ([\d.]+) ms", "ms", "finding the line ends",
         r"(?m)^lines: \d+ bytes in ([\d.]+) ms", most=3),
     Row("statements.sh", "the time of twice the text", r"twice the text: ([\d.]+)", "times", most=2.2),
-    *expressions("arithmetic expressions", "expressions", 0),
-    *expressions("character expressions", "texts", 1),
-    *expressions("logical expressions", "truths", 2),
+    *expressions("arithmetic expressions", "expressions", 0, 60),
+    *expressions("character expressions", "texts", 1, 100),
+    *expressions("logical expressions", "truths", 2, 40),
+    Row("expressions.sh", "a condition with a million closing parentheses",
+        r"closing parentheses: \d+ bytes in ([\d.]+) ms", "ms", most=100),
+    Row("expressions.sh", "a condition in 900 parentheses, with 2 MB of blanks", r"MB of blanks: \d+ bytes in ([\d.]+) ms", "ms", most=100),
     effect("&I SETA &I+1", 150),
     effect("AIF (&I LE 100).L", 200),
     effect("LR 1,2", 50),

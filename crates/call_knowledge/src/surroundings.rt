@@ -198,7 +198,7 @@ impl Lookups for Surroundings<'_> {
     ghost told = { λ s. told_of s.knowledge.now s.answers.now };
 
     fn variable(
-        &mut self,
+        &self,
         alloc: Global,
         name: &Name,
         subscripts: &[i32],

@@ -37,7 +37,7 @@ impl Lookups for Surroundings {
     } };
 
     fn variable(
-        &mut self,
+        &self,
         alloc: Global,
         _name: &Name,
         subscripts: &[i32],

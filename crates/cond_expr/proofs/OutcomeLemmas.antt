@@ -4,7 +4,6 @@ use Rattle.std.specs.Result.{IsErrAnd}
 use Rattle.hl_base.specs.declared.note.Note.{Note}
 use Rattle.cond_expr.specs.declared.stop.Stop.{Stop}
 use Rattle.cond_expr.specs.declared.stop.Stop.TheVariants.{Asked, OutOfMemory}
-use Rattle.cond_expr.specs.Told.{Told}
 use Rattle.cond_expr.specs.Outcome.{Outcome, Gives, Asks, gives, noting, and_then, Tells}
 
 -- notes before those that an evaluation gives
@@ -54,12 +53,6 @@ pub Tells-known : {V W : Type 0} (o : Outcome V) (next : V → Outcome W) (befor
     u ≡ v → Tells o before middle (Ok u) → Tells (next v) middle after r → Tells (and_then o next) before after r
 Tells-known o next before middle after u v r is first second =
     Tells-and_then o next before middle after v r (subst (λ x. Tells o before middle (Ok x)) is first) second
-
--- a value, and then what the next evaluation tells, whose surroundings tell the same
-pub Tells-next : {V W : Type 0} (o : Outcome V) (next : Told → V → Outcome W) (told later : Told) (before middle after : List Note) (v : V) (r : Result W Stop) →
-    later ≡ told → Tells o before middle (Ok v) → Tells (next later v) middle after r → Tells (and_then o (next told)) before after r
-Tells-next o next told later before middle after v r is first second =
-    Tells-and_then o (next told) before middle after v r first (subst (λ (t : Told). Tells (next t v) middle after r) is second)
 
 -- one of two outcomes, by a test
 pub Tells-true : {V : Type 0} (b : Bool) (x y : Outcome V) (before after : List Note) (r : Result V Stop) → b ≡ true → Tells x before after r →

@@ -92,29 +92,27 @@ trees_in-whole : (all : List Expr) (n : ℕ) → trees_in (trees_in NoTrees (tak
 trees_in-whole all n = sym (trees_in-append NoTrees (take n all) (drop n all)) ∙ ap (trees_in NoTrees) (take-append-drop n all)
 
 -- one number more of a list
-pub numbers-kept : (told later : Told) (all : List Expr) (i : ℕ) (one : Expr) (before middle after : List Note) (ns pushed : List ℤ) (n : ℤ) →
-    i < length all → one ≡ get_or all i one → later ≡ told → pushed ≡ ns ++ n ∷ [] →
-    Tells (numbers (trees_in NoTrees (take i all)) told) before middle (Ok ns) → Tells (number (tree_of one) later) middle after (Ok n) →
+pub numbers-kept : (told : Told) (all : List Expr) (i : ℕ) (one : Expr) (before middle after : List Note) (ns pushed : List ℤ) (n : ℤ) →
+    i < length all → one ≡ get_or all i one → pushed ≡ ns ++ n ∷ [] →
+    Tells (numbers (trees_in NoTrees (take i all)) told) before middle (Ok ns) → Tells (number (tree_of one) told) middle after (Ok n) →
     Tells (numbers (trees_in NoTrees (take (i + 1) all)) told) before after (Ok pushed)
-numbers-kept told later all i one before middle after ns pushed n within is same more first second =
+numbers-kept told all i one before middle after ns pushed n within is more first second =
     subst (λ (trees : Trees). Tells (numbers trees told) before after (Ok pushed)) (sym (trees_in-next all i one within is))
     (subst (λ (ms : List ℤ). Tells (numbers (More (trees_in NoTrees (take i all)) (tree_of one)) told) before after (Ok ms)) (sym more)
-    (numbers-more told (trees_in NoTrees (take i all)) (tree_of one) before middle after ns n first
-    (subst (λ (t : Told). Tells (number (tree_of one) t) middle after (Ok n)) same second)))
+    (numbers-more told (trees_in NoTrees (take i all)) (tree_of one) before middle after ns n first second))
 
 -- a number of a list that stops
-pub numbers-failed : (told later : Told) (all : List Expr) (i : ℕ) (one : Expr) (before middle after : List Note) (ns : List ℤ) (stop : Stop) (r : Result (List ℤ) Stop) →
-    i < length all → one ≡ get_or all i one → later ≡ told → IsErrAnd r (λ x. x ≡ stop) →
-    Tells (numbers (trees_in NoTrees (take i all)) told) before middle (Ok ns) → Tells (number (tree_of one) later) middle after (Err stop) →
+pub numbers-failed : (told : Told) (all : List Expr) (i : ℕ) (one : Expr) (before middle after : List Note) (ns : List ℤ) (stop : Stop) (r : Result (List ℤ) Stop) →
+    i < length all → one ≡ get_or all i one → IsErrAnd r (λ x. x ≡ stop) →
+    Tells (numbers (trees_in NoTrees (take i all)) told) before middle (Ok ns) → Tells (number (tree_of one) told) middle after (Err stop) →
     Tells (numbers (trees_in NoTrees all) told) before after r
-numbers-failed told later all i one before middle after ns stop (Ok v) within is same failed first second = absurd failed
-numbers-failed told later all i one before middle after ns stop (Err x) within is same failed first second =
+numbers-failed told all i one before middle after ns stop (Ok v) within is failed first second = absurd failed
+numbers-failed told all i one before middle after ns stop (Err x) within is failed first second =
     subst (λ (s : Stop). Tells (numbers (trees_in NoTrees all) told) before after (Err s)) (sym failed)
     (subst (λ (trees : Trees). Tells (numbers trees told) before after (Err stop)) (trees_in-whole all (i + 1))
     (numbers-stopped told (drop (i + 1) all) (trees_in NoTrees (take (i + 1) all)) before after stop
     (subst (λ (trees : Trees). Tells (numbers trees told) before after (Err stop)) (sym (trees_in-next all i one within is))
-    (numbers-stop told (trees_in NoTrees (take i all)) (tree_of one) before middle after ns stop first
-    (subst (λ (t : Told). Tells (number (tree_of one) t) middle after (Err stop)) same second)))))
+    (numbers-stop told (trees_in NoTrees (take i all)) (tree_of one) before middle after ns stop first second))))
 
 items_in-next : (all : List Item) (i : ℕ) (one : Item) → i < length all → one ≡ get_or all i one →
     items_in NoItems (take (i + 1) all) ≡ with_item (items_in NoItems (take i all)) one
@@ -127,26 +125,24 @@ items_in-whole : (all : List Item) (n : ℕ) → items_in (items_in NoItems (tak
 items_in-whole all n = sym (items_in-append NoItems (take n all) (drop n all)) ∙ ap (items_in NoItems) (take-append-drop n all)
 
 -- one item more of a list
-pub pieces-kept : (told later : Told) (all : List Item) (i : ℕ) (one : Item) (before middle after : List Note) (s pushed t : List ℕ) →
-    i < length all → one ≡ get_or all i one → later ≡ told → pushed ≡ s ++ t →
-    Tells (pieces (items_in NoItems (take i all)) told) before middle (Ok s) → Tells (piece one later) middle after (Ok t) →
+pub pieces-kept : (told : Told) (all : List Item) (i : ℕ) (one : Item) (before middle after : List Note) (s pushed t : List ℕ) →
+    i < length all → one ≡ get_or all i one → pushed ≡ s ++ t →
+    Tells (pieces (items_in NoItems (take i all)) told) before middle (Ok s) → Tells (piece one told) middle after (Ok t) →
     Tells (pieces (items_in NoItems (take (i + 1) all)) told) before after (Ok pushed)
-pieces-kept told later all i one before middle after s pushed t within is same more first second =
+pieces-kept told all i one before middle after s pushed t within is more first second =
     subst (λ (items : Items). Tells (pieces items told) before after (Ok pushed)) (sym (items_in-next all i one within is))
     (subst (λ (u : List ℕ). Tells (pieces (with_item (items_in NoItems (take i all)) one) told) before after (Ok u)) (sym more)
-    (pieces-more told (items_in NoItems (take i all)) one before middle after s t first
-    (subst (λ (x : Told). Tells (piece one x) middle after (Ok t)) same second)))
+    (pieces-more told (items_in NoItems (take i all)) one before middle after s t first second))
 
 -- an item of a list that stops
-pub pieces-failed : (told later : Told) (all : List Item) (i : ℕ) (one : Item) (before middle after : List Note) (s : List ℕ) (stop : Stop) (r : Result (List ℕ) Stop) →
-    i < length all → one ≡ get_or all i one → later ≡ told → IsErrAnd r (λ x. x ≡ stop) →
-    Tells (pieces (items_in NoItems (take i all)) told) before middle (Ok s) → Tells (piece one later) middle after (Err stop) →
+pub pieces-failed : (told : Told) (all : List Item) (i : ℕ) (one : Item) (before middle after : List Note) (s : List ℕ) (stop : Stop) (r : Result (List ℕ) Stop) →
+    i < length all → one ≡ get_or all i one → IsErrAnd r (λ x. x ≡ stop) →
+    Tells (pieces (items_in NoItems (take i all)) told) before middle (Ok s) → Tells (piece one told) middle after (Err stop) →
     Tells (pieces (items_in NoItems all) told) before after r
-pieces-failed told later all i one before middle after s stop (Ok v) within is same failed first second = absurd failed
-pieces-failed told later all i one before middle after s stop (Err x) within is same failed first second =
+pieces-failed told all i one before middle after s stop (Ok v) within is failed first second = absurd failed
+pieces-failed told all i one before middle after s stop (Err x) within is failed first second =
     subst (λ (y : Stop). Tells (pieces (items_in NoItems all) told) before after (Err y)) (sym failed)
     (subst (λ (items : Items). Tells (pieces items told) before after (Err stop)) (items_in-whole all (i + 1))
     (pieces-stopped told (drop (i + 1) all) (items_in NoItems (take (i + 1) all)) before after stop
     (subst (λ (items : Items). Tells (pieces items told) before after (Err stop)) (sym (items_in-next all i one within is))
-    (pieces-stop told (items_in NoItems (take i all)) one before middle after s stop first
-    (subst (λ (t : Told). Tells (piece one t) middle after (Err stop)) same second)))))
+    (pieces-stop told (items_in NoItems (take i all)) one before middle after s stop first second))))

@@ -103,14 +103,8 @@ fn appended(mut text: Text, more: &Text) -> Result<Text, OutOfMemory>
 
 /// The number of an arithmetic or logical expression: 1 where it is true, 0 where it is false.
 #[cycle(evaluate)]
-pub fn number<Q: Lookups>(
-    alloc: Global,
-    e: &Expr,
-    q: &mut Q,
-    notes: &mut Notes,
-) -> Result<i32, Stop>
-    ensures told { Q.told q.new ≡ Q.told q.old }
-    ensures tells { Tells (values.number (tree_of e.now) (Q.told q.old)) notes.old notes.new result }
+pub fn number<Q: Lookups>(alloc: Global, e: &Expr, q: &Q, notes: &mut Notes) -> Result<i32, Stop>
+    ensures { Tells (values.number (tree_of e.now) (Q.told q.now)) notes.old notes.new result }
 {
     match e {
         Expr::Number(_, bits) => Ok(bits.cast_signed()),
@@ -158,11 +152,10 @@ fn joined_with<Q: Lookups>(
     operator: Operator,
     left: i32,
     right: &Expr,
-    q: &mut Q,
+    q: &Q,
     notes: &mut Notes,
 ) -> Result<i32, Stop>
-    ensures told { Q.told q.new ≡ Q.told q.old }
-    ensures tells { Tells (values.joined_with operator left (tree_of right.now) (Q.told q.old)) notes.old notes.new result }
+    ensures { Tells (values.joined_with operator left (tree_of right.now) (Q.told q.now)) notes.old notes.new result }
 {
     let n = number(alloc, right, q, notes)?;
     joined(alloc, operator, left, n, notes)
@@ -175,11 +168,10 @@ fn compared_with<Q: Lookups>(
     comparison: Comparison,
     left: i32,
     right: &Expr,
-    q: &mut Q,
+    q: &Q,
     notes: &mut Notes,
 ) -> Result<i32, Stop>
-    ensures told { Q.told q.new ≡ Q.told q.old }
-    ensures tells { Tells (values.compared_with comparison left (tree_of right.now) (Q.told q.old)) notes.old notes.new result }
+    ensures { Tells (values.compared_with comparison left (tree_of right.now) (Q.told q.now)) notes.old notes.new result }
 {
     let n = number(alloc, right, q, notes)?;
     Ok(bit(holds(comparison, left.cmp(&n))))
@@ -192,11 +184,10 @@ fn compared_text<Q: Lookups>(
     comparison: Comparison,
     left: &Text,
     right: &Expr,
-    q: &mut Q,
+    q: &Q,
     notes: &mut Notes,
 ) -> Result<i32, Stop>
-    ensures told { Q.told q.new ≡ Q.told q.old }
-    ensures tells { Tells (values.compared_text comparison left.now (tree_of right.now) (Q.told q.old)) notes.old notes.new result }
+    ensures { Tells (values.compared_text comparison left.now (tree_of right.now) (Q.told q.now)) notes.old notes.new result }
 {
     let b = text(alloc, right, q, notes)?;
     Ok(bit(holds(comparison, ordered(left, &b))))
@@ -204,9 +195,8 @@ fn compared_text<Q: Lookups>(
 
 /// The text of a character expression.
 #[cycle(evaluate)]
-pub fn text<Q: Lookups>(alloc: Global, e: &Expr, q: &mut Q, notes: &mut Notes) -> Result<Text, Stop>
-    ensures told { Q.told q.new ≡ Q.told q.old }
-    ensures tells { Tells (values.text (tree_of e.now) (Q.told q.old)) notes.old notes.new result }
+pub fn text<Q: Lookups>(alloc: Global, e: &Expr, q: &Q, notes: &mut Notes) -> Result<Text, Stop>
+    ensures { Tells (values.text (tree_of e.now) (Q.told q.now)) notes.old notes.new result }
 {
     match e {
         Expr::Symbol(asked, symbol) => {
@@ -253,11 +243,10 @@ fn duplicated_by<Q: Lookups>(
     alloc: Global,
     factor: i32,
     whole: &Expr,
-    q: &mut Q,
+    q: &Q,
     notes: &mut Notes,
 ) -> Result<Text, Stop>
-    ensures told { Q.told q.new ≡ Q.told q.old }
-    ensures tells { Tells (values.duplicated_by factor (tree_of whole.now) (Q.told q.old)) notes.old notes.new result }
+    ensures { Tells (values.duplicated_by factor (tree_of whole.now) (Q.told q.now)) notes.old notes.new result }
 {
     let s = text(alloc, whole, q, notes)?;
     characters::duplicated(alloc, factor, &s, notes)
@@ -270,11 +259,10 @@ fn substring_from<Q: Lookups>(
     whole: &Text,
     start: i32,
     count: &Expr,
-    q: &mut Q,
+    q: &Q,
     notes: &mut Notes,
 ) -> Result<Text, Stop>
-    ensures told { Q.told q.new ≡ Q.told q.old }
-    ensures tells { Tells (values.substring_from whole.now start (tree_of count.now) (Q.told q.old)) notes.old notes.new result }
+    ensures { Tells (values.substring_from whole.now start (tree_of count.now) (Q.told q.now)) notes.old notes.new result }
 {
     let n = number(alloc, count, q, notes)?;
     characters::substring(alloc, whole, start, n, notes)
@@ -286,11 +274,10 @@ fn substring_to_end_of<Q: Lookups>(
     alloc: Global,
     whole: &Text,
     start: &Expr,
-    q: &mut Q,
+    q: &Q,
     notes: &mut Notes,
 ) -> Result<Text, Stop>
-    ensures told { Q.told q.new ≡ Q.told q.old }
-    ensures tells { Tells (values.substring_to_end_of whole.now (tree_of start.now) (Q.told q.old)) notes.old notes.new result }
+    ensures { Tells (values.substring_to_end_of whole.now (tree_of start.now) (Q.told q.now)) notes.old notes.new result }
 {
     let m = number(alloc, start, q, notes)?;
     characters::substring_to_end(alloc, whole, m, notes)
@@ -302,11 +289,10 @@ fn joined_text<Q: Lookups>(
     alloc: Global,
     left: Text,
     right: &Expr,
-    q: &mut Q,
+    q: &Q,
     notes: &mut Notes,
 ) -> Result<Text, Stop>
-    ensures told { Q.told q.new ≡ Q.told q.old }
-    ensures tells { Tells (values.joined_text left (tree_of right.now) (Q.told q.old)) notes.old notes.new result }
+    ensures { Tells (values.joined_text left (tree_of right.now) (Q.told q.now)) notes.old notes.new result }
 {
     let b = text(alloc, right, q, notes)?;
     let whole = appended(left, &b)?;
@@ -318,11 +304,10 @@ fn joined_text<Q: Lookups>(
 pub fn numbers<Q: Lookups>(
     alloc: Global,
     trees: &[Expr],
-    q: &mut Q,
+    q: &Q,
     notes: &mut Notes,
 ) -> Result<Numbers, Stop>
-    ensures told { Q.told q.new ≡ Q.told q.old }
-    ensures tells { Tells (values.numbers (trees_in NoTrees trees.now) (Q.told q.old)) notes.old notes.new result }
+    ensures { Tells (values.numbers (trees_in NoTrees trees.now) (Q.told q.now)) notes.old notes.new result }
 {
     let mut values = Numbers::new(alloc);
     for tree in trees {
@@ -334,14 +319,8 @@ pub fn numbers<Q: Lookups>(
 
 /// What stands between quotes, with its variable symbols replaced.
 #[cycle(evaluate)]
-fn pieces<Q: Lookups>(
-    alloc: Global,
-    items: &[Item],
-    q: &mut Q,
-    notes: &mut Notes,
-) -> Result<Text, Stop>
-    ensures told { Q.told q.new ≡ Q.told q.old }
-    ensures tells { Tells (values.pieces (items_in NoItems items.now) (Q.told q.old)) notes.old notes.new result }
+fn pieces<Q: Lookups>(alloc: Global, items: &[Item], q: &Q, notes: &mut Notes) -> Result<Text, Stop>
+    ensures { Tells (values.pieces (items_in NoItems items.now) (Q.told q.now)) notes.old notes.new result }
 {
     let mut whole = Text::new(alloc);
     for item in items {
@@ -353,9 +332,8 @@ fn pieces<Q: Lookups>(
 
 /// What an item between quotes stands for.
 #[cycle(evaluate)]
-fn piece<Q: Lookups>(alloc: Global, item: &Item, q: &mut Q, notes: &mut Notes) -> Result<Text, Stop>
-    ensures told { Q.told q.new ≡ Q.told q.old }
-    ensures tells { Tells (values.piece item.now (Q.told q.old)) notes.old notes.new result }
+fn piece<Q: Lookups>(alloc: Global, item: &Item, q: &Q, notes: &mut Notes) -> Result<Text, Stop>
+    ensures { Tells (values.piece item.now (Q.told q.now)) notes.old notes.new result }
 {
     match item {
         Item::Plain(characters) => Ok(characters.copy(alloc)?),
@@ -369,11 +347,10 @@ pub fn inserted<Q: Lookups>(
     alloc: Global,
     symbol: &Symbol,
     subscripts: &[Expr],
-    q: &mut Q,
+    q: &Q,
     notes: &mut Notes,
 ) -> Result<Text, Stop>
-    ensures told { Q.told q.new ≡ Q.told q.old }
-    ensures tells { Tells (values.inserted symbol.now (trees_in NoTrees subscripts.now) (Q.told q.old)) notes.old notes.new result }
+    ensures { Tells (values.inserted symbol.now (trees_in NoTrees subscripts.now) (Q.told q.now)) notes.old notes.new result }
 {
     let at = numbers(alloc, subscripts, q, notes)?;
     variable::text_of_variable(alloc, &symbol.name, at.as_slice(), q, notes)

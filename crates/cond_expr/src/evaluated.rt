@@ -32,9 +32,8 @@ fn asking(alloc: Global, value: SetValue, key: Key) -> Evaluated
 
 /// The value of an arithmetic expression, and its notes; or the first key whose answer is needed and was not given. Every
 /// other tree has a value too, so nothing is asked of `e` (SC26-4940, "Arithmetic (SETA) expressions").
-pub fn eval_a<Q: Lookups>(alloc: Global, e: &Expr, q: &mut Q) -> Result<Evaluated, OutOfMemory>
-    ensures told { Q.told q.new ≡ Q.told q.old }
-    ensures value { IfOk result (λ found. found ≡ evaluated.arithmetic (tree_of e.now) (Q.told q.old)) }
+pub fn eval_a<Q: Lookups>(alloc: Global, e: &Expr, q: &Q) -> Result<Evaluated, OutOfMemory>
+    ensures { IfOk result (λ found. found ≡ evaluated.arithmetic (tree_of e.now) (Q.told q.now)) }
 {
     let mut notes = Notes::new(alloc);
     match evaluate::number(alloc, e, q, &mut notes) {
@@ -50,9 +49,8 @@ pub fn eval_a<Q: Lookups>(alloc: Global, e: &Expr, q: &mut Q) -> Result<Evaluate
 
 /// The value of a logical expression, and its notes; or the first key whose answer is needed and was not given (SC26-4940,
 /// "Logical (SETB) expressions").
-pub fn eval_b<Q: Lookups>(alloc: Global, e: &Expr, q: &mut Q) -> Result<Evaluated, OutOfMemory>
-    ensures told { Q.told q.new ≡ Q.told q.old }
-    ensures value { IfOk result (λ found. found ≡ evaluated.logical (tree_of e.now) (Q.told q.old)) }
+pub fn eval_b<Q: Lookups>(alloc: Global, e: &Expr, q: &Q) -> Result<Evaluated, OutOfMemory>
+    ensures { IfOk result (λ found. found ≡ evaluated.logical (tree_of e.now) (Q.told q.now)) }
 {
     let mut notes = Notes::new(alloc);
     match evaluate::number(alloc, e, q, &mut notes) {
@@ -68,9 +66,8 @@ pub fn eval_b<Q: Lookups>(alloc: Global, e: &Expr, q: &mut Q) -> Result<Evaluate
 
 /// The value of a character expression, and its notes; or the first key whose answer is needed and was not given
 /// (SC26-4940, "Character (SETC) expressions").
-pub fn eval_c<Q: Lookups>(alloc: Global, e: &Expr, q: &mut Q) -> Result<Evaluated, OutOfMemory>
-    ensures told { Q.told q.new ≡ Q.told q.old }
-    ensures value { IfOk result (λ found. found ≡ evaluated.character (tree_of e.now) (Q.told q.old)) }
+pub fn eval_c<Q: Lookups>(alloc: Global, e: &Expr, q: &Q) -> Result<Evaluated, OutOfMemory>
+    ensures { IfOk result (λ found. found ≡ evaluated.character (tree_of e.now) (Q.told q.now)) }
 {
     let mut notes = Notes::new(alloc);
     match evaluate::text(alloc, e, q, &mut notes) {

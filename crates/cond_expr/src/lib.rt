@@ -27,3 +27,4 @@ pub use laws::{more_answers_change_nothing, restarts_end, values_are_asked};
 pub use lookups::{Found, Lookups};
 pub use numbers::Numbers;
 pub use stop::Stop;
+pub use trouble::note;

@@ -17,19 +17,13 @@ pub enum Found {
     Ask(Key),
 }
 
-/// The surroundings of an expression. What they tell stays the same while it is evaluated.
+/// The surroundings of an expression, which an evaluation only reads.
 pub trait Lookups {
     ghost told: { Self → Told };
 
     /// What a variable symbol with these subscripts stands for.
-    fn variable(
-        &mut self,
-        alloc: Global,
-        name: &Name,
-        subscripts: &[i32],
-    ) -> Result<Found, OutOfMemory>
-        ensures found { IfOk result (λ found. found ≡ (told self.old).variable name.now subscripts.now) }
-        ensures kept { told self.new ≡ told self.old };
+    fn variable(&self, alloc: Global, name: &Name, subscripts: &[i32]) -> Result<Found, OutOfMemory>
+        ensures { IfOk result (λ found. found ≡ (told self.now).variable name.now subscripts.now) };
 
     /// How many positional operands the macro call has.
     fn positionals(&self) -> u32

@@ -7,7 +7,7 @@ use hl_base::{Frames, Name, Note, OutOfMemory, Severity, Text};
 use std::alloc::Global;
 
 /// A note whose text is these three parts, with an empty stack.
-fn note(
+pub fn note(
     alloc: Global,
     code: u16,
     severity: Severity,

@@ -113,11 +113,10 @@ pub fn text_of_variable<Q: Lookups>(
     alloc: Global,
     name: &Name,
     subscripts: &[i32],
-    q: &mut Q,
+    q: &Q,
     notes: &mut Notes,
 ) -> Result<Text, Stop>
-    ensures told { Q.told q.new ≡ Q.told q.old }
-    ensures tells { Tells (variables.text_of_variable (Q.told q.old) name.now subscripts.now) notes.old notes.new result }
+    ensures { Tells (variables.text_of_variable (Q.told q.now) name.now subscripts.now) notes.old notes.new result }
 {
     let found = q.variable(alloc, name, subscripts)?;
     text_found(alloc, name, found, notes)
@@ -205,11 +204,10 @@ fn is_operand_list(name: &Name, subscripts: &[i32]) -> bool
 fn operand_count<Q: Lookups>(
     alloc: Global,
     name: &Name,
-    q: &mut Q,
+    q: &Q,
     notes: &mut Notes,
 ) -> Result<i32, Stop>
-    ensures told { Q.told q.new ≡ Q.told q.old }
-    ensures tells { Tells (variables.operands_found (Q.told q.old) name.now ((Q.told q.old).variable name.now (pos 0 ∷ []))) notes.old notes.new result }
+    ensures { Tells (variables.operands_found (Q.told q.now) name.now ((Q.told q.now).variable name.now (pos 0 ∷ []))) notes.old notes.new result }
 {
     match q.variable(alloc, name, &[0])? {
         Found::Parameter(_) => symbol::counted(alloc, q.positionals() as usize, notes),
@@ -226,11 +224,10 @@ fn elements_of_variable<Q: Lookups>(
     alloc: Global,
     name: &Name,
     subscripts: &[i32],
-    q: &mut Q,
+    q: &Q,
     notes: &mut Notes,
 ) -> Result<i32, Stop>
-    ensures told { Q.told q.new ≡ Q.told q.old }
-    ensures tells { Tells (variables.elements_of_variable (Q.told q.old) name.now subscripts.now) notes.old notes.new result }
+    ensures { Tells (variables.elements_of_variable (Q.told q.now) name.now subscripts.now) notes.old notes.new result }
 {
     if is_operand_list(name, subscripts) {
         return operand_count(alloc, name, q, notes);
@@ -283,11 +280,10 @@ pub fn type_of_variable<Q: Lookups>(
     alloc: Global,
     name: &Name,
     subscripts: &[i32],
-    q: &mut Q,
+    q: &Q,
     notes: &mut Notes,
 ) -> Result<Text, Stop>
-    ensures told { Q.told q.new ≡ Q.told q.old }
-    ensures tells { Tells (variables.type_of_variable (Q.told q.old) name.now subscripts.now) notes.old notes.new result }
+    ensures { Tells (variables.type_of_variable (Q.told q.now) name.now subscripts.now) notes.old notes.new result }
 {
     let found = q.variable(alloc, name, subscripts)?;
     type_found(alloc, name, found, q, notes)
@@ -299,11 +295,10 @@ pub fn number_of_variable<Q: Lookups>(
     asked: Reference,
     name: &Name,
     subscripts: &[i32],
-    q: &mut Q,
+    q: &Q,
     notes: &mut Notes,
 ) -> Result<i32, Stop>
-    ensures told { Q.told q.new ≡ Q.told q.old }
-    ensures tells { Tells (variables.number_of_variable (Q.told q.old) asked name.now subscripts.now) notes.old notes.new result }
+    ensures { Tells (variables.number_of_variable (Q.told q.now) asked name.now subscripts.now) notes.old notes.new result }
 {
     match asked {
         Reference::Of(Attribute::Number) => {
@@ -355,11 +350,10 @@ pub fn asked_text_of_variable<Q: Lookups>(
     asked: Reference,
     name: &Name,
     subscripts: &[i32],
-    q: &mut Q,
+    q: &Q,
     notes: &mut Notes,
 ) -> Result<Text, Stop>
-    ensures told { Q.told q.new ≡ Q.told q.old }
-    ensures tells { Tells (variables.asked_text_of_variable (Q.told q.old) asked name.now subscripts.now) notes.old notes.new result }
+    ensures { Tells (variables.asked_text_of_variable (Q.told q.now) asked name.now subscripts.now) notes.old notes.new result }
 {
     match asked {
         Reference::Of(Attribute::Type) => type_of_variable(alloc, name, subscripts, q, notes),

@@ -1,5 +1,6 @@
 pub mod SubstitutionLaws
-pub mod ConditionLaws
+pub mod BranchingLaws
 pub mod RepeatingLaws
 pub mod EffectLaws
 pub mod AskingActs
+pub mod ActLaws

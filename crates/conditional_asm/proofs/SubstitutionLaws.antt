@@ -10,7 +10,11 @@ use Rattle.cond_expr.proofs.OutcomeLemmas.{Tells-stop}
 use Rattle.cond_expr.specs.Told.{Told}
 use Rattle.conditional_fields.specs.declared.template.Piece.{Piece}
 use Rattle.statement_reading.specs.Views.{part_of}
-use Rattle.conditional_asm.specs.Substitution.{substituted, behind_text, part_text}
+use Rattle.conditional_asm.specs.Substitution.{substituted, part_text}
+
+-- a text, and then what is told
+abbrev pub behind_text : List ℕ → Outcome (List ℕ) → Outcome (List ℕ)
+behind_text done outcome = and_then outcome (λ rest. gives (done ++ rest))
 
 -- behind no text
 pub tells-all : (o : Outcome (List ℕ)) (before after : List Note) (r : Result (List ℕ) Stop) → Tells (behind_text [] o) before after r → Tells o before after r

@@ -1,10 +1,9 @@
-pub mod Substitution
 pub mod Troubles
+pub mod Substitution
 pub mod Branching
-pub mod Generating
 pub mod Setting
 pub mod Messages
-pub mod Conditions
-pub mod Copying
+pub mod Generating
+pub mod Definitions
 pub mod Repeating
 pub mod Effects

@@ -1,12 +1,16 @@
 //! What AGO and ACTR do.
 //!
 //! Each call tells an outcome, as those of `cond_expr::evaluate`.
-ghost use Rattle.std.specs.Prelude.{◌≡◌, ◌∷◌, pos};
+ghost use Rattle.std.specs.Prelude.{◌≡◌, [], ◌∷◌, pos};
+ghost use Rattle.std.specs.Option.{option_map_or};
 ghost use Rattle.expression_grammar.specs.Views.{tree_of};
 ghost use Rattle.cond_expr.specs.Outcome.{Tells};
 ghost use Rattle.cond_expr.specs.Characters.{not_below_0};
+ghost use Rattle.statement_reading.specs.Bodies as bodies;
 ghost use Rattle.statement_reading.specs.Views.{branch_of};
-ghost use Rattle.conditional_asm.specs.Branching as branching;
+ghost use Rattle.conditional_asm.specs.Branching.{label_of};
+ghost use Rattle.conditional_asm.specs.Effects.{doing};
+ghost use Rattle.conditional_asm.specs.declared.act.Act.TheVariants.{Next, Branch};
 
 use crate::act::Act;
 use cond_expr::evaluate::number;
@@ -18,7 +22,7 @@ use std::alloc::Global;
 
 /// A branch to the label of this number, counted from 1, the first being apart.
 fn chosen(number: i32, first: &Name, others: &[Name]) -> Act
-    ensures { result ≡ branching.chosen number (first.now ∷ others.now) }
+    ensures { result ≡ option_map_or Branch (label_of number (first.now ∷ others.now)) Next }
 {
     if number < 1 {
         return Act::Next;
@@ -33,14 +37,8 @@ fn chosen(number: i32, first: &Name, others: &[Name]) -> Act
 }
 
 /// What AGO does.
-pub fn going<Q: Lookups>(
-    alloc: Global,
-    goto: &Goto,
-    q: &mut Q,
-    notes: &mut Notes,
-) -> Result<Act, Stop>
-    ensures told { Q.told q.new ≡ Q.told q.old }
-    ensures tells { Tells (branching.going (branch_of goto.now) (Q.told q.old)) notes.old notes.new result }
+pub fn ago<Q: Lookups>(alloc: Global, goto: &Goto, q: &Q, notes: &mut Notes) -> Result<Act, Stop>
+    ensures { Tells (doing (bodies.ago (branch_of goto.now)) [] [] (Q.told q.now)) notes.old notes.new result }
 {
     match goto {
         Goto::To(label) => Ok(Act::Branch(label.copy())),
@@ -59,16 +57,10 @@ fn from_0_on(number: i32) -> i32
 }
 
 /// What ACTR does.
-pub fn counting<Q: Lookups>(
-    alloc: Global,
-    tree: &Expr,
-    q: &mut Q,
-    notes: &mut Notes,
-) -> Result<Act, Stop>
-    ensures told { Q.told q.new ≡ Q.told q.old }
-    ensures tells { Tells (branching.counting (tree_of tree.now) (Q.told q.old)) notes.old notes.new result }
+pub fn actr<Q: Lookups>(alloc: Global, count: &Expr, q: &Q, notes: &mut Notes) -> Result<Act, Stop>
+    ensures { Tells (doing (bodies.actr (tree_of count.now)) [] [] (Q.told q.now)) notes.old notes.new result }
 {
-    match number(alloc, tree, q, notes) {
+    match number(alloc, count, q, notes) {
         Ok(n) => Ok(Act::Actr(from_0_on(n))),
         Err(stop) => Err(stop),
     }

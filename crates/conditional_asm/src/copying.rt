@@ -1,12 +1,12 @@
 //! COPY of an operand with variable symbols.
 //!
 //! Each call tells an outcome, as those of `cond_expr::evaluate`.
-ghost use Rattle.std.specs.Prelude.{◌≡◌};
+ghost use Rattle.std.specs.Prelude.{[]};
 ghost use Rattle.cond_expr.specs.Outcome.{Tells};
 ghost use Rattle.conditional_fields.specs.Endings.{field_of};
-ghost use Rattle.statement_reading.specs.Bodies.{member};
+ghost use Rattle.statement_reading.specs.Bodies as bodies;
 ghost use Rattle.statement_reading.specs.Views.{parts_of};
-ghost use Rattle.conditional_asm.specs.Copying as copying;
+ghost use Rattle.conditional_asm.specs.Effects as effects;
 
 use crate::act::Act;
 use crate::substitution::substitute;
@@ -19,8 +19,8 @@ use statement_reading::{Template, read_member};
 use std::alloc::Global;
 
 /// The member that an operand names once its variable symbols have values.
-fn copied(alloc: Global, operand: &Text, notes: &mut Notes) -> Result<Act, Stop>
-    ensures { Tells (copying.copied (member (field_of operand.now))) notes.old notes.new result }
+fn copy_of(alloc: Global, operand: &Text, notes: &mut Notes) -> Result<Act, Stop>
+    ensures { Tells (effects.copied (bodies.member (field_of operand.now))) notes.old notes.new result }
 {
     let field = ended(alloc, operand.as_str())?;
     match read_member(field.as_str()) {
@@ -34,17 +34,16 @@ fn copied(alloc: Global, operand: &Text, notes: &mut Notes) -> Result<Act, Stop>
 }
 
 /// COPY of an operand with variable symbols.
-pub fn copying<Q: Lookups>(
+pub fn copy_varying<Q: Lookups>(
     alloc: Global,
     operand: &Template,
-    q: &mut Q,
+    q: &Q,
     notes: &mut Notes,
 ) -> Result<Act, Stop>
-    ensures told { Q.told q.new ≡ Q.told q.old }
-    ensures tells { Tells (copying.copying (parts_of operand.now) (Q.told q.old)) notes.old notes.new result }
+    ensures { Tells (effects.doing (bodies.copies_varying (parts_of operand.now)) [] [] (Q.told q.now)) notes.old notes.new result }
 {
     match substitute(alloc, operand, q, notes) {
-        Ok(text) => copied(alloc, &text, notes),
+        Ok(text) => copy_of(alloc, &text, notes),
         Err(stop) => Err(stop),
     }
 }

@@ -13,9 +13,10 @@
 #![tactic(auto)]
 
 mod act;
+mod aif;
 mod branching;
-mod condition;
 mod copying;
+mod definition;
 mod generating;
 mod laws;
 mod message;
@@ -27,7 +28,7 @@ mod trouble;
 
 pub use act::{Act, Effect};
 pub use conditional_fields::{ago, declarations, ended};
-pub use generating::defined;
+pub use definition::defined;
 pub use laws::{effects_are_asked, effects_stay};
 pub use performing::{doing, effect, perform};
 pub use repeating::once;

@@ -1,5 +1,6 @@
 //! Notes that are said once.
-ghost use Rattle.std.specs.Prelude.{◌≡◌, IfOk};
+ghost use Rattle.std.specs.Prelude.{◌≡◌, ◌++◌, ◌∷◌, [], IfOk, OnOk, if◌then◌else◌};
+ghost use Rattle.std.specs.List.{list_any};
 ghost use Rattle.conditional_asm.specs.Repeating as said;
 
 use hl_base::{Note, Notes, OutOfMemory};
@@ -9,7 +10,7 @@ use std::alloc::Global;
 const NOT_DEFINED: u16 = 24;
 
 /// Whether two notes say that a symbol has no length attribute, in the same words.
-fn repeats(earlier: &Note, note: &Note) -> bool
+fn says_again(earlier: &Note, note: &Note) -> bool
     ensures { result ≡ said.repeats earlier.now note.now }
 {
     earlier.code == NOT_DEFINED
@@ -19,9 +20,20 @@ fn repeats(earlier: &Note, note: &Note) -> bool
 
 /// Whether a note was given already.
 fn is_given(given: &[Note], note: &Note) -> bool
-    ensures { result ≡ said.is_given given.now note.now }
+    ensures { result ≡ list_any (λ earlier. said.repeats earlier note.now) given.now }
 {
-    given.iter().any(|earlier| repeats(earlier, note))
+    given.iter().any(|earlier| says_again(earlier, note))
+}
+
+/// Adds a note behind others, unless one of them said it already.
+fn keep(alloc: Global, left: &mut Notes, note: &Note) -> Result<(), OutOfMemory>
+    ensures { OnOk result (left.new ≡ (if list_any (λ earlier. said.repeats earlier note.now) left.old then left.old else left.old ++ note.now ∷ [])) }
+{
+    if is_given(left.as_slice(), note) {
+        return Ok(());
+    }
+    left.push(note.copy(alloc)?)?;
+    Ok(())
 }
 
 /// The notes without those that say again that a symbol has no length attribute.
@@ -30,9 +42,7 @@ pub fn once(alloc: Global, notes: &Notes) -> Result<Notes, OutOfMemory>
 {
     let mut left = Notes::new(alloc);
     for note in notes.as_slice() {
-        if !is_given(left.as_slice(), note) {
-            left.push(note.copy(alloc)?)?;
-        }
+        keep(alloc, &mut left, note)?;
     }
     Ok(left)
 }

@@ -4,6 +4,7 @@
 ghost use Rattle.std.specs.Prelude.{◌≡◌, map};
 ghost use Rattle.expression_grammar.specs.Views.{tree_of};
 ghost use Rattle.cond_expr.specs.Outcome.{Tells};
+ghost use Rattle.statement_reading.specs.Templates as parts;
 ghost use Rattle.statement_reading.specs.Views.{part_of, parts_of};
 ghost use Rattle.conditional_asm.specs.Substitution as substitution;
 
@@ -18,11 +19,10 @@ use std::alloc::Global;
 fn symbol_text<Q: Lookups>(
     alloc: Global,
     tree: &Expr,
-    q: &mut Q,
+    q: &Q,
     notes: &mut Notes,
 ) -> Result<Text, Stop>
-    ensures told { Q.told q.new ≡ Q.told q.old }
-    ensures tells { Tells (substitution.symbol_text (tree_of tree.now) (Q.told q.old)) notes.old notes.new result }
+    ensures { Tells (substitution.part_text (parts.variable (tree_of tree.now)) (Q.told q.now)) notes.old notes.new result }
 {
     match tree {
         Expr::Variable(_, symbol, subscripts) => {
@@ -51,11 +51,10 @@ fn symbol_text<Q: Lookups>(
 fn piece_text<Q: Lookups>(
     alloc: Global,
     piece: &Piece,
-    q: &mut Q,
+    q: &Q,
     notes: &mut Notes,
 ) -> Result<Text, Stop>
-    ensures told { Q.told q.new ≡ Q.told q.old }
-    ensures tells { Tells (substitution.part_text (part_of piece.now) (Q.told q.old)) notes.old notes.new result }
+    ensures { Tells (substitution.part_text (part_of piece.now) (Q.told q.now)) notes.old notes.new result }
 {
     match piece {
         Piece::Plain(text) => Ok(text.copy(alloc)?),
@@ -67,11 +66,10 @@ fn piece_text<Q: Lookups>(
 fn pieces_text<Q: Lookups>(
     alloc: Global,
     pieces: &[Piece],
-    q: &mut Q,
+    q: &Q,
     notes: &mut Notes,
 ) -> Result<Text, Stop>
-    ensures told { Q.told q.new ≡ Q.told q.old }
-    ensures tells { Tells (substitution.substituted (map part_of pieces.now) (Q.told q.old)) notes.old notes.new result }
+    ensures { Tells (substitution.substituted (map part_of pieces.now) (Q.told q.now)) notes.old notes.new result }
 {
     let mut whole = Text::new(alloc);
     for piece in pieces {
@@ -87,11 +85,10 @@ fn pieces_text<Q: Lookups>(
 pub fn substitute<Q: Lookups>(
     alloc: Global,
     template: &Template,
-    q: &mut Q,
+    q: &Q,
     notes: &mut Notes,
 ) -> Result<Text, Stop>
-    ensures told { Q.told q.new ≡ Q.told q.old }
-    ensures tells { Tells (substitution.substituted (parts_of template.now) (Q.told q.old)) notes.old notes.new result }
+    ensures { Tells (substitution.substituted (parts_of template.now) (Q.told q.now)) notes.old notes.new result }
 {
     match pieces_text(alloc, template.pieces.as_slice(), q, notes) {
         Ok(text) => Ok(text),

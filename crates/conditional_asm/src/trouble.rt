@@ -1,33 +1,11 @@
 //! The notes of statements.
-ghost use Rattle.std.specs.Prelude.{◌≡◌, ◌++◌, IfOk};
+ghost use Rattle.std.specs.Prelude.{◌≡◌, IfOk};
 ghost use Rattle.std.specs.Str.{chars};
-ghost use Rattle.cond_expr.specs.Troubles.{note as told_note};
 ghost use Rattle.conditional_asm.specs.Troubles as troubles;
 
+use cond_expr::note;
 use hl_base::{Frames, Note, OutOfMemory, Severity, Text};
 use std::alloc::Global;
-
-/// A note whose text is these three parts, with an empty stack.
-fn note(
-    alloc: Global,
-    code: u16,
-    severity: Severity,
-    before: &str,
-    name: &str,
-    behind: &str,
-) -> Result<Note, OutOfMemory>
-    ensures { IfOk result (λ n. n ≡ told_note code severity ((chars before.now ++ chars name.now) ++ chars behind.now)) }
-{
-    let mut text = Text::of(alloc, before)?;
-    text.push_str(name)?;
-    text.push_str(behind)?;
-    Ok(Note {
-        code,
-        severity,
-        text,
-        stack: Frames::new(alloc),
-    })
-}
 
 /// A label alone, or an operation that is substituted by nothing.
 pub fn no_operation(alloc: Global) -> Result<Note, OutOfMemory>
@@ -92,4 +70,16 @@ pub fn left_out(alloc: Global, op: &str) -> Result<Note, OutOfMemory>
         op,
         " is left out of this profile",
     )
+}
+
+/// What the author of a statement says, with an empty stack.
+pub(crate) fn author(alloc: Global, severity: Severity, words: Text) -> Note
+    ensures { result ≡ troubles.author severity words }
+{
+    Note {
+        code: 0,
+        severity,
+        text: words,
+        stack: Frames::new(alloc),
+    }
 }

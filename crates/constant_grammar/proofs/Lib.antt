@@ -1,3 +1,2 @@
 pub mod ExpressionLaws
-pub mod TextLaws
 pub mod ElementLaws

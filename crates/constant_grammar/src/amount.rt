@@ -7,10 +7,10 @@ ghost use Rattle.expression_grammar.specs.Readings.{read_front};
 ghost use Rattle.constant_grammar.specs.Amounts as amounts;
 ghost use Rattle.constant_grammar.specs.Views.{amount_front_of, optional_of};
 
-use crate::character::{behind, head};
 use crate::tree::Formula;
 use expression_grammar::{Grammar, SyntaxFault, parse_front};
 use hl_base::OutOfMemory;
+use operand_list::hlasm_statements::text::{behind, head};
 use std::alloc::Global;
 
 /// A number as it is written: decimal digits, of which a number above 4,294,967,295 is read as this, or an expression in

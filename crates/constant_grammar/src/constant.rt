@@ -6,11 +6,11 @@ ghost use Rattle.constant_grammar.specs.Constants as constants;
 ghost use Rattle.constant_grammar.specs.Views.{constant_of, optional_amount_of, optional_nominal_of, optional_of};
 
 use crate::amount::{Amount, OptionalAmount, behind_amount, explicit_length, factor};
-use crate::character::{behind, head};
 use crate::letters::{Spelled, type_front};
 use crate::nominal::{Nominal, read_nominal};
 use constant_table::ConstantType;
 use hl_base::OutOfMemory;
+use operand_list::hlasm_statements::text::{behind, head};
 use std::alloc::Global;
 
 /// An operand of DC or DS, or of a literal behind its equals sign, as it is written. What is left away is `None`.

@@ -4,12 +4,12 @@ ghost use Rattle.std.specs.Str.{chars};
 ghost use Rattle.constant_grammar.specs.Digits as digits;
 ghost use Rattle.constant_grammar.specs.Views.{constant_of};
 
-use crate::character::head;
 use crate::{Constant, Nominal};
 use constant_table::ValueKind;
+use operand_list::hlasm_statements::text::head;
 
 /// How many characters a text has, two apostrophes and two ampersands being one each.
-fn character_count(text: &str) -> usize
+fn value_character_count(text: &str) -> usize
     ensures { result ≡ digits.characters (chars text.now) }
 {
     let mut count = 0;
@@ -72,7 +72,7 @@ pub fn digits_in(kind: ValueKind, text: &str) -> usize
     ensures { result ≡ digits.count_in kind (chars text.now) }
 {
     match kind {
-        ValueKind::Text => character_count(text),
+        ValueKind::Text => value_character_count(text),
         ValueKind::Decimals => decimal_count(text),
         _ => first_count(text),
     }

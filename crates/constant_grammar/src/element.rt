@@ -11,11 +11,11 @@ ghost use Rattle.constant_grammar.specs.Elements as elements;
 ghost use Rattle.constant_grammar.specs.Views.{amount_front_of, element_of, Says, tree_if};
 
 use crate::amount::{Amount, AmountFront, amount_front};
-use crate::character::{before, behind, character_count};
 use crate::tree::Formula;
 use constant_table::ValueKind;
 use expression_grammar::{Expr, SyntaxFault, parse_ordinary};
 use hl_base::{Name, OutOfMemory, Text};
+use operand_list::hlasm_statements::text::{before, behind, character_count};
 use std::alloc::Global;
 
 /// A value of an address constant: an expression, a symbol, or an address as a displacement with a base register or without.

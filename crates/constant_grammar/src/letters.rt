@@ -3,8 +3,8 @@ ghost use Rattle.std.specs.Prelude.{◌≡◌};
 ghost use Rattle.std.specs.Str.{chars};
 ghost use Rattle.constant_grammar.specs.Letters as letters;
 
-use crate::character::head;
 use constant_table::ConstantType;
+use operand_list::hlasm_statements::text::head;
 
 /// A type, and how many letters spell it.
 #[derive(Clone, Copy, Debug, PartialEq, Eq)]

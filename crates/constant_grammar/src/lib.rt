@@ -8,7 +8,6 @@
 #![tactic(auto)]
 
 mod amount;
-mod character;
 mod constant;
 mod digits;
 mod element;

@@ -5,10 +5,10 @@ ghost use Rattle.std.specs.Option.{option_map};
 ghost use Rattle.constant_grammar.specs.Nominals as nominals;
 ghost use Rattle.constant_grammar.specs.Views.{element_of, nominal_of};
 
-use crate::character::{before, character_count, head};
 use crate::element::{Element, read_element};
 use constant_table::ValueKind;
 use hl_base::{OutOfMemory, Text};
+use operand_list::hlasm_statements::text::{before, character_count, head};
 use operand_list::split_sublist;
 use std::alloc::Global;
 

@@ -1,4 +1,3 @@
-pub mod TextLaws
 pub mod Splits
 pub mod Lists
 pub mod Boundaries

@@ -3,7 +3,7 @@ ghost use Rattle.std.specs.Prelude.{◌≡◌};
 ghost use Rattle.std.specs.Str.{chars};
 ghost use Rattle.constant_values.specs.Classes as classes;
 
-use crate::character::head;
+use hlasm_statements::text::head;
 
 /// What a character of a value is.
 #[derive(Clone, Copy, Debug, PartialEq, Eq)]

@@ -7,7 +7,6 @@
 //! instruction", "Nominal value", "Length modifier"; which values are wrong is this project's profile.
 #![tactic(auto)]
 
-mod character;
 mod class;
 mod number;
 mod right;

@@ -3,8 +3,8 @@ ghost use Rattle.std.specs.Prelude.{◌≡◌};
 ghost use Rattle.std.specs.Str.{chars};
 ghost use Rattle.constant_values.specs.Numbers as numbers;
 
-use crate::character::{behind, character_count, head};
 use crate::class::{Class, count_of};
+use hlasm_statements::text::{behind, character_count, head};
 
 /// Whether a text begins with a minus sign.
 fn is_negative(text: &str) -> bool

@@ -3,11 +3,11 @@ ghost use Rattle.std.specs.Prelude.{◌≡◌};
 ghost use Rattle.std.specs.Str.{chars};
 ghost use Rattle.constant_values.specs.Right as right;
 
-use crate::character::character_count;
 use crate::class::{Class, count_of};
 use crate::number::{fits, is_number};
 use constant_grammar::digits_in;
 use constant_table::{ConstantType, ValueKind};
+use hlasm_statements::text::character_count;
 
 /// Whether a text has a character, and all are of this class.
 fn is_made_of(class: Class, text: &str) -> bool

@@ -4,10 +4,10 @@ ghost use Rattle.std.specs.Str.{chars};
 ghost use Rattle.std.specs.List.{slice_split, prefix_len};
 ghost use Rattle.constant_values.specs.Values.{is_comma, is_no_comma, texts_of};
 
-use crate::character::head;
 use constant_table::ValueKind;
 use hl_base::{OutOfMemory, Text};
 use hlasm_statements::split_columns;
+use hlasm_statements::text::head;
 use std::alloc::Global;
 
 /// How many characters stand before the first comma.

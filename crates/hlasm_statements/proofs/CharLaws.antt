@@ -173,3 +173,8 @@ ascii-back bs i count u is ascii = elim (cases_lt (length bs) count) [
       ∙ ap (λ n. drop n (take i bs ++ chars (drop i bs))) (ascii-length bs i count is fits)
       ∙ ap (drop count) (sym (ascii-parts bs i u (omega arith) ascii))
 ]
+
+-- a text without bytes has no characters
+pub chars-none : (bs rest : List ℕ) → rest ≡ bs → length rest ≡ 0 → chars bs ≡ []
+chars-none [] rest same h = chars-nil
+chars-none (b ∷ bs) rest same h = let some : length rest ≡ length (b ∷ bs) = ap length same in absurd (omega arith)

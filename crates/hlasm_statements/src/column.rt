@@ -6,6 +6,8 @@ ghost use Rattle.hlasm_statements.specs.Columns as columns;
 ghost use Rattle.hlasm_statements.specs.Reading as reading;
 ghost use Rattle.hlasm_statements.specs.Reading.{IsFront};
 
+use crate::text::character_count;
+
 /// Whether a character is a blank or a tab.
 #[inline(always)]
 pub fn is_blank(c: char) -> bool
@@ -189,10 +191,4 @@ fn first_blank(text: &str) -> Option<usize>
     ensures { result ≡ position columns.is_blank (chars text.now) }
 {
     text.chars().position(is_blank)
-}
-
-fn character_count(text: &str) -> usize
-    ensures { result ≡ length (chars text.now) }
-{
-    text.chars().count()
 }

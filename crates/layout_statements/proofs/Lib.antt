@@ -1,2 +1,3 @@
 pub mod TextLaws
 pub mod Maps
+pub mod Fields

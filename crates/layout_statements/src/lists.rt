@@ -1,16 +1,19 @@
 //! Constants and literals of a statement.
-ghost use Rattle.std.specs.Prelude.{◌≡◌, [], ◌∷◌, ◌++◌, map, is_some, IfOk, OnOk};
+ghost use Rattle.std.specs.Prelude.{◌≡◌, ◌==◌, [], ◌∷◌, ◌++◌, map, is_some, IfOk, OnOk};
+ghost use Rattle.std.specs.List.{list_any};
 ghost use Rattle.std.specs.Str.{chars};
 ghost use Rattle.constant_operands.specs.Operands.{operand};
 ghost use Rattle.constant_operands.specs.Views.{operand_of};
 ghost use Rattle.layout_statements.specs.Lists as spec;
 ghost use Rattle.literal_operands.specs.Views.{literal_of};
 ghost use Rattle.layout_statements.specs.Views.{read_literal_of};
+ghost use Rattle.operand_list.specs.Split.{operands_of};
 
-use crate::symbols::head;
 use constant_operands::{ConstantOperand, ConstantUse};
 use hl_base::{OutOfMemory, Text};
 use literal_operands::{LiteralOperand, literal_operand};
+use operand_list::hlasm_statements::text::head;
+use plain_fields::split_field;
 use std::alloc::Global;
 
 /// A literal in an operand: its text behind the equals sign, and what that is as a constant.
@@ -137,10 +140,7 @@ fn push_literal(
 }
 
 /// Reads the literals in some operands, in order.
-pub(crate) fn read_literals(
-    alloc: Global,
-    operands: &[Text],
-) -> Result<Vec<ReadLiteral>, OutOfMemory>
+fn read_literals(alloc: Global, operands: &[Text]) -> Result<Vec<ReadLiteral>, OutOfMemory>
     ensures { IfOk result (λ literals. map read_literal_of literals.items ≡ spec.literals operands.now) }
 {
     let mut literals = Vec::new(alloc);
@@ -148,4 +148,23 @@ pub(crate) fn read_literals(
         push_literal(alloc, &mut literals, operand.as_str())?;
     }
     Ok(literals)
+}
+
+/// Whether an equals sign stands in a field.
+fn has_equals_sign(field: &str) -> bool
+    ensures { result ≡ list_any (λ c. c == 61) (chars field.now) }
+{
+    field.chars().any(|c| c == '=')
+}
+
+/// Reads the literals in the operands of a field, in order. Most fields have no equals sign: these are not split.
+#[tactic(auto, using(crate::proofs::Fields::no_literals))]
+pub(crate) fn read_literals_in(alloc: Global, field: &str) -> Result<Vec<ReadLiteral>, OutOfMemory>
+    ensures { IfOk result (λ literals. map read_literal_of literals.items ≡ spec.literals (operands_of (chars field.now))) }
+{
+    if !has_equals_sign(field) {
+        return Ok(Vec::new(alloc));
+    }
+    let operands = split_field(alloc, field)?;
+    read_literals(alloc, operands.as_slice())
 }

@@ -9,15 +9,16 @@ ghost use Rattle.layout_statements.specs.Lists as lists;
 ghost use Rattle.layout_statements.specs.Statements as spec;
 ghost use Rattle.layout_statements.specs.Symbols.{symbol_readings};
 ghost use Rattle.layout_statements.specs.Views.{statement_of, task_of};
+ghost use Rattle.operand_list.specs.Split.{operands_of};
 
 use crate::bases::{any_reads_place, using_reads_place};
 use crate::equate::{Equate, read_equate};
 use crate::expressions::{Reading, read_at};
 use crate::kind::{Kind, kind_of};
-use crate::lists::{ReadLiteral, read_constants, read_literals};
+use crate::lists::{ReadLiteral, read_constants, read_literals_in};
 use crate::symbols::{ReadSymbol, read_symbols};
 use constant_operands::{ConstantOperand, ConstantUse};
-use hl_base::{Line, Name, OutOfMemory, Text};
+use hl_base::{Line, Name, OutOfMemory};
 use instruction_table::Format;
 use plain_fields::split_field;
 use std::alloc::Global;
@@ -59,96 +60,94 @@ pub struct LayoutStatement {
 }
 
 /// What a machine instruction asks for.
-fn instruction(alloc: Global, format: Format, operands: &[Text]) -> Result<Task, OutOfMemory>
-    ensures { IfOk result (λ task. task_of task ≡ spec.Instruction format (lists.literals operands.now)) }
+fn instruction(alloc: Global, format: Format, field: &str) -> Result<Task, OutOfMemory>
+    ensures { IfOk result (λ task. task_of task ≡ spec.Instruction format (lists.literals (operands_of (chars field.now)))) }
 {
-    Ok(Task::Instruction(format, read_literals(alloc, operands)?))
+    Ok(Task::Instruction(format, read_literals_in(alloc, field)?))
 }
 
 /// What DC and DS ask for.
-fn constants(alloc: Global, used: ConstantUse, operands: &[Text]) -> Result<Task, OutOfMemory>
-    ensures { IfOk result (λ task. task_of task ≡ spec.Constants (lists.constants used operands.now)) }
+fn constants(alloc: Global, used: ConstantUse, field: &str) -> Result<Task, OutOfMemory>
+    ensures { IfOk result (λ task. task_of task ≡ spec.Constants (lists.constants used (operands_of (chars field.now)))) }
 {
-    Ok(Task::Constants(read_constants(alloc, used, operands)?))
+    let operands = split_field(alloc, field)?;
+    Ok(Task::Constants(read_constants(alloc, used, operands.as_slice())?))
 }
 
 /// What EQU asks for.
-fn equate(
-    alloc: Global,
-    op: &OpMeaning,
-    field: &str,
-    operands: &[Text],
-) -> Result<Task, OutOfMemory>
-    ensures { IfOk result (λ task. task_of task ≡ spec.Equate (equates.equate op.now (chars field.now) operands.now)) }
+fn equate(alloc: Global, op: &OpMeaning, field: &str) -> Result<Task, OutOfMemory>
+    ensures { IfOk result (λ task. task_of task ≡ spec.Equate (equates.equate op.now (chars field.now) (operands_of (chars field.now)))) }
 {
-    Ok(Task::Equate(read_equate(alloc, op, field, operands)?))
+    let operands = split_field(alloc, field)?;
+    Ok(Task::Equate(read_equate(alloc, op, field, operands.as_slice())?))
 }
 
 /// What ORG asks for.
-fn org(alloc: Global, operands: &[Text]) -> Result<Task, OutOfMemory>
-    ensures { IfOk result (λ task. task_of task ≡ spec.Org (reading_at 0 operands.now)) }
+fn org(alloc: Global, field: &str) -> Result<Task, OutOfMemory>
+    ensures { IfOk result (λ task. task_of task ≡ spec.Org (reading_at 0 (operands_of (chars field.now)))) }
 {
-    Ok(Task::Org(read_at(alloc, operands, 0)?))
+    let operands = split_field(alloc, field)?;
+    Ok(Task::Org(read_at(alloc, operands.as_slice(), 0)?))
 }
 
 /// What EXTRN and WXTRN ask for.
-fn externals(alloc: Global, operands: &[Text]) -> Result<Task, OutOfMemory>
-    ensures { IfOk result (λ task. task_of task ≡ spec.Externals (symbol_readings operands.now)) }
+fn externals(alloc: Global, field: &str) -> Result<Task, OutOfMemory>
+    ensures { IfOk result (λ task. task_of task ≡ spec.Externals (symbol_readings (operands_of (chars field.now)))) }
 {
-    Ok(Task::Externals(read_symbols(alloc, operands)?))
+    let operands = split_field(alloc, field)?;
+    Ok(Task::Externals(read_symbols(alloc, operands.as_slice())?))
 }
 
 /// What ENTRY asks for.
-fn entries(alloc: Global, operands: &[Text]) -> Result<Task, OutOfMemory>
-    ensures { IfOk result (λ task. task_of task ≡ spec.Entries (symbol_readings operands.now)) }
+fn entries(alloc: Global, field: &str) -> Result<Task, OutOfMemory>
+    ensures { IfOk result (λ task. task_of task ≡ spec.Entries (symbol_readings (operands_of (chars field.now)))) }
 {
-    Ok(Task::Entries(read_symbols(alloc, operands)?))
+    let operands = split_field(alloc, field)?;
+    Ok(Task::Entries(read_symbols(alloc, operands.as_slice())?))
 }
 
 /// What END asks for.
-fn end(alloc: Global, operands: &[Text]) -> Result<Task, OutOfMemory>
-    ensures { IfOk result (λ task. task_of task ≡ spec.End (reading_at 0 operands.now)) }
+fn end(alloc: Global, field: &str) -> Result<Task, OutOfMemory>
+    ensures { IfOk result (λ task. task_of task ≡ spec.End (reading_at 0 (operands_of (chars field.now)))) }
 {
-    Ok(Task::End(read_at(alloc, operands, 0)?))
+    let operands = split_field(alloc, field)?;
+    Ok(Task::End(read_at(alloc, operands.as_slice(), 0)?))
 }
 
 /// What USING asks for.
-fn using(alloc: Global, operands: &[Text]) -> Result<Task, OutOfMemory>
-    ensures { IfOk result (λ task. task_of task ≡ spec.Bases (using_place operands.now)) }
+fn using(alloc: Global, field: &str) -> Result<Task, OutOfMemory>
+    ensures { IfOk result (λ task. task_of task ≡ spec.Bases (using_place (operands_of (chars field.now)))) }
 {
-    Ok(Task::Bases(using_reads_place(alloc, operands)?))
+    let operands = split_field(alloc, field)?;
+    Ok(Task::Bases(using_reads_place(alloc, operands.as_slice())?))
 }
 
 /// What DROP asks for.
-fn dropping(alloc: Global, operands: &[Text]) -> Result<Task, OutOfMemory>
-    ensures { IfOk result (λ task. task_of task ≡ spec.Bases (any_place operands.now)) }
+fn dropping(alloc: Global, field: &str) -> Result<Task, OutOfMemory>
+    ensures { IfOk result (λ task. task_of task ≡ spec.Bases (any_place (operands_of (chars field.now)))) }
 {
-    Ok(Task::Bases(any_reads_place(alloc, operands)?))
+    let operands = split_field(alloc, field)?;
+    Ok(Task::Bases(any_reads_place(alloc, operands.as_slice())?))
 }
 
 /// What an operation of this kind asks for with an operand field. Each kind is read by a function of its own, so that no call
-/// makes room for the readings of all.
-fn read_task(
-    alloc: Global,
-    op: &OpMeaning,
-    field: &str,
-    operands: &[Text],
-) -> Result<Task, OutOfMemory>
-    ensures { IfOk result (λ task. task_of task ≡ spec.task op.now (chars field.now) operands.now) }
+/// makes room for the readings of all, and the field is split where its operands are asked for.
+fn read_task(alloc: Global, op: &OpMeaning, field: &str) -> Result<Task, OutOfMemory>
+    ensures { IfOk result (λ task. task_of task ≡ spec.task op.now (chars field.now) (operands_of (chars field.now))) }
 {
     match kind_of(op) {
-        Kind::Instruction(format) => instruction(alloc, format, operands),
-        Kind::Constants(used) => constants(alloc, used, operands),
+        Kind::Instruction(format) => instruction(alloc, format, field),
+        Kind::Constants(used) => constants(alloc, used, field),
         Kind::ControlSection => Ok(Task::ControlSection),
         Kind::DummySection => Ok(Task::DummySection),
-        Kind::Equate => equate(alloc, op, field, operands),
-        Kind::Org => org(alloc, operands),
+        Kind::Equate => equate(alloc, op, field),
+        Kind::Org => org(alloc, field),
         Kind::Pool => Ok(Task::Pool),
-        Kind::Externals => externals(alloc, operands),
-        Kind::Entries => entries(alloc, operands),
-        Kind::End => end(alloc, operands),
-        Kind::Using => using(alloc, operands),
-        Kind::Drop => dropping(alloc, operands),
+        Kind::Externals => externals(alloc, field),
+        Kind::Entries => entries(alloc, field),
+        Kind::End => end(alloc, field),
+        Kind::Using => using(alloc, field),
+        Kind::Drop => dropping(alloc, field),
         Kind::Other => Ok(Task::Other),
     }
 }
@@ -176,8 +175,7 @@ impl LayoutStatement {
         ensures { IfOk result (λ statement. statement_of statement ≡ spec.statement line.now.label line.now.op line.now.operands) }
     {
         let op = meaning(line.op.as_str());
-        let operands = split_field(alloc, line.operands.as_str())?;
-        let task = read_task(alloc, &op, line.operands.as_str(), operands.as_slice())?;
+        let task = read_task(alloc, &op, line.operands.as_str())?;
         Ok(LayoutStatement {
             label: label_on(&op, line.label.as_str()),
             op,

@@ -1,5 +1,5 @@
 //! Operands that are symbols.
-ghost use Rattle.std.specs.Prelude.{◌≡◌, ◌+◌, [], ◌∷◌, ◌++◌, map, IfOk, OnOk, MatchOption, encode_utf8_all};
+ghost use Rattle.std.specs.Prelude.{◌≡◌, ◌+◌, [], ◌∷◌, ◌++◌, map, IfOk, OnOk, encode_utf8_all};
 ghost use Rattle.std.specs.List.{prefix_len};
 ghost use Rattle.std.specs.Str.{chars};
 ghost use Rattle.hl_base.specs.Symbols.{is_symbol_character, symbol_of};
@@ -7,6 +7,7 @@ ghost use Rattle.layout_statements.specs.Symbols as spec;
 ghost use Rattle.layout_statements.specs.Views.{symbol_reading_of};
 
 use hl_base::{Name, OutOfMemory, Text, is_letter, is_symbol_character};
+use operand_list::hlasm_statements::text::head;
 use std::alloc::Global;
 
 /// How many characters a symbol has at most.
@@ -17,17 +18,6 @@ const MOST_CHARACTERS: usize = 63;
 pub enum ReadSymbol {
     Name(Name),
     At(u32),
-}
-
-/// The first character of a text, and what is behind it.
-pub(crate) fn head(text: &str) -> Option<(char, &str)>
-    ensures { MatchOption result (chars text.now ≡ []) (λ p. chars text.now ≡ p.0 ∷ chars p.1.now) }
-{
-    let mut rest = text.chars();
-    match rest.next() {
-        Some(c) => Some((c, rest.as_str())),
-        None => None,
-    }
 }
 
 /// How many characters of a text some symbol begins with.

@@ -1,3 +1,2 @@
-pub mod TextLaws
 pub mod Opens
 pub mod LiteralLaws

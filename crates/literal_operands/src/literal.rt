@@ -1,5 +1,5 @@
 //! Literals in operands.
-ghost use Rattle.std.specs.Prelude.{◌≡◌, ◌∷◌, [], Some, IfOk, MatchOption, is_some};
+ghost use Rattle.std.specs.Prelude.{◌≡◌, [], Some, IfOk, is_some};
 ghost use Rattle.std.specs.Str.{chars};
 ghost use Rattle.std.specs.Option.{option_map};
 ghost use Rattle.constant_operands.specs.Operands.{operand};
@@ -11,6 +11,7 @@ use crate::pair::last_pair;
 use constant_operands::{ConstantOperand, ConstantUse};
 use hl_base::OutOfMemory;
 use hlasm_statements::split_columns;
+use hlasm_statements::text::head;
 use std::alloc::Global;
 
 /// A literal in an operand: its text behind the equals sign, what that is as a constant, and what stands behind it.
@@ -19,17 +20,6 @@ pub struct LiteralOperand<'a> {
     pub text: &'a str,
     pub constant: ConstantOperand,
     pub behind: &'a str,
-}
-
-/// The first character of a text, and what is behind it.
-fn head(text: &str) -> Option<(char, &str)>
-    ensures { MatchOption result (chars text.now ≡ []) (λ p. chars text.now ≡ p.0 ∷ chars p.1.now) }
-{
-    let mut rest = text.chars();
-    match rest.next() {
-        Some(c) => Some((c, rest.as_str())),
-        None => None,
-    }
 }
 
 /// Whether a text was read as a constant that has its values.

@@ -20,7 +20,7 @@ use Rattle.expression_grammar.specs.Reading.{State}
 use Rattle.character_grammar.specs.Texts.{spell_text}
 use Rattle.character_grammar.specs.TextReading.{TextState, text_weight}
 use Rattle.logical_grammar.specs.Logics.{IsNumber, IsCharacters, IsLogical, IsTruth, Joined, Negated, operator_word, comparison_word, not_word, capitals, touches_behind, touches_ahead}
-use Rattle.logical_grammar.specs.LogicReading.{Open, Negation, Both, Group, Against, Point, Want, MaybeNot, Letters, Number, Text, Ended, Comparing, Right, Closed, Had, LogicState, open_size, point_weight, logic_weight}
+use Rattle.logical_grammar.specs.LogicReading.{Open, Negation, LeftOperand, Group, OpenRelation, Point, Want, NotOrAttribute, Letters, Number, Text, BehindText, Comparing, Right, Closed, BehindTruth, LogicState, open_size, point_weight, logic_weight}
 use Rattle.logical_grammar.specs.LogicStanding.{Takes, AreOpen, Opened, Under, Begun, Parenthesized, IsSide, Initial, Partly, PointReads, StateReads, LogicHolds, behind_word, is_empty}
 use Rattle.expression_grammar.proofs.Pieces.{append-nil, reads-join, reads-kind_gap, one_of, gap-longer}
 use Rattle.expression_grammar.proofs.Appends.{spell-over}
@@ -103,7 +103,7 @@ truth-completes [] at tree text t a h = record { rest = []; tree = tree; is = su
 truth-completes (Negation ∷ layers) at tree text t a h =
     same-size at text (open_size layers + (1 + size tree)) (1 + open_size layers + size tree) (omega arith)
     (truth-completes layers at (Not tree) text (takes-high layers 3 (omega arith) a) a (under-became layers (Negated (IsTruth tree)) (IsTruth (Not tree)) text (λ part n. inr (t, n)) h))
-truth-completes (Both operator left ∷ layers) at tree text t a h =
+truth-completes (LeftOperand operator left ∷ layers) at tree text t a h =
     same-size at text (open_size layers + (size left + 1 + size tree)) (size left + 1 + open_size layers + size tree) (omega arith)
     (truth-completes layers at (Pair operator left tree) text a.2 a.3
     (under-became layers (Joined (IsTruth left) (operator_word operator) (IsTruth tree)) (IsTruth (Pair operator left tree)) text (λ part j. inr (a.0, a.1, t, j)) h))
@@ -243,13 +243,13 @@ count-number before first at g e =
       );
     }
 
-maybe-completes : (layers : List Open) (first : Placed) (at : ℕ) (text : List Placed) → AreOpen layers → Under layers (PointReads (behind_word layers) (MaybeNot first)) text → LogicCompletes at text (open_size layers + 1)
-maybe-completes layers first at text a h =
-    let i = innermost layers (PointReads (behind_word layers) (MaybeNot first)) text a h in
+not-or-attribute-completes : (layers : List Open) (first : Placed) (at : ℕ) (text : List Placed) → AreOpen layers → Under layers (PointReads (behind_word layers) (NotOrAttribute first)) text → LogicCompletes at text (open_size layers + 1)
+not-or-attribute-completes layers first at text a h =
+    let i = innermost layers (PointReads (behind_word layers) (NotOrAttribute first)) text a h in
     let rest : List ℕ = 39 ∷ 38 ∷ 65 ∷ [] in
     let tree : Tree = Variable (Of attribute.Number) (symbol_at (at + 1) (65 ∷ [])) NoTrees in
     let e : i.part ++ placed at rest ≡ i.is.0 ++ first ∷ placed at rest = ap (λ xs. xs ++ placed at rest) i.is.1 ∙ append_assoc i.is.0 (first ∷ []) (placed at rest) in
-    grown-completes layers (PointReads (behind_word layers) (MaybeNot first)) at text i rest tree 1 a (inl (subst (IsNumber tree) (sym e) (count-number i.is.0 first at i.is.2 i.is.3)))
+    grown-completes layers (PointReads (behind_word layers) (NotOrAttribute first)) at text i rest tree 1 a (inl (subst (IsNumber tree) (sym e) (count-number i.is.0 first at i.is.2 i.is.3)))
     (ahead-kept i.part (placed at rest) (ap is_empty i.is.1 ∙ some-last i.is.0 first)) (omega arith) refl
 
 -- Letters of an operator word are to come.
@@ -320,19 +320,19 @@ letters-completes (Negation ∷ layers) rest at text a h =
     more-completes at text more (open_size (Negation ∷ layers) + 1)
     (truth-completes (Negation ∷ layers) (at + length more) (NumberTree Decimal 0) (text ++ placed at more) (omega arith) a
     (i.back (Negated (IsTruth (NumberTree Decimal 0))) (placed at more) (partly-negated rest at i.part i.is) (λ w. ahead-kept i.part (placed at more) (partly-some (IsGap Arithmetic) not_word rest i.part i.is))))
-letters-completes (Both operator left ∷ layers) rest at text a h =
+letters-completes (LeftOperand operator left ∷ layers) rest at text a h =
     let IsLeft : List Placed → Type 0 = λ part. IsTruth left part × (touches_behind false part ≡ false) in
     let i = innermost layers (Partly IsLeft (operator_word operator) rest) text a.3 h in
     let more : List ℕ = rest ++ 32 ∷ 48 ∷ [] in
-    more-completes at text more (open_size (Both operator left ∷ layers) + 1)
-    (truth-completes (Both operator left ∷ layers) (at + length more) (NumberTree Decimal 0) (text ++ placed at more) (takes-high (Both operator left ∷ layers) 7 (omega arith) a) a
+    more-completes at text more (open_size (LeftOperand operator left ∷ layers) + 1)
+    (truth-completes (LeftOperand operator left ∷ layers) (at + length more) (NumberTree Decimal 0) (text ++ placed at more) (takes-high (LeftOperand operator left ∷ layers) 7 (omega arith) a) a
     (i.back (Joined (IsTruth left) (operator_word operator) (IsTruth (NumberTree Decimal 0))) (placed at more) (partly-joined operator left rest at i.part i.is)
     (λ w. ahead-kept i.part (placed at more) (partly-some IsLeft (operator_word operator) rest i.part i.is))))
 
 -- Within a number.
 
-number-completes : (layers : List Open) (against : Option Against) (inner : State) (touch : Bool) (at : ℕ) (text : List Placed) → AreOpen layers →
-    Under layers (PointReads (behind_word layers) (Number against inner touch)) text → LogicCompletes at text (open_size layers + point_weight (Number against inner touch))
+number-completes : (layers : List Open) (relation : Option OpenRelation) (inner : State) (touch : Bool) (at : ℕ) (text : List Placed) → AreOpen layers →
+    Under layers (PointReads (behind_word layers) (Number relation inner touch)) text → LogicCompletes at text (open_size layers + point_weight (Number relation inner touch))
 number-completes layers None inner touch at text a h =
     let IsPart : List Placed → Type 0 = PointReads (behind_word layers) (Number None inner touch) in
     let i = innermost layers IsPart text a h in
@@ -340,17 +340,17 @@ number-completes layers None inner touch at text a h =
     let n : IsNumber c.tree (i.part ++ placed at c.rest) = record { fits = c.fits; reads = c.reads } in
     let exact = c.exact in
     grown-completes layers IsPart at text i c.rest c.tree (0 + reading.weight inner) a (inl n) (ahead-kept i.part (placed at c.rest) i.is.0.1) (omega (arith, number-rank c.tree (i.part ++ placed at c.rest) n)) (omega arith)
-number-completes layers (Some against) inner touch at text a h =
-    let IsPart : List Placed → Type 0 = PointReads (behind_word layers) (Number (Some against) inner touch) in
+number-completes layers (Some relation) inner touch at text a h =
+    let IsPart : List Placed → Type 0 = PointReads (behind_word layers) (Number (Some relation) inner touch) in
     let i = innermost layers IsPart text a h in
     let j = i.is.0 in
     let c = completes Arithmetic inner at j.right j.second.0 in
     let n : IsNumber c.tree (j.right ++ placed at c.rest) = record { fits = c.fits; reads = c.reads } in
     let IsInner : List Placed → Type 0 = λ part. reading.Holds Arithmetic inner part × (is_empty part ≡ false) in
-    let word : List ℕ = comparison_word against.comparison in
-    grown-completes layers IsPart at text i c.rest (Compared against.comparison against.left c.tree) (size against.left + 1 + reading.weight inner) a
-    (inr (inl (joined-more (IsNumber against.left) IsInner (IsNumber c.tree) word i.part (placed at c.rest) j n (ahead-kept j.right (placed at c.rest) j.second.1))))
-    (ahead-kept i.part (placed at c.rest) (compared-some (IsNumber against.left) IsInner against.comparison i.part j)) (omega arith) (ap (λ k. size against.left + 1 + k) c.exact)
+    let word : List ℕ = comparison_word relation.comparison in
+    grown-completes layers IsPart at text i c.rest (Compared relation.comparison relation.left c.tree) (size relation.left + 1 + reading.weight inner) a
+    (inr (inl (joined-more (IsNumber relation.left) IsInner (IsNumber c.tree) word i.part (placed at c.rest) j n (ahead-kept j.right (placed at c.rest) j.second.1))))
+    (ahead-kept i.part (placed at c.rest) (compared-some (IsNumber relation.left) IsInner relation.comparison i.part j)) (omega arith) (ap (λ k. size relation.left + 1 + k) c.exact)
 
 -- Texts.
 
@@ -398,8 +398,8 @@ text-compared tree part at c =
       apart_right = refl;
     })
 
-text-completes : (layers : List Open) (against : Option Against) (inner : TextState) (touch : Bool) (at : ℕ) (text : List Placed) → AreOpen layers →
-    Under layers (PointReads (behind_word layers) (Text against inner touch)) text → LogicCompletes at text (open_size layers + point_weight (Text against inner touch))
+text-completes : (layers : List Open) (relation : Option OpenRelation) (inner : TextState) (touch : Bool) (at : ℕ) (text : List Placed) → AreOpen layers →
+    Under layers (PointReads (behind_word layers) (Text relation inner touch)) text → LogicCompletes at text (open_size layers + point_weight (Text relation inner touch))
 text-completes layers None inner touch at text a h =
     let IsPart : List Placed → Type 0 = PointReads (behind_word layers) (Text None inner touch) in
     let i = innermost layers IsPart text a h in
@@ -412,20 +412,20 @@ text-completes layers None inner touch at text a h =
     grown-completes layers IsPart at text i (c.rest ++ last) tree (2 + text_weight inner) a
     (inr (subst (IsLogical tree) same (text-compared c.tree (i.part ++ placed at c.rest) (at + length c.rest) c.is)))
     (ahead-kept i.part (placed at (c.rest ++ last)) i.is.0.1) (omega arith) (omega arith)
-text-completes layers (Some against) inner touch at text a h =
-    let IsPart : List Placed → Type 0 = PointReads (behind_word layers) (Text (Some against) inner touch) in
+text-completes layers (Some relation) inner touch at text a h =
+    let IsPart : List Placed → Type 0 = PointReads (behind_word layers) (Text (Some relation) inner touch) in
     let i = innermost layers IsPart text a h in
     let j = i.is.0 in
     let c = characters-end inner at j.right j.second.0 in
     let IsInner : List Placed → Type 0 = λ part. Begun inner part × (is_empty part ≡ false) in
-    let word : List ℕ = comparison_word against.comparison in
-    grown-completes layers IsPart at text i c.rest (Compared against.comparison against.left c.tree) (size against.left + 1 + text_weight inner) a
-    (inr (inr (joined-more (IsCharacters against.left) IsInner (IsCharacters c.tree) word i.part (placed at c.rest) j c.is (ahead-kept j.right (placed at c.rest) j.second.1))))
-    (ahead-kept i.part (placed at c.rest) (compared-some (IsCharacters against.left) IsInner against.comparison i.part j)) (omega arith) (ap (λ k. size against.left + 1 + k) c.exact)
+    let word : List ℕ = comparison_word relation.comparison in
+    grown-completes layers IsPart at text i c.rest (Compared relation.comparison relation.left c.tree) (size relation.left + 1 + text_weight inner) a
+    (inr (inr (joined-more (IsCharacters relation.left) IsInner (IsCharacters c.tree) word i.part (placed at c.rest) j c.is (ahead-kept j.right (placed at c.rest) j.second.1))))
+    (ahead-kept i.part (placed at c.rest) (compared-some (IsCharacters relation.left) IsInner relation.comparison i.part j)) (omega arith) (ap (λ k. size relation.left + 1 + k) c.exact)
 
-ended-completes : (layers : List Open) (tree : Tree) (at : ℕ) (text : List Placed) → AreOpen layers → Under layers (PointReads (behind_word layers) (Ended tree)) text → LogicCompletes at text (open_size layers + (size tree + 2))
-ended-completes layers tree at text a h =
-    let IsPart : List Placed → Type 0 = PointReads (behind_word layers) (Ended tree) in
+behind-text-completes : (layers : List Open) (tree : Tree) (at : ℕ) (text : List Placed) → AreOpen layers → Under layers (PointReads (behind_word layers) (BehindText tree)) text → LogicCompletes at text (open_size layers + (size tree + 2))
+behind-text-completes layers tree at text a h =
+    let IsPart : List Placed → Type 0 = PointReads (behind_word layers) (BehindText tree) in
     let i = innermost layers IsPart text a h in
     let last : List ℕ = 32 ∷ 69 ∷ 81 ∷ 32 ∷ 39 ∷ 39 ∷ [] in
     grown-completes layers IsPart at text i last (Compared Eq tree (Quoted NoItems)) (size tree + 2) a (inr (text-compared tree i.part at i.is.0)) (keeps-apart i.part (placed at last) refl) (omega arith) (omega arith)
@@ -477,20 +477,20 @@ comparing-completes layers letter is_text left at text a h =
     (inr (compared-logical is_text s.comparison left (side_tree is_text) (i.part ++ placed at rest) (initial-joined letter is_text left i.part at s n)))
     (ahead-kept i.part (placed at rest) (ap is_empty n.all ∙ some-last n.side n.first)) (omega arith) (omega arith)
 
-right-completes : (layers : List Open) (is_text : Bool) (against : Against) (touch : Bool) (at : ℕ) (text : List Placed) → AreOpen layers →
-    Under layers (PointReads (behind_word layers) (Right is_text against touch)) text → LogicCompletes at text (open_size layers + (size against.left + 2))
-right-completes layers is_text against touch at text a h =
-    let IsPart : List Placed → Type 0 = PointReads (behind_word layers) (Right is_text against touch) in
+right-completes : (layers : List Open) (is_text : Bool) (relation : OpenRelation) (touch : Bool) (at : ℕ) (text : List Placed) → AreOpen layers →
+    Under layers (PointReads (behind_word layers) (Right is_text relation touch)) text → LogicCompletes at text (open_size layers + (size relation.left + 2))
+right-completes layers is_text relation touch at text a h =
+    let IsPart : List Placed → Type 0 = PointReads (behind_word layers) (Right is_text relation touch) in
     let IsBlank : List Placed → Type 0 = λ part. IsGap Arithmetic part × (touch ≡ is_empty part) in
     let i = innermost layers IsPart text a h in
     let j = i.is in
     let rest : List ℕ = side_rest is_text in
     let tree : Tree = side_tree is_text in
     let one = side-size is_text in
-    grown-completes layers IsPart at text i rest (Compared against.comparison against.left tree) (size against.left + 2) a
-    (inr (compared-logical is_text against.comparison against.left tree (i.part ++ placed at rest)
-    (joined-more (IsSide is_text against.left) IsBlank (IsSide is_text tree) (comparison_word against.comparison) i.part (placed at rest) j (side-is is_text j.right at j.second.0) (keeps-apart j.right (placed at rest) (side-apart is_text at)))))
-    (ahead-kept i.part (placed at rest) (compared-some (IsSide is_text against.left) IsBlank against.comparison i.part j)) (omega arith) (omega arith)
+    grown-completes layers IsPart at text i rest (Compared relation.comparison relation.left tree) (size relation.left + 2) a
+    (inr (compared-logical is_text relation.comparison relation.left tree (i.part ++ placed at rest)
+    (joined-more (IsSide is_text relation.left) IsBlank (IsSide is_text tree) (comparison_word relation.comparison) i.part (placed at rest) j (side-is is_text j.right at j.second.0) (keeps-apart j.right (placed at rest) (side-apart is_text at)))))
+    (ahead-kept i.part (placed at rest) (compared-some (IsSide is_text relation.left) IsBlank relation.comparison i.part j)) (omega arith) (omega arith)
 
 -- What is whole.
 
@@ -515,24 +515,24 @@ whole-completes : (layers : List Open) (IsPart : List Placed → Type 0) (tree :
     Under layers IsPart text → LogicCompletes at text (open_size layers + size tree)
 whole-completes layers IsPart tree at text a r turn h = truth-completes layers at tree text (takes-high layers (rank tree) r a) a (under-became layers IsPart (IsTruth tree) text turn h)
 
-had-completes : (layers : List Open) (tree : Tree) (at : ℕ) (text : List Placed) → AreOpen layers → Under layers (PointReads (behind_word layers) (Had tree)) text → LogicCompletes at text (open_size layers + size tree)
-had-completes layers tree at text a h =
-    let i = innermost layers (PointReads (behind_word layers) (Had tree)) text a h in
+behind-truth-completes : (layers : List Open) (tree : Tree) (at : ℕ) (text : List Placed) → AreOpen layers → Under layers (PointReads (behind_word layers) (BehindTruth tree)) text → LogicCompletes at text (open_size layers + size tree)
+behind-truth-completes layers tree at text a h =
+    let i = innermost layers (PointReads (behind_word layers) (BehindTruth tree)) text a h in
     let r = i.is.1 in
-    whole-completes layers (PointReads (behind_word layers) (Had tree)) tree at text a (omega arith) (λ part x. inr x.0) h
+    whole-completes layers (PointReads (behind_word layers) (BehindTruth tree)) tree at text a (omega arith) (λ part x. inr x.0) h
 
 point-completes : (layers : List Open) (point : Point) (at : ℕ) (text : List Placed) → AreOpen layers → StateReads layers point text → LogicCompletes at text (open_size layers + point_weight point)
 point-completes layers (Want touch) at text a h = want-completes layers touch at text a h
-point-completes layers (MaybeNot first) at text a h = maybe-completes layers first at text a h
+point-completes layers (NotOrAttribute first) at text a h = not-or-attribute-completes layers first at text a h
 point-completes layers (Letters rest) at text a h = letters-completes layers rest at text a h
-point-completes layers (Number against inner touch) at text a h = number-completes layers against inner touch at text a h
-point-completes layers (Text against inner touch) at text a h = text-completes layers against inner touch at text a h
-point-completes layers (Ended tree) at text a h = ended-completes layers tree at text a h
+point-completes layers (Number relation inner touch) at text a h = number-completes layers relation inner touch at text a h
+point-completes layers (Text relation inner touch) at text a h = text-completes layers relation inner touch at text a h
+point-completes layers (BehindText tree) at text a h = behind-text-completes layers tree at text a h
 point-completes layers (Comparing letter is_text left) at text a h = comparing-completes layers letter is_text left at text a h
-point-completes layers (Right is_text against touch) at text a h = right-completes layers is_text against touch at text a h
+point-completes layers (Right is_text relation touch) at text a h = right-completes layers is_text relation touch at text a h
 point-completes layers (Closed inner) at text a h =
     whole-completes layers (PointReads (behind_word layers) (Closed inner)) (Paren inner) at text a (omega arith) (λ part x. inl (parenthesized-number inner part x.0)) h
-point-completes layers (Had tree) at text a h = had-completes layers tree at text a h
+point-completes layers (BehindTruth tree) at text a h = behind-truth-completes layers tree at text a h
 
 -- whatever was read can be completed
 pub logic_completes : (state : LogicState) (at : ℕ) (text : List Placed) → LogicHolds state text → LogicCompletes at text (logic_weight state)

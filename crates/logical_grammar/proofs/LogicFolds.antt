@@ -13,7 +13,7 @@ use Rattle.expression_grammar.specs.Reading.{Want, accept}
 use Rattle.character_grammar.specs.Texts.{spell_text, IsText}
 use Rattle.logical_grammar.specs.Logics.{IsNumber, IsCharacters, IsTruth, IsLogical, Joined, Negated, operator_word, comparison_word, is_logical, touches_behind}
 use Rattle.character_grammar.specs.TextReading.{WantPart, text_accept}
-use Rattle.logical_grammar.specs.LogicReading.{Open, Negation, Both, Group, LogicFolded, logic_fold}
+use Rattle.logical_grammar.specs.LogicReading.{Open, Negation, LeftOperand, Group, LogicFolded, logic_fold}
 use Rattle.logical_grammar.specs.LogicStanding.{Takes, AreOpen, Under, is_empty}
 use Rattle.expression_grammar.proofs.Appends.{spell-over}
 use Rattle.expression_grammar.proofs.Pieces.{reads-cut, last-turned, gap-longer}
@@ -174,8 +174,8 @@ fold-logical floor tree (Negation ∷ layers) touch text f h t a r =
     (under-became layers (Negated (Ends IsLogical tree touch)) (Ends IsLogical (Not tree) touch) text
     (λ u n. negated-closes tree touch u t
     (record { before = n.before; letters = n.letters; operand = n.operand; all = n.all; blank = n.blank; named = n.named; is = (inr n.is.0, n.is.1); apart = n.apart })) r)
-fold-logical floor tree (Both operator left ∷ layers) touch text f h t a r =
-    let otherwise : LogicFolded = record { tree = tree; layers = Both operator left ∷ layers } in
+fold-logical floor tree (LeftOperand operator left ∷ layers) touch text f h t a r =
+    let otherwise : LogicFolded = record { tree = tree; layers = LeftOperand operator left ∷ layers } in
     let go : (b : Bool) → nat_le floor (strength operator) ≡ b → Folds IsLogical floor touch text (if b then logic_fold floor (Pair operator left tree) layers else otherwise) =
     elim [
       | true ↦ λ e. fold-logical floor (Pair operator left tree) layers touch text f (grind (arith, nat_tests)) a.2 a.3
@@ -205,7 +205,7 @@ fold-not floor tree layers touch text f t a r =
     (under-became layers (Negated (Ends IsTruth tree touch)) (Ends IsLogical (Not tree) touch) text (λ u n. negated-closes tree touch u t n) r)
 
 pub fold-pair : (floor : ℕ) (operator : Operator) (left tree : Tree) (layers : List Open) (touch : Bool) (text : List Placed) → floor ≤ 3 → floor ≤ strength operator → strength operator < rank tree →
-    AreOpen (Both operator left ∷ layers) → Under layers (Joined (IsTruth left) (operator_word operator) (λ part. IsTruth tree part × (touches_behind false part ≡ touch))) text →
+    AreOpen (LeftOperand operator left ∷ layers) → Under layers (Joined (IsTruth left) (operator_word operator) (λ part. IsTruth tree part × (touches_behind false part ≡ touch))) text →
     Folds IsLogical floor touch text (logic_fold floor (Pair operator left tree) layers)
 fold-pair floor operator left tree layers touch text f h t a r =
     fold-logical floor (Pair operator left tree) layers touch text f h a.2 a.3
@@ -217,8 +217,8 @@ pub fold-truth : (floor : ℕ) (tree : Tree) (layers : List Open) (touch : Bool)
 fold-truth floor tree [] touch text f h t a r = record { high = h; takes = tt; ordered = a; reads = r }
 fold-truth floor tree (Negation ∷ layers) touch text f h t a r =
     logical-truth floor touch text (logic_fold floor (Not tree) layers) (fold-not floor tree layers touch text f t a r)
-fold-truth floor tree (Both operator left ∷ layers) touch text f h t a r =
-    let otherwise : LogicFolded = record { tree = tree; layers = Both operator left ∷ layers } in
+fold-truth floor tree (LeftOperand operator left ∷ layers) touch text f h t a r =
+    let otherwise : LogicFolded = record { tree = tree; layers = LeftOperand operator left ∷ layers } in
     let go : (b : Bool) → nat_le floor (strength operator) ≡ b → Folds IsTruth floor touch text (if b then logic_fold floor (Pair operator left tree) layers else otherwise) =
     elim [
       | true ↦ λ e. logical-truth floor touch text (logic_fold floor (Pair operator left tree) layers) (fold-pair floor operator left tree layers touch text f (grind (arith, nat_tests)) t a r)

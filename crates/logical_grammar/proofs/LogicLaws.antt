@@ -13,7 +13,7 @@ use Rattle.expression_grammar.specs.Characters.{kind_of, strength}
 use Rattle.expression_grammar.specs.Trees.{Tree, Pair}
 use Rattle.expression_grammar.specs.Spelling.{Placed, IsGap}
 use Rattle.logical_grammar.specs.Logics.{is_logical, capitals, touches_behind, touches_ahead}
-use Rattle.logical_grammar.specs.LogicReading.{Open, Negation, Both, Group, Against, Point, Want, Letters, Right, LogicState, at_point, logic_fold, truth_apart, right_apart, spelling, after_letters, point_step, logic_step, logic_run}
+use Rattle.logical_grammar.specs.LogicReading.{Open, Negation, LeftOperand, Group, OpenRelation, Point, Want, Letters, Right, LogicState, at_point, logic_fold, truth_apart, right_apart, spelling, after_letters, point_step, logic_step, logic_run}
 use Rattle.logical_grammar.specs.LogicStanding.{Takes}
 use Rattle.expression_grammar.proofs.CharacterLaws.{letter-kind, upper-letter, IsNaming, by_letter, by_digit, symbol-kind}
 use Rattle.expression_grammar.proofs.Completions.{if-true}
@@ -75,10 +75,10 @@ pub want-apart : (layers : List Open) (touch : Bool) (p : Placed) (ps : List Pla
 unfolding logic_step
 want-apart layers touch p ps e = ap (λ b. option_and_then (λ s. logic_run s ps) (if b then None else truth_apart (kind_of p.code) p layers)) e
 
-pub right-apart : (layers : List Open) (is_text : Bool) (against : Against) (touch : Bool) (p : Placed) (ps : List Placed) → (touch && touches_ahead (p ∷ ps)) ≡ false →
-    logic_run (at_point layers (Right is_text against touch)) (p ∷ ps) ≡ logic_run (at_point layers (Right is_text against false)) (p ∷ ps)
+pub right-apart : (layers : List Open) (is_text : Bool) (relation : OpenRelation) (touch : Bool) (p : Placed) (ps : List Placed) → (touch && touches_ahead (p ∷ ps)) ≡ false →
+    logic_run (at_point layers (Right is_text relation touch)) (p ∷ ps) ≡ logic_run (at_point layers (Right is_text relation false)) (p ∷ ps)
 unfolding logic_step
-right-apart layers is_text against touch p ps e = ap (λ b. option_and_then (λ s. logic_run s ps) (if b then None else right_apart is_text against (kind_of p.code) p layers)) e
+right-apart layers is_text relation touch p ps e = ap (λ b. option_and_then (λ s. logic_run s ps) (if b then None else right_apart is_text relation (kind_of p.code) p layers)) e
 
 -- Blanks.
 
@@ -87,12 +87,12 @@ want-gap layers [] back i = refl
 want-gap layers (p ∷ gap) back i =
     point-steps (Want false) layers (at_point layers (Want false)) p (gap ++ back) (ap (λ k. truth_apart k p layers) i.1) ∙ want-gap layers gap back i.2
 
-pub right-gap : (layers : List Open) (is_text : Bool) (against : Against) (gap back : List Placed) → IsGap Arithmetic gap →
-    logic_run (at_point layers (Right is_text against false)) (gap ++ back) ≡ logic_run (at_point layers (Right is_text against false)) back
-right-gap layers is_text against [] back i = refl
-right-gap layers is_text against (p ∷ gap) back i =
-    point-steps (Right is_text against false) layers (at_point layers (Right is_text against false)) p (gap ++ back) (ap (λ k. right_apart is_text against k p layers) i.1)
-    ∙ right-gap layers is_text against gap back i.2
+pub right-gap : (layers : List Open) (is_text : Bool) (relation : OpenRelation) (gap back : List Placed) → IsGap Arithmetic gap →
+    logic_run (at_point layers (Right is_text relation false)) (gap ++ back) ≡ logic_run (at_point layers (Right is_text relation false)) back
+right-gap layers is_text relation [] back i = refl
+right-gap layers is_text relation (p ∷ gap) back i =
+    point-steps (Right is_text relation false) layers (at_point layers (Right is_text relation false)) p (gap ++ back) (ap (λ k. right_apart is_text relation k p layers) i.1)
+    ∙ right-gap layers is_text relation gap back i.2
 
 -- Words.
 
@@ -139,14 +139,14 @@ if-false false x y e = refl
 pub logic_fold-none : (floor : ℕ) (tree : Tree) (layers : List Open) → floor < 3 → Takes layers floor → logic_fold floor tree layers ≡ record { tree = tree; layers = layers }
 logic_fold-none floor tree [] h t = refl
 logic_fold-none floor tree (Negation ∷ layers) h t = absurd (omega arith)
-logic_fold-none floor tree (Both operator left ∷ layers) h t =
-    if-false (nat_le floor (strength operator)) (logic_fold floor (Pair operator left tree) layers) (record { tree = tree; layers = Both operator left ∷ layers }) (gt-test floor (strength operator) t)
+logic_fold-none floor tree (LeftOperand operator left ∷ layers) h t =
+    if-false (nat_le floor (strength operator)) (logic_fold floor (Pair operator left tree) layers) (record { tree = tree; layers = LeftOperand operator left ∷ layers }) (gt-test floor (strength operator) t)
 logic_fold-none floor tree (Group ∷ layers) h t = refl
 
 pub takes-more : (layers : List Open) (low high : ℕ) → low ≤ high → Takes layers low → Takes layers high
 takes-more [] low high h t = tt
 takes-more (Negation ∷ layers) low high h t = omega arith
-takes-more (Both operator left ∷ layers) low high h t = omega arith
+takes-more (LeftOperand operator left ∷ layers) low high h t = omega arith
 takes-more (Group ∷ layers) low high h t = tt
 
 pub logical-strength : (operator : Operator) → IsTrue (is_logical operator) → strength operator < 3
@@ -156,6 +156,6 @@ logical-strength Xor i = omega arith
 logical-strength _ i = cc
 
 pub pair-folds : (floor : ℕ) (operator : Operator) (left right : Tree) (layers : List Open) → floor ≤ strength operator →
-    logic_fold floor right (Both operator left ∷ layers) ≡ logic_fold floor (Pair operator left right) layers
+    logic_fold floor right (LeftOperand operator left ∷ layers) ≡ logic_fold floor (Pair operator left right) layers
 pair-folds floor operator left right layers h =
-    if-true (nat_le floor (strength operator)) (logic_fold floor (Pair operator left right) layers) (record { tree = right; layers = Both operator left ∷ layers }) (le-test floor (strength operator) h)
+    if-true (nat_le floor (strength operator)) (logic_fold floor (Pair operator left right) layers) (record { tree = right; layers = LeftOperand operator left ∷ layers }) (le-test floor (strength operator) h)

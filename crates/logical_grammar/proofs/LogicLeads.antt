@@ -11,10 +11,10 @@ use Rattle.expression_grammar.specs.Characters.{strength}
 use Rattle.expression_grammar.specs.Spelling.{Placed, rank}
 use Rattle.expression_grammar.specs.Trees.{Tree, Pair, Paren, Not, Compared}
 use Rattle.logical_grammar.specs.Logics.{not_word, operator_word, is_logical, comparison_word, capitals, touches_behind, touches_ahead, Enclosed, IsNumber, IsLogical, IsTruth}
-use Rattle.logical_grammar.specs.LogicReading.{Open, Negation, Both, Group, Point, Want, MaybeNot, Letters, Comparing, Right, Had, LogicState, at_point, Operand, NumberOne, TruthOne, TextOne, settled, truth_of, LogicFolded, logic_fold, grouped, closing, pushed, joining, lettered, letter_begun, truth_apart, after_first, after_comparing, comparison_of, logic_run, whole_over, whole, logic_accept}
+use Rattle.logical_grammar.specs.LogicReading.{Open, Negation, LeftOperand, Group, Point, Want, NotOrAttribute, Letters, Comparing, Right, BehindTruth, LogicState, at_point, Operand, NumberOne, TruthOne, TextOne, settled, truth_of, LogicFolded, logic_fold, grouped, closing, pushed, joining, lettered, letter_begun, truth_apart, after_first, after_comparing, comparison_of, logic_run, whole_over, whole, logic_accept}
 use Rattle.logical_grammar.specs.LogicStanding.{Takes, behind_word}
 use Rattle.logical_grammar.proofs.LogicLaws.{point-steps, logic_run-append, kind-apart, touches-all, want-apart, want-gap, word-runs, capital-kind, first-letter, logic_fold-none, takes-more, logical-strength, pair-folds}
-use Rattle.logical_grammar.proofs.LogicStands.{Standing, had-stands, had-blank, OperandLead, gap-behind}
+use Rattle.logical_grammar.proofs.LogicStands.{Standing, behind-truth-stands, behind-truth-blank, OperandLead, gap-behind}
 use Rattle.logical_grammar.proofs.LogicNumbers.{number-lead, right_number-lead}
 use Rattle.logical_grammar.proofs.LogicTexts.{text-lead, right_text-lead}
 
@@ -22,7 +22,7 @@ use Rattle.logical_grammar.proofs.LogicTexts.{text-lead, right_text-lead}
 abbrev pub IsLogicalOne : Operand → List Open → Type 0
 IsLogicalOne (TruthOne tree) layers = Unit {0}
 IsLogicalOne (NumberOne tree) (Negation ∷ layers) = Unit {0}
-IsLogicalOne (NumberOne tree) (Both operator left ∷ layers) = Unit {0}
+IsLogicalOne (NumberOne tree) (LeftOperand operator left ∷ layers) = Unit {0}
 IsLogicalOne other layers = ⊥
 
 -- A text leads to a truth, which stands above what is open, and folds to a tree.
@@ -65,7 +65,7 @@ want-truth layers tree before touch (p ∷ ps) e l =
 number-logical : (tree : Tree) (layers : List Open) → behind_word layers ≡ true → IsLogicalOne (NumberOne tree) layers
 number-logical tree [] w = cc
 number-logical tree (Negation ∷ layers) w = tt
-number-logical tree (Both operator left ∷ layers) w = tt
+number-logical tree (LeftOperand operator left ∷ layers) w = tt
 number-logical tree (Group ∷ layers) w = cc
 
 number-truth : (layers : List Open) (tree : Tree) (before touch : Bool) (text : List Placed) → OperandLead (Want touch) layers (NumberOne tree) before text → TruthLead layers touch tree before text
@@ -82,7 +82,7 @@ either-truth layers tree before touch text e (inr i) go = let l = go i in want-t
 
 joins : (operator : Operator) (rest : List ℕ) (tree : Tree) (operand : Operand) (top : Tree) (layers above : List Open) → truth_of operand ≡ Some top → IsTrue (is_logical operator) →
     strength operator ≤ rank tree → Takes layers (strength operator) → ((floor : ℕ) → floor ≤ rank tree → logic_fold floor top above ≡ logic_fold floor tree layers) →
-    joining operator rest (truth_of operand) above ≡ Some (at_point (Both operator tree ∷ layers) (Letters rest))
+    joining operator rest (truth_of operand) above ≡ Some (at_point (LeftOperand operator tree ∷ layers) (Letters rest))
 joins operator rest tree operand top layers above is i h t folds =
     ap (λ found. joining operator rest found above) is
     ∙ ap (λ folded. Some (pushed operator rest folded)) (folds (strength operator) h ∙ logic_fold-none (strength operator) tree layers (logical-strength operator i) t)
@@ -91,25 +91,25 @@ joins operator rest tree operand top layers above is i h t folds =
 word-joins : (operator : Operator) (tree : Tree) (point : Point) (operand : Operand) (top : Tree) (layers above : List Open) (letters back : List Placed) → Standing point false operand →
     truth_of operand ≡ Some top → IsTrue (is_logical operator) → strength operator ≤ rank tree → Takes layers (strength operator) →
     ((floor : ℕ) → floor ≤ rank tree → logic_fold floor top above ≡ logic_fold floor tree layers) → capitals letters ≡ operator_word operator →
-    logic_run (at_point above point) (letters ++ back) ≡ logic_run (at_point (Both operator tree ∷ layers) (Want true)) back
+    logic_run (at_point above point) (letters ++ back) ≡ logic_run (at_point (LeftOperand operator tree ∷ layers) (Want true)) back
 word-joins And tree point operand top layers above letters back s is i h t folds e =
     let f = first-letter 65 (78 ∷ 68 ∷ []) letters e in
     ap (λ xs. logic_run (at_point above point) (xs ++ back)) f.both
-    ∙ point-steps point above (at_point (Both And tree ∷ layers) (Letters (78 ∷ 68 ∷ []))) f.first (f.others ++ back)
+    ∙ point-steps point above (at_point (LeftOperand And tree ∷ layers) (Letters (78 ∷ 68 ∷ []))) f.first (f.others ++ back)
     (s.spells refl f.first above (capital-kind f.first.code 65 f.upper refl) ∙ ap (λ u. lettered operand u above) f.upper ∙ joins And (78 ∷ 68 ∷ []) tree operand top layers above is i h t folds)
-    ∙ word-runs (Both And tree ∷ layers) f.others back (78 ∷ 68 ∷ []) f.named
+    ∙ word-runs (LeftOperand And tree ∷ layers) f.others back (78 ∷ 68 ∷ []) f.named
 word-joins Or tree point operand top layers above letters back s is i h t folds e =
     let f = first-letter 79 (82 ∷ []) letters e in
     ap (λ xs. logic_run (at_point above point) (xs ++ back)) f.both
-    ∙ point-steps point above (at_point (Both Or tree ∷ layers) (Letters (82 ∷ []))) f.first (f.others ++ back)
+    ∙ point-steps point above (at_point (LeftOperand Or tree ∷ layers) (Letters (82 ∷ []))) f.first (f.others ++ back)
     (s.spells refl f.first above (capital-kind f.first.code 79 f.upper refl) ∙ ap (λ u. lettered operand u above) f.upper ∙ joins Or (82 ∷ []) tree operand top layers above is i h t folds)
-    ∙ word-runs (Both Or tree ∷ layers) f.others back (82 ∷ []) f.named
+    ∙ word-runs (LeftOperand Or tree ∷ layers) f.others back (82 ∷ []) f.named
 word-joins Xor tree point operand top layers above letters back s is i h t folds e =
     let f = first-letter 88 (79 ∷ 82 ∷ []) letters e in
     ap (λ xs. logic_run (at_point above point) (xs ++ back)) f.both
-    ∙ point-steps point above (at_point (Both Xor tree ∷ layers) (Letters (79 ∷ 82 ∷ []))) f.first (f.others ++ back)
+    ∙ point-steps point above (at_point (LeftOperand Xor tree ∷ layers) (Letters (79 ∷ 82 ∷ []))) f.first (f.others ++ back)
     (s.spells refl f.first above (capital-kind f.first.code 88 f.upper refl) ∙ ap (λ u. lettered operand u above) f.upper ∙ joins Xor (79 ∷ 82 ∷ []) tree operand top layers above is i h t folds)
-    ∙ word-runs (Both Xor tree ∷ layers) f.others back (79 ∷ 82 ∷ []) f.named
+    ∙ word-runs (LeftOperand Xor tree ∷ layers) f.others back (79 ∷ 82 ∷ []) f.named
 word-joins _ tree point operand top layers above letters back s is i h t folds e = cc
 
 -- Comparisons.
@@ -197,14 +197,14 @@ word-compares comparison is_text left layers last letters back s e =
 
 pair-lead : (operator : Operator) (left right : Tree) (layers : List Open) (before : Bool) (text : List Placed) → Takes layers (strength operator) → IsLogical (Pair operator left right) text →
     ((b : Bool) (part : List Placed) → IsLogical left part → LogicalLead layers left b part) →
-    ((b : Bool) (part : List Placed) → IsLogical right part → LogicalLead (Both operator left ∷ layers) right b part) → LogicalLead layers (Pair operator left right) before text
+    ((b : Bool) (part : List Placed) → IsLogical right part → LogicalLead (LeftOperand operator left ∷ layers) right b part) → LogicalLead layers (Pair operator left right) before text
 pair-lead operator left right layers before text t i go more =
     let j = i.3 in
     let whole_text : text ≡ j.left ++ (j.letters ++ j.right) = j.all ∙ append_assoc j.left j.letters j.right in
     let start : LogicState = at_point layers (Want false) in
     let touched : Bool = touches_behind (touches_behind before j.left) j.letters in
     let l = either-truth layers left false false j.left refl j.first (go false j.left) in
-    let m = either-truth (Both operator left ∷ layers) right touched true j.right j.apart_right j.second (more touched j.right) in
+    let m = either-truth (LeftOperand operator left ∷ layers) right touched true j.right j.apart_right j.second (more touched j.right) in
     let high : strength operator < rank right = i.2 in
     record {
       lead = record {
@@ -229,9 +229,9 @@ not-runs layers letters back e =
     let f = first-letter 78 (79 ∷ 84 ∷ []) letters e in
     let g = first-letter 79 (84 ∷ []) f.others f.named in
     ap (λ xs. logic_run (at_point layers (Want false)) (xs ++ back)) (f.both ∙ ap (λ xs. f.first ∷ xs) g.both)
-    ∙ point-steps (Want false) layers (at_point layers (MaybeNot f.first)) f.first (g.first ∷ (g.others ++ back))
+    ∙ point-steps (Want false) layers (at_point layers (NotOrAttribute f.first)) f.first (g.first ∷ (g.others ++ back))
     (ap (λ k. truth_apart k f.first layers) (capital-kind f.first.code 78 f.upper refl) ∙ ap (λ u. letter_begun u f.first layers) f.upper)
-    ∙ point-steps (MaybeNot f.first) layers (at_point (Negation ∷ layers) (Letters (84 ∷ []))) g.first (g.others ++ back)
+    ∙ point-steps (NotOrAttribute f.first) layers (at_point (Negation ∷ layers) (Letters (84 ∷ []))) g.first (g.others ++ back)
     (ap (λ k. after_first f.first k g.first layers) (capital-kind g.first.code 79 g.upper refl)
     ∙ ap (λ u. if u == 79 then Some (at_point (Negation ∷ layers) (Letters (84 ∷ []))) else None) g.upper)
     ∙ word-runs (Negation ∷ layers) g.others back (84 ∷ []) g.named
@@ -296,8 +296,8 @@ closing-logical : (operand : Operand) (above : List Open) (top : Tree) → truth
 closing-logical (TruthOne tree) above top is l = let same : tree ≡ top = cc in ap (λ t. grouped (logic_fold 0 t above).tree (logic_fold 0 t above).layers) same
 closing-logical (NumberOne tree) (Negation ∷ layers) top is l =
     let same : tree ≡ top = cc in ap (λ t. grouped (logic_fold 0 t (Negation ∷ layers)).tree (logic_fold 0 t (Negation ∷ layers)).layers) same
-closing-logical (NumberOne tree) (Both operator left ∷ layers) top is l =
-    let same : tree ≡ top = cc in ap (λ t. grouped (logic_fold 0 t (Both operator left ∷ layers)).tree (logic_fold 0 t (Both operator left ∷ layers)).layers) same
+closing-logical (NumberOne tree) (LeftOperand operator left ∷ layers) top is l =
+    let same : tree ≡ top = cc in ap (λ t. grouped (logic_fold 0 t (LeftOperand operator left ∷ layers)).tree (logic_fold 0 t (LeftOperand operator left ∷ layers)).layers) same
 closing-logical (NumberOne tree) [] top is l = absurd l
 closing-logical (NumberOne tree) (Group ∷ layers) top is l = absurd l
 closing-logical (TextOne tree) above top is l = absurd l
@@ -308,8 +308,8 @@ group-lead inner layers before text e m =
     let start : LogicState = at_point layers (Want false) in
     let whole_tree : Tree = Paren inner in
     let rest : List Placed = e.closing ∷ e.behind in
-    let g = gap-behind layers (Had whole_tree) (Had whole_tree) (TruthOne whole_tree) false (had-stands whole_tree) (had-stands whole_tree)
-    (λ p k. had-blank whole_tree p layers k) (λ p k. had-blank whole_tree p layers k) e.behind e.blank_behind in
+    let g = gap-behind layers (BehindTruth whole_tree) (BehindTruth whole_tree) (TruthOne whole_tree) false (behind-truth-stands whole_tree) (behind-truth-stands whole_tree)
+    (λ p k. behind-truth-blank whole_tree p layers k) (λ p k. behind-truth-blank whole_tree p layers k) e.behind e.blank_behind in
     let touched : touches_behind before text ≡ touches_behind false e.behind =
     touches-all before text e.before (e.opening ∷ e.inner) rest e.all ∙ ap (λ b. touches_behind b e.behind) (kind-apart e.closing.code kind.Close e.closes refl) in
     truth-one layers whole_tree before text (record {
@@ -317,7 +317,7 @@ group-lead inner layers before text e m =
       runs = ap (logic_run start) e.all ∙ want-gap layers e.before (e.opening ∷ (e.inner ++ rest)) e.blank_before
           ∙ point-steps (Want false) layers (at_point (Group ∷ layers) (Want false)) e.opening (e.inner ++ rest) (ap (λ k. truth_apart k e.opening layers) e.opens)
           ∙ logic_run-append e.inner rest (at_point (Group ∷ layers) (Want false)) (at_point l.above l.last) l.runs
-          ∙ point-steps l.last l.above (at_point layers (Had whole_tree)) e.closing e.behind
+          ∙ point-steps l.last l.above (at_point layers (BehindTruth whole_tree)) e.closing e.behind
           (l.stands.closes e.closing l.above e.closes ∙ closing-logical l.operand l.above l.top l.is m.logical
           ∙ ap (λ (folded : LogicFolded). grouped folded.tree folded.layers) (l.folds 0 (omega arith)))
           ∙ g.runs;
@@ -328,7 +328,7 @@ logical-lead : (tree : Tree) (layers : List Open) (before : Bool) (text : List P
 logical-lead (Pair operator left right) layers before text t i =
     pair-lead operator left right layers before text t i
     (λ b part j. logical-lead left layers b part (takes-more layers (strength operator) (rank left) i.1 t) j)
-    (λ b part j. logical-lead right (Both operator left ∷ layers) b part i.2 j)
+    (λ b part j. logical-lead right (LeftOperand operator left ∷ layers) b part i.2 j)
 logical-lead (Not operand) layers before text t i = not-lead operand layers before text i (λ b part j. logical-lead operand (Negation ∷ layers) b part i.0 j)
 logical-lead (Compared comparison left right) layers before text t i = either-compared comparison left right layers before text i
 logical-lead (Paren inner) layers before text t i = group-lead inner layers before text i (logical-lead inner (Group ∷ layers) false i.inner tt i.is)

@@ -38,7 +38,7 @@ use Rattle.character_grammar.specs.TextReading as texts
 use Rattle.character_grammar.specs.TextReading.{TextState, text_step, text_accept, text_weight, after_part}
 use Rattle.character_grammar.specs.TextViews.{text_state, holder_of, left_of, opened_of}
 use Rattle.logical_grammar.specs.LogicReading as logic
-use Rattle.logical_grammar.specs.LogicReading.{Open, LogicState, Against, Operand, NumberOne, TruthOne, TextOne, number_side, text_side, on_number, on_text, behind_one, point_step, against_size, text_against_size, open_size, grouped, pushed, logic_fold, whole_over, LogicFolded, at_point, logic_step, logic_weight, logic_kept, logic_advance}
+use Rattle.logical_grammar.specs.LogicReading.{Open, LogicState, OpenRelation, Operand, NumberOne, TruthOne, TextOne, number_side, text_side, on_number, on_text, behind_one, point_step, relation_size, text_relation_size, open_size, grouped, pushed, logic_fold, whole_over, LogicFolded, at_point, logic_step, logic_weight, logic_kept, logic_advance}
 use Rattle.logical_grammar.specs.LogicViews.{LogicMoves, ends_number, closes_number, takes_letter, part_takes_letter, may_end_text, text_takes_letter, operand_weight, point_of, opening_of, open_of}
 use Rattle.expression_grammar.proofs.CharacterLaws.{digit-kind}
 use Rattle.expression_grammar.proofs.Completions.{if-true}
@@ -54,13 +54,13 @@ LogicMoves-same found other before same moved layers e f m =
 
 -- Sizes of operands.
 
-pub number_side-weight : (against : Option Against) (tree : Tree) → operand_weight (number_side against tree) ≡ against_size against + size tree
+pub number_side-weight : (relation : Option OpenRelation) (tree : Tree) → operand_weight (number_side relation tree) ≡ relation_size relation + size tree
 number_side-weight None tree = omega arith
-number_side-weight (Some against) tree = omega arith
+number_side-weight (Some relation) tree = omega arith
 
-pub text_side-weight : (against : Option Against) (tree : Tree) → operand_weight (text_side against tree) ≡ text_against_size against + size tree
+pub text_side-weight : (relation : Option OpenRelation) (tree : Tree) → operand_weight (text_side relation tree) ≡ text_relation_size relation + size tree
 text_side-weight None tree = omega arith
-text_side-weight (Some against) tree = omega arith
+text_side-weight (Some relation) tree = omega arith
 
 -- Numbers.
 
@@ -132,43 +132,43 @@ not-false true e = refl
 not-false false e = cc
 
 -- behind a number that no character ends there, nothing stands that does not belong to it
-stays-within : (against : Option Against) (at : Point) (ls : List Layer) (touch : Bool) (p : Placed) (layers : List Open) (k : Kind) (found : Option Tree) → kind_of p.code ≡ k →
+stays-within : (relation : Option OpenRelation) (at : Point) (ls : List Layer) (touch : Bool) (p : Placed) (layers : List Open) (k : Kind) (found : Option Tree) → kind_of p.code ≡ k →
     accept Arithmetic (stand at ls) ≡ found → ends_number at k ≡ false → step Arithmetic (stand at ls) p ≡ None →
-    logic.behind (option_map (number_side against) found) touch p layers ≡ None
-stays-within against at ls touch p layers k None e a n s = refl
-stays-within against at ls touch p layers kind.Blank (Some tree) e a n s = absurd (blank-goes_on (stand at ls) tree p e a s)
-stays-within against at ls touch p layers kind.Close (Some tree) e a n s = cc
-stays-within against at ls touch p layers kind.Letter (Some tree) e a n s = absurd (letter-goes_on at ls p e (not-false (takes_letter at) n) s)
-stays-within against at ls touch p layers (kind.Mark o) (Some tree) e a n s = ap (λ x. behind_one (number_side against tree) touch x p.code layers) e
-stays-within against at ls touch p layers kind.Open (Some tree) e a n s = ap (λ x. behind_one (number_side against tree) touch x p.code layers) e
-stays-within against at ls touch p layers kind.Comma (Some tree) e a n s = ap (λ x. behind_one (number_side against tree) touch x p.code layers) e
-stays-within against at ls touch p layers kind.Quote (Some tree) e a n s = ap (λ x. behind_one (number_side against tree) touch x p.code layers) e
-stays-within against at ls touch p layers kind.Ampersand (Some tree) e a n s = ap (λ x. behind_one (number_side against tree) touch x p.code layers) e
-stays-within against at ls touch p layers kind.Digit (Some tree) e a n s = ap (λ x. behind_one (number_side against tree) touch x p.code layers) e
-stays-within against at ls touch p layers kind.Other (Some tree) e a n s = ap (λ x. behind_one (number_side against tree) touch x p.code layers) e
+    logic.behind (option_map (number_side relation) found) touch p layers ≡ None
+stays-within relation at ls touch p layers k None e a n s = refl
+stays-within relation at ls touch p layers kind.Blank (Some tree) e a n s = absurd (blank-goes_on (stand at ls) tree p e a s)
+stays-within relation at ls touch p layers kind.Close (Some tree) e a n s = cc
+stays-within relation at ls touch p layers kind.Letter (Some tree) e a n s = absurd (letter-goes_on at ls p e (not-false (takes_letter at) n) s)
+stays-within relation at ls touch p layers (kind.Mark o) (Some tree) e a n s = ap (λ x. behind_one (number_side relation tree) touch x p.code layers) e
+stays-within relation at ls touch p layers kind.Open (Some tree) e a n s = ap (λ x. behind_one (number_side relation tree) touch x p.code layers) e
+stays-within relation at ls touch p layers kind.Comma (Some tree) e a n s = ap (λ x. behind_one (number_side relation tree) touch x p.code layers) e
+stays-within relation at ls touch p layers kind.Quote (Some tree) e a n s = ap (λ x. behind_one (number_side relation tree) touch x p.code layers) e
+stays-within relation at ls touch p layers kind.Ampersand (Some tree) e a n s = ap (λ x. behind_one (number_side relation tree) touch x p.code layers) e
+stays-within relation at ls touch p layers kind.Digit (Some tree) e a n s = ap (λ x. behind_one (number_side relation tree) touch x p.code layers) e
+stays-within relation at ls touch p layers kind.Other (Some tree) e a n s = ap (λ x. behind_one (number_side relation tree) touch x p.code layers) e
 
-pub within_number : (against : Option Against) (at : Point) (ls : List Layer) (touch : Bool) (p : Placed) (layers : List Open) → ends_number at (kind_of p.code) ≡ false →
-    point_step (logic.Number against (stand at ls) touch) p layers ≡ on_number against (step Arithmetic (stand at ls) p) None false p layers
-within_number against at ls touch p layers n =
+pub within_number : (relation : Option OpenRelation) (at : Point) (ls : List Layer) (touch : Bool) (p : Placed) (layers : List Open) → ends_number at (kind_of p.code) ≡ false →
+    point_step (logic.Number relation (stand at ls) touch) p layers ≡ on_number relation (step Arithmetic (stand at ls) p) None false p layers
+within_number relation at ls touch p layers n =
     let go : (found : Option State) → step Arithmetic (stand at ls) p ≡ found →
-    on_number against found (option_map (number_side against) (accept Arithmetic (stand at ls))) touch p layers ≡ on_number against found None false p layers =
+    on_number relation found (option_map (number_side relation) (accept Arithmetic (stand at ls))) touch p layers ≡ on_number relation found None false p layers =
     elim [
-      | None ↦ λ e. stays-within against at ls touch p layers (kind_of p.code) (accept Arithmetic (stand at ls)) refl refl n e
+      | None ↦ λ e. stays-within relation at ls touch p layers (kind_of p.code) (accept Arithmetic (stand at ls)) refl refl n e
       | Some next ↦ λ e. refl
     ] in
     go (step Arithmetic (stand at ls) p) refl
 
 -- a number that cannot end has nothing behind it
-unsettled : (against : Option Against) (found : Option State) (whole : Option Tree) (touch : Bool) (p : Placed) (layers : List Open) → whole ≡ None →
-    on_number against found (option_map (number_side against) whole) touch p layers ≡ on_number against found None false p layers
-unsettled against None whole touch p layers e = ap (λ w. logic.behind (option_map (number_side against) w) touch p layers) e
-unsettled against (Some next) whole touch p layers e = refl
+unsettled : (relation : Option OpenRelation) (found : Option State) (whole : Option Tree) (touch : Bool) (p : Placed) (layers : List Open) → whole ≡ None →
+    on_number relation found (option_map (number_side relation) whole) touch p layers ≡ on_number relation found None false p layers
+unsettled relation None whole touch p layers e = ap (λ w. logic.behind (option_map (number_side relation) w) touch p layers) e
+unsettled relation (Some next) whole touch p layers e = refl
 
-pub open_number : (against : Option Against) (state other : State) (touch : Bool) (p : Placed) (layers : List Open) → settled Arithmetic state ≡ None → other ≡ state →
-    point_step (logic.Number against state touch) p layers ≡ on_number against (step Arithmetic other p) None false p layers
-open_number against state other touch p layers e s =
-    unsettled against (step Arithmetic state p) (accept Arithmetic state) touch p layers (accept-none Arithmetic state e)
-    ∙ ap (λ x. on_number against (step Arithmetic x p) None false p layers) (sym s)
+pub open_number : (relation : Option OpenRelation) (state other : State) (touch : Bool) (p : Placed) (layers : List Open) → settled Arithmetic state ≡ None → other ≡ state →
+    point_step (logic.Number relation state touch) p layers ≡ on_number relation (step Arithmetic other p) None false p layers
+open_number relation state other touch p layers e s =
+    unsettled relation (step Arithmetic state p) (accept Arithmetic state) touch p layers (accept-none Arithmetic state e)
+    ∙ ap (λ x. on_number relation (step Arithmetic x p) None false p layers) (sym s)
 
 -- What ends a number.
 
@@ -233,11 +233,11 @@ at-accept state tree ls (as_tree s) = ap (accept Arithmetic) s
 at-accept state tree ls (as_part part s f) = ap (accept Arithmetic) s ∙ ap (λ x. option_and_then whole (option_map (λ t. fold 0 t ls) x)) f
 
 -- a number that may end here stands as its tree
-pub at_number : (against : Option Against) (at : Point) (tree : Tree) (ls : List Layer) (touch : Bool) (p : Placed) (layers : List Open) → ends_number at (kind_of p.code) ≡ true →
-    IsAtTree Arithmetic (stand at ls) tree ls → point_step (logic.Number against (stand at ls) touch) p layers ≡ point_step (logic.Number against (Have tree ls) touch) p layers
-at_number against at tree ls touch p layers n a =
-    ap (λ x. on_number against x (option_map (number_side against) (accept Arithmetic (stand at ls))) touch p layers) (end-step at tree ls p (kind_of p.code) refl n a)
-    ∙ ap (λ x. on_number against (step Arithmetic (Have tree ls) p) (option_map (number_side against) x) touch p layers) (at-accept (stand at ls) tree ls a)
+pub at_number : (relation : Option OpenRelation) (at : Point) (tree : Tree) (ls : List Layer) (touch : Bool) (p : Placed) (layers : List Open) → ends_number at (kind_of p.code) ≡ true →
+    IsAtTree Arithmetic (stand at ls) tree ls → point_step (logic.Number relation (stand at ls) touch) p layers ≡ point_step (logic.Number relation (Have tree ls) touch) p layers
+at_number relation at tree ls touch p layers n a =
+    ap (λ x. on_number relation x (option_map (number_side relation) (accept Arithmetic (stand at ls))) touch p layers) (end-step at tree ls p (kind_of p.code) refl n a)
+    ∙ ap (λ x. on_number relation (step Arithmetic (Have tree ls) p) (option_map (number_side relation) x) touch p layers) (at-accept (stand at ls) tree ls a)
 
 pub ends-closes : (at : Point) (k : Kind) → ends_number at k ≡ true → closes_number k ≡ true
 ends-closes at kind.Close e = refl
@@ -251,12 +251,12 @@ over-step tree one ls p kind.Letter e n f = have-letter tree ls p e
 over-step tree one ls p _ e n f = cc
 
 -- behind a number with nothing open in it
-pub behind_number : (against : Option Against) (tree one : Tree) (ls : List Layer) (touch : Bool) (p : Placed) (layers : List Open) → closes_number (kind_of p.code) ≡ true →
+pub behind_number : (relation : Option OpenRelation) (tree one : Tree) (ls : List Layer) (touch : Bool) (p : Placed) (layers : List Open) → closes_number (kind_of p.code) ≡ true →
     fold 0 tree ls ≡ record { tree = one; layers = [] } →
-    point_step (logic.Number against (Have tree ls) touch) p layers ≡ behind_one (number_side against one) touch (kind_of p.code) p.code layers
-behind_number against tree one ls touch p layers n f =
-    ap (λ x. on_number against x (option_map (number_side against) (accept Arithmetic (Have tree ls))) touch p layers) (over-step tree one ls p (kind_of p.code) refl n f)
-    ∙ ap (λ x. logic.behind (option_map (number_side against) x) touch p layers) (accept-some Arithmetic (Have tree ls) (fold 0 tree ls) refl ∙ ap whole f)
+    point_step (logic.Number relation (Have tree ls) touch) p layers ≡ behind_one (number_side relation one) touch (kind_of p.code) p.code layers
+behind_number relation tree one ls touch p layers n f =
+    ap (λ x. on_number relation x (option_map (number_side relation) (accept Arithmetic (Have tree ls))) touch p layers) (over-step tree one ls p (kind_of p.code) refl n f)
+    ∙ ap (λ x. logic.behind (option_map (number_side relation) x) touch p layers) (accept-some Arithmetic (Have tree ls) (fold 0 tree ls) refl ∙ ap whole f)
 
 again-step : (tree one : Tree) (ls below : List Layer) (p : Placed) (k : Kind) → kind_of p.code ≡ k → closes_number k ≡ true → fold 0 tree ls ≡ record { tree = one; layers = below } →
     step Arithmetic (Have tree ls) p ≡ step Arithmetic (Have one below) p
@@ -269,13 +269,13 @@ again-step tree one ls below p kind.Letter e n f = have-letter tree ls p e ∙ s
 again-step tree one ls below p _ e n f = cc
 
 -- behind a part of a number
-pub inside_number : (against : Option Against) (tree one : Tree) (ls : List Layer) (items : List Pending) (touch : Bool) (p : Placed) (layers : List Open) → closes_number (kind_of p.code) ≡ true →
+pub inside_number : (relation : Option OpenRelation) (tree one : Tree) (ls : List Layer) (items : List Pending) (touch : Bool) (p : Placed) (layers : List Open) → closes_number (kind_of p.code) ≡ true →
     fold 0 tree ls ≡ record { tree = one; layers = stack_of items [] } → (items ≡ [] → ⊥) →
-    point_step (logic.Number against (Have tree ls) touch) p layers ≡ on_number against (step Arithmetic (Have one (stack_of items [])) p) None false p layers
-inside_number against tree one ls items touch p layers n f o =
-    unsettled against (step Arithmetic (Have tree ls) p) (accept Arithmetic (Have tree ls)) touch p layers
+    point_step (logic.Number relation (Have tree ls) touch) p layers ≡ on_number relation (step Arithmetic (Have one (stack_of items [])) p) None false p layers
+inside_number relation tree one ls items touch p layers n f o =
+    unsettled relation (step Arithmetic (Have tree ls) p) (accept Arithmetic (Have tree ls)) touch p layers
     (accept-some Arithmetic (Have tree ls) (fold 0 tree ls) refl ∙ open_whole one items (fold 0 tree ls) f o)
-    ∙ ap (λ x. on_number against x None false p layers) (again-step tree one ls (stack_of items []) p (kind_of p.code) refl n f)
+    ∙ ap (λ x. on_number relation x None false p layers) (again-step tree one ls (stack_of items []) p (kind_of p.code) refl n f)
 
 -- Texts.
 
@@ -349,27 +349,27 @@ text-goes_on (text.Word left place name) p k t n =
     ap (λ x. texts.go_word (left_of left) place name x p.code) k ∙ if-true (nat_lt (length name) 63) (Some longer) None t in cc
 text-goes_on _ p k t n = cc
 
-stays-text : (against : Option Against) (at : TextPoint) (touch : Bool) (p : Placed) (layers : List Open) (k : Kind) (found : Option Tree) → kind_of p.code ≡ k →
-    (is_some found && may_end_text at k) ≡ false → text_step (text_state at) p ≡ None → logic.behind (option_map (text_side against) found) touch p layers ≡ None
-stays-text against at touch p layers k None e n s = refl
-stays-text against at touch p layers kind.Blank (Some tree) e n s = cc
-stays-text against at touch p layers kind.Close (Some tree) e n s = cc
-stays-text against at touch p layers kind.Letter (Some tree) e n s = absurd (text-goes_on at p e (not-false (text_takes_letter at) n) s)
-stays-text against at touch p layers (kind.Mark o) (Some tree) e n s = ap (λ x. behind_one (text_side against tree) touch x p.code layers) e
-stays-text against at touch p layers kind.Open (Some tree) e n s = ap (λ x. behind_one (text_side against tree) touch x p.code layers) e
-stays-text against at touch p layers kind.Comma (Some tree) e n s = ap (λ x. behind_one (text_side against tree) touch x p.code layers) e
-stays-text against at touch p layers kind.Quote (Some tree) e n s = ap (λ x. behind_one (text_side against tree) touch x p.code layers) e
-stays-text against at touch p layers kind.Ampersand (Some tree) e n s = ap (λ x. behind_one (text_side against tree) touch x p.code layers) e
-stays-text against at touch p layers kind.Digit (Some tree) e n s = ap (λ x. behind_one (text_side against tree) touch x p.code layers) e
-stays-text against at touch p layers kind.Other (Some tree) e n s = ap (λ x. behind_one (text_side against tree) touch x p.code layers) e
+stays-text : (relation : Option OpenRelation) (at : TextPoint) (touch : Bool) (p : Placed) (layers : List Open) (k : Kind) (found : Option Tree) → kind_of p.code ≡ k →
+    (is_some found && may_end_text at k) ≡ false → text_step (text_state at) p ≡ None → logic.behind (option_map (text_side relation) found) touch p layers ≡ None
+stays-text relation at touch p layers k None e n s = refl
+stays-text relation at touch p layers kind.Blank (Some tree) e n s = cc
+stays-text relation at touch p layers kind.Close (Some tree) e n s = cc
+stays-text relation at touch p layers kind.Letter (Some tree) e n s = absurd (text-goes_on at p e (not-false (text_takes_letter at) n) s)
+stays-text relation at touch p layers (kind.Mark o) (Some tree) e n s = ap (λ x. behind_one (text_side relation tree) touch x p.code layers) e
+stays-text relation at touch p layers kind.Open (Some tree) e n s = ap (λ x. behind_one (text_side relation tree) touch x p.code layers) e
+stays-text relation at touch p layers kind.Comma (Some tree) e n s = ap (λ x. behind_one (text_side relation tree) touch x p.code layers) e
+stays-text relation at touch p layers kind.Quote (Some tree) e n s = ap (λ x. behind_one (text_side relation tree) touch x p.code layers) e
+stays-text relation at touch p layers kind.Ampersand (Some tree) e n s = ap (λ x. behind_one (text_side relation tree) touch x p.code layers) e
+stays-text relation at touch p layers kind.Digit (Some tree) e n s = ap (λ x. behind_one (text_side relation tree) touch x p.code layers) e
+stays-text relation at touch p layers kind.Other (Some tree) e n s = ap (λ x. behind_one (text_side relation tree) touch x p.code layers) e
 
-pub within_text : (against : Option Against) (at : TextPoint) (touch : Bool) (p : Placed) (layers : List Open) → (is_some (text_accept (text_state at)) && may_end_text at (kind_of p.code)) ≡ false →
-    point_step (logic.Text against (text_state at) touch) p layers ≡ on_text against (text_step (text_state at) p) None false p layers
-within_text against at touch p layers n =
+pub within_text : (relation : Option OpenRelation) (at : TextPoint) (touch : Bool) (p : Placed) (layers : List Open) → (is_some (text_accept (text_state at)) && may_end_text at (kind_of p.code)) ≡ false →
+    point_step (logic.Text relation (text_state at) touch) p layers ≡ on_text relation (text_step (text_state at) p) None false p layers
+within_text relation at touch p layers n =
     let go : (found : Option TextState) → text_step (text_state at) p ≡ found →
-    on_text against found (option_map (text_side against) (text_accept (text_state at))) touch p layers ≡ on_text against found None false p layers =
+    on_text relation found (option_map (text_side relation) (text_accept (text_state at))) touch p layers ≡ on_text relation found None false p layers =
     elim [
-      | None ↦ λ e. stays-text against at touch p layers (kind_of p.code) (text_accept (text_state at)) refl n e
+      | None ↦ λ e. stays-text relation at touch p layers (kind_of p.code) (text_accept (text_state at)) refl n e
       | Some next ↦ λ e. refl
     ] in
     go (text_step (text_state at) p) refl
@@ -382,14 +382,14 @@ and-second : (a b : Bool) → (a && b) ≡ true → b ≡ true
 and-second true b e = e
 and-second false b e = cc
 
-pub behind_text : (against : Option Against) (at : TextPoint) (tree : Tree) (touch : Bool) (p : Placed) (layers : List Open) →
+pub behind_text : (relation : Option OpenRelation) (at : TextPoint) (tree : Tree) (touch : Bool) (p : Placed) (layers : List Open) →
     (is_some (text_accept (text_state at)) && may_end_text at (kind_of p.code)) ≡ true → text_accept (text_state at) ≡ Some tree →
-    point_step (logic.Text against (text_state at) touch) p layers ≡ behind_one (text_side against tree) touch (kind_of p.code) p.code layers
-behind_text against at tree touch p layers n a =
+    point_step (logic.Text relation (text_state at) touch) p layers ≡ behind_one (text_side relation tree) touch (kind_of p.code) p.code layers
+behind_text relation at tree touch p layers n a =
     let whole_here = and-first (is_some (text_accept (text_state at))) (may_end_text at (kind_of p.code)) n in
     let may = and-second (is_some (text_accept (text_state at))) (may_end_text at (kind_of p.code)) n in
-    ap (λ x. on_text against x (option_map (text_side against) (text_accept (text_state at))) touch p layers) (text-stops at p whole_here may)
-    ∙ ap (λ x. logic.behind (option_map (text_side against) x) touch p layers) a
+    ap (λ x. on_text relation x (option_map (text_side relation) (text_accept (text_state at))) touch p layers) (text-stops at p whole_here may)
+    ∙ ap (λ x. logic.behind (option_map (text_side relation) x) touch p layers) a
 
 -- An N and an apostrophe.
 
@@ -404,10 +404,10 @@ pub attribute_none : (first p : Placed) (layers : List Open) → step Arithmetic
 attribute_none first p layers e = ap (λ x. on_number None x None false p layers) (ap (option_and_then (λ next. reading.run Arithmetic next (p ∷ []))) e)
 
 pub attribute_moves : (first p : Placed) (state : State) (more : ℕ) (found : Option LogicMoved) (layers : List Open) → step Arithmetic (reading.Want []) first ≡ Some state → weight state ≡ 1 + more →
-    LogicMoves (on_number None (step Arithmetic state p) None false p layers) (open_size layers + (against_size None + weight state)) found layers →
+    LogicMoves (on_number None (step Arithmetic state p) None false p layers) (open_size layers + (relation_size None + weight state)) found layers →
     LogicMoves (logic.after_first first kind.Quote p layers) (open_size layers + 1 + more) found layers
 attribute_moves first p state more found layers e w m =
-    LogicMoves-same (logic.after_first first kind.Quote p layers) (on_number None (step Arithmetic state p) None false p layers) (open_size layers + 1 + more) (open_size layers + (against_size None + weight state)) found layers
+    LogicMoves-same (logic.after_first first kind.Quote p layers) (on_number None (step Arithmetic state p) None false p layers) (open_size layers + 1 + more) (open_size layers + (relation_size None + weight state)) found layers
     (ap (λ x. on_number None x None false p layers) (attribute-run first p state e)) (omega arith) m
 
 pub more_moves : (found : Option LogicState) (before more : ℕ) (moved next : LogicMoved) (layers : List Open) → LogicMoves found (before + more) (Some moved) layers → next.point ≡ moved.point →
@@ -433,22 +433,22 @@ letter-moved first letter empty above found e m s =
 
 pub attribute_stops : (first p : Placed) (letter : Moved) (empty : List Pending) (above : List Layer) (found : Option Moved) (next : Option LogicMoved) (layers : List Open) → empty ≡ [] →
     Moves (step Arithmetic (reading.Want (stack_of empty [])) first) (weight (reading.Want (stack_of empty []))) found above → found ≡ Some letter →
-    ((all : List Open) → LogicMoves (on_number None (step Arithmetic (stand letter.point above) p) None false p all) (open_size all + (against_size None + weight (stand letter.point above))) next all) →
+    ((all : List Open) → LogicMoves (on_number None (step Arithmetic (stand letter.point above) p) None false p all) (open_size all + (relation_size None + weight (stand letter.point above))) next all) →
     next ≡ None → logic.after_first first kind.Quote p layers ≡ None
 attribute_stops first p letter empty above found next layers e m s n o =
     let l = letter-moved first letter empty above found e m s in
     attribute_moves first p (stand letter.point above) letter.more None layers l.0 l.1
-    (subst (λ (x : Option LogicMoved). LogicMoves (on_number None (step Arithmetic (stand letter.point above) p) None false p layers) (open_size layers + (against_size None + weight (stand letter.point above))) x layers) o (n layers))
+    (subst (λ (x : Option LogicMoved). LogicMoves (on_number None (step Arithmetic (stand letter.point above) p) None false p layers) (open_size layers + (relation_size None + weight (stand letter.point above))) x layers) o (n layers))
 
 pub attribute_goes_on : (first p : Placed) (letter : Moved) (empty : List Pending) (above : List Layer) (found : Option Moved) (next : Option LogicMoved) (one : LogicMoved) (moved : Option LogicMoved) (wide : ℕ) (layers : List Open) →
     empty ≡ [] → Moves (step Arithmetic (reading.Want (stack_of empty [])) first) (weight (reading.Want (stack_of empty []))) found above → found ≡ Some letter →
-    ((all : List Open) → LogicMoves (on_number None (step Arithmetic (stand letter.point above) p) None false p all) (open_size all + (against_size None + weight (stand letter.point above))) next all) →
+    ((all : List Open) → LogicMoves (on_number None (step Arithmetic (stand letter.point above) p) None false p all) (open_size all + (relation_size None + weight (stand letter.point above))) next all) →
     next ≡ Some one → wide ≡ letter.more → moved ≡ Some (record { point = one.point; more = wide + one.more }) → LogicMoves (logic.after_first first kind.Quote p layers) (open_size layers + 1) moved layers
 attribute_goes_on first p letter empty above found next one moved wide layers e m s n o w r =
     let l = letter-moved first letter empty above found e m s in
     let a : LogicMoves (logic.after_first first kind.Quote p layers) (open_size layers + 1 + letter.more) (Some one) layers =
     attribute_moves first p (stand letter.point above) letter.more (Some one) layers l.0 l.1
-    (subst (λ (x : Option LogicMoved). LogicMoves (on_number None (step Arithmetic (stand letter.point above) p) None false p layers) (open_size layers + (against_size None + weight (stand letter.point above))) x layers) o (n layers)) in
+    (subst (λ (x : Option LogicMoved). LogicMoves (on_number None (step Arithmetic (stand letter.point above) p) None false p layers) (open_size layers + (relation_size None + weight (stand letter.point above))) x layers) o (n layers)) in
     subst (λ (x : Option LogicMoved). LogicMoves (logic.after_first first kind.Quote p layers) (open_size layers + 1) x layers) (sym r)
     (more_moves (logic.after_first first kind.Quote p layers) (open_size layers + 1) letter.more one (record { point = one.point; more = wide + one.more }) layers a refl (ap (λ n. n + one.more) w))
 
@@ -492,7 +492,7 @@ close_moves tree one layers below moved new e m =
     (sym (logic_fold-size 0 tree layers) ∙ ap (λ (f : LogicFolded). open_size f.layers + size f.tree) e) m
 
 pub join_moves : (operator : Operator) (rest : List ℕ) (tree left : Tree) (layers below new : List Open) → logic_fold (strength operator) tree layers ≡ record { tree = left; layers = below } →
-    new ≡ logic.Both operator left ∷ below →
+    new ≡ logic.LeftOperand operator left ∷ below →
     (Some (pushed operator rest (logic_fold (strength operator) tree layers)) ≡ Some (at_point new (logic.Letters rest))) × (open_size new + 1 ≡ open_size layers + size tree + 2)
 join_moves operator rest tree left layers below new e n =
     let kept : open_size below + size left ≡ open_size (logic_fold (strength operator) tree layers).layers + size (logic_fold (strength operator) tree layers).tree =

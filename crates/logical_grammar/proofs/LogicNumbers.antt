@@ -20,7 +20,7 @@ use Rattle.expression_grammar.specs.Parts.{after, after_word, finish, opening}
 use Rattle.expression_grammar.specs.Reading as reading
 use Rattle.expression_grammar.specs.Reading.{Layer, SignLayer, PairLayer, OpenLayer, SubscriptLayer, State, Have, Within, Folded, fold, closed, parted, joined, begun, ended, moved, step, run, whole, whole_over, accept}
 use Rattle.logical_grammar.specs.Logics.{touches_behind, touches_ahead, IsNumber}
-use Rattle.logical_grammar.specs.LogicReading.{Open, Group, Against, Point, Want, MaybeNot, Number, Right, Closed, LogicState, at_point, Operand, NumberOne, TruthOne, number_side, settled, closing, on_number, text_begun, number_begun, truth_apart, right_apart, after_first, after_closed, point_step, logic_run}
+use Rattle.logical_grammar.specs.LogicReading.{Open, Group, OpenRelation, Point, Want, NotOrAttribute, Number, Right, Closed, LogicState, at_point, Operand, NumberOne, TruthOne, number_side, settled, closing, on_number, text_begun, number_begun, truth_apart, right_apart, after_first, after_closed, point_step, logic_run}
 use Rattle.expression_grammar.proofs.Pieces.{append-nil}
 use Rattle.expression_grammar.proofs.Leads.{capital-runs}
 use Rattle.expression_grammar.proofs.LeadsOf.{accepted}
@@ -161,7 +161,7 @@ above (Within part layers) n p next e =
 
 pub data Follows (n : ℕ) (touch : Bool) (state : State) (point : Point) : Type 0 where
   wanting : state ≡ reading.Want (opens n) → point ≡ Want false → Follows n touch state point
-  perhaps : (first : Placed) → state ≡ Within (Word first.at (78 ∷ [])) (opens n) → point ≡ MaybeNot first → to_ascii_uppercase first.code ≡ 78 → Follows n touch state point
+  perhaps : (first : Placed) → state ≡ Within (Word first.at (78 ∷ [])) (opens n) → point ≡ NotOrAttribute first → to_ascii_uppercase first.code ≡ 78 → Follows n touch state point
   numbering : (inner : State) → state ≡ over inner (opens n) → point ≡ Number None inner touch → Shows inner touch → Follows n touch state point
   enclosing : (inner : Tree) → state ≡ Have (Paren inner) (opens n) → point ≡ Closed inner → touch ≡ false → Follows n touch state point
 
@@ -233,7 +233,7 @@ no-type n p next k t e =
 
 letter_at : (layers : List Open) (p : Placed) (n_first t_first : Bool) → Option LogicState
 letter_at layers p n_first t_first =
-    if n_first then Some (at_point layers (MaybeNot p)) else (if t_first then text_begun None p layers else number_begun None p layers)
+    if n_first then Some (at_point layers (NotOrAttribute p)) else (if t_first then text_begun None p layers else number_begun None p layers)
 
 letter-here : (layers : List Open) (p : Placed) (n_first t_first : Bool) → kind_of p.code ≡ kind.Letter → (to_ascii_uppercase p.code == 78) ≡ n_first → (to_ascii_uppercase p.code == 84) ≡ t_first →
     point_step (Want false) p layers ≡ letter_at layers p n_first t_first
@@ -248,7 +248,7 @@ want-letter n layers p next true t_first f g k e =
     let u : to_ascii_uppercase p.code ≡ 78 = test (to_ascii_uppercase p.code) 78 f in
     record {
       to = n;
-      there = MaybeNot p;
+      there = NotOrAttribute p;
       steps = letter-here (groups n layers) p true t_first k f g;
       follows = perhaps p (want-word n p next k e ∙ ap (λ x. Within (Word p.at (x ∷ [])) (opens n)) u) refl u;
     }
@@ -290,7 +290,7 @@ number-asked : (first p : Placed) → to_ascii_uppercase first.code ≡ 78 → k
 number-asked first p u k = capital-runs Arithmetic [] 78 (Asked attribute.Number) first p [] refl opens-number u k
 
 perhaps-kind : (n : ℕ) (layers : List Open) (first p : Placed) (next : State) (k : Kind) → to_ascii_uppercase first.code ≡ 78 → kind_of p.code ≡ k →
-    moved Arithmetic (after_word Arithmetic k first.at (78 ∷ []) p.code) k (opens n) ≡ Some next → FollowStep n layers (MaybeNot first) p next
+    moved Arithmetic (after_word Arithmetic k first.at (78 ∷ []) p.code) k (opens n) ≡ Some next → FollowStep n layers (NotOrAttribute first) p next
 unfolding finish opening
 perhaps-kind n layers first p next kind.Quote u k e =
     let same : next ≡ Within (Asked attribute.Number) (opens n) = cc in
@@ -305,7 +305,7 @@ perhaps-kind n layers first p next kind.Digit u k e = cc
 perhaps-kind n layers first p next _ u k e = cc
 
 perhaps-follows : (n : ℕ) (layers : List Open) (first p : Placed) (next : State) → to_ascii_uppercase first.code ≡ 78 → step Arithmetic (Within (Word first.at (78 ∷ [])) (opens n)) p ≡ Some next →
-    FollowStep n layers (MaybeNot first) p next
+    FollowStep n layers (NotOrAttribute first) p next
 unfolding step after
 perhaps-follows n layers first p next u e = perhaps-kind n layers first p next (kind_of p.code) u refl e
 
@@ -460,85 +460,85 @@ number-lead tree text layers before touch apart i =
 
 -- The right side of a comparison.
 
-record NumberRun (against : Option Against) (layers : List Open) (state : State) (ps : List Placed) (touch : Bool) (last : State) : Type 0 where
-  runs : logic_run (at_point layers (Number against state touch)) ps ≡ Some (at_point layers (Number against last (touches_behind touch ps)))
+record NumberRun (relation : Option OpenRelation) (layers : List Open) (state : State) (ps : List Placed) (touch : Bool) (last : State) : Type 0 where
+  runs : logic_run (at_point layers (Number relation state touch)) ps ≡ Some (at_point layers (Number relation last (touches_behind touch ps)))
   shows : Shows last (touches_behind touch ps)
 
-number-on_of : (against : Option Against) (layers : List Open) (p : Placed) (ps : List Placed) (state last : State) (touch : Bool) (found : Option State) → step Arithmetic state p ≡ found →
-    ((s : State) (t : Bool) → Shows s t → run Arithmetic s ps ≡ Some last → NumberRun against layers s ps t last) →
-    option_and_then (λ next. run Arithmetic next ps) found ≡ Some last → NumberRun against layers state (p ∷ ps) touch last
-number-on_of against layers p ps state last touch None s go e = cc
-number-on_of against layers p ps state last touch (Some next) s go e =
+number-on_of : (relation : Option OpenRelation) (layers : List Open) (p : Placed) (ps : List Placed) (state last : State) (touch : Bool) (found : Option State) → step Arithmetic state p ≡ found →
+    ((s : State) (t : Bool) → Shows s t → run Arithmetic s ps ≡ Some last → NumberRun relation layers s ps t last) →
+    option_and_then (λ next. run Arithmetic next ps) found ≡ Some last → NumberRun relation layers state (p ∷ ps) touch last
+number-on_of relation layers p ps state last touch None s go e = cc
+number-on_of relation layers p ps state last touch (Some next) s go e =
     let more = go next (is_symbol_character p.code) (next-shows state next p s) e in
     record {
-      runs = point-steps (Number against state touch) layers (at_point layers (Number against next (is_symbol_character p.code))) p ps
-          (ap (λ x. on_number against x (settled (Number against state touch)) touch p layers) s)
+      runs = point-steps (Number relation state touch) layers (at_point layers (Number relation next (is_symbol_character p.code))) p ps
+          (ap (λ x. on_number relation x (settled (Number relation state touch)) touch p layers) s)
           ∙ more.runs;
       shows = more.shows;
     }
 
-number-on : (against : Option Against) (layers : List Open) (ps : List Placed) (state last : State) (touch : Bool) → Shows state touch → run Arithmetic state ps ≡ Some last →
-    NumberRun against layers state ps touch last
-number-on against layers [] state last touch s e =
+number-on : (relation : Option OpenRelation) (layers : List Open) (ps : List Placed) (state last : State) (touch : Bool) → Shows state touch → run Arithmetic state ps ≡ Some last →
+    NumberRun relation layers state ps touch last
+number-on relation layers [] state last touch s e =
     let same : state ≡ last = cc in
-    record { runs = ap (λ x. Some (at_point layers (Number against x touch))) same; shows = subst (λ x. Shows x touch) same s }
-number-on against layers (p ∷ ps) state last touch s e = number-on_of against layers p ps state last touch (step Arithmetic state p) refl (λ x t g h. number-on against layers ps x last t g h) e
+    record { runs = ap (λ x. Some (at_point layers (Number relation x touch))) same; shows = subst (λ x. Shows x touch) same s }
+number-on relation layers (p ∷ ps) state last touch s e = number-on_of relation layers p ps state last touch (step Arithmetic state p) refl (λ x t g h. number-on relation layers ps x last t g h) e
 
-right-kind : (against : Against) (k : Kind) (p : Placed) (layers : List Open) → (k ≡ kind.Blank → ⊥) → right_apart false against k p layers ≡ number_begun (Some against) p layers
-right-kind against kind.Blank p layers other = absurd (other refl)
-right-kind against _ p layers other = refl
+right-kind : (relation : OpenRelation) (k : Kind) (p : Placed) (layers : List Open) → (k ≡ kind.Blank → ⊥) → right_apart false relation k p layers ≡ number_begun (Some relation) p layers
+right-kind relation kind.Blank p layers other = absurd (other refl)
+right-kind relation _ p layers other = refl
 
-right-first_of : (against : Against) (layers : List Open) (p : Placed) (ps : List Placed) (last : State) (tree : Tree) (before : Bool) (found : Option State) → step Arithmetic (reading.Want []) p ≡ found →
+right-first_of : (relation : OpenRelation) (layers : List Open) (p : Placed) (ps : List Placed) (last : State) (tree : Tree) (before : Bool) (found : Option State) → step Arithmetic (reading.Want []) p ≡ found →
     (kind_of p.code ≡ kind.Blank → ⊥) → option_and_then (λ next. run Arithmetic next ps) found ≡ Some last → accept Arithmetic last ≡ Some tree →
-    OperandLead (Right false against false) layers (TruthOne (Compared against.comparison against.left tree)) before (p ∷ ps)
-right-first_of against layers p ps last tree before None s other e a = cc
-right-first_of against layers p ps last tree before (Some next) s other e a =
-    let more = number-on (Some against) layers ps next last (is_symbol_character p.code) (next-shows (reading.Want []) next p s) e in
+    OperandLead (Right false relation false) layers (TruthOne (Compared relation.comparison relation.left tree)) before (p ∷ ps)
+right-first_of relation layers p ps last tree before None s other e a = cc
+right-first_of relation layers p ps last tree before (Some next) s other e a =
+    let more = number-on (Some relation) layers ps next last (is_symbol_character p.code) (next-shows (reading.Want []) next p s) e in
     record {
-      last = Number (Some against) last (touches_behind before (p ∷ ps));
-      runs = point-steps (Right false against false) layers (at_point layers (Number (Some against) next (is_symbol_character p.code))) p ps
-          (right-kind against (kind_of p.code) p layers other ∙ ap (λ x. on_number (Some against) x None false p layers) s)
+      last = Number (Some relation) last (touches_behind before (p ∷ ps));
+      runs = point-steps (Right false relation false) layers (at_point layers (Number (Some relation) next (is_symbol_character p.code))) p ps
+          (right-kind relation (kind_of p.code) p layers other ∙ ap (λ x. on_number (Some relation) x None false p layers) s)
           ∙ more.runs;
-      stands = number-stands (Some against) last (touches_behind before (p ∷ ps)) tree a more.shows;
+      stands = number-stands (Some relation) last (touches_behind before (p ∷ ps)) tree a more.shows;
     }
 
 want-stays : (p : Placed) → kind_of p.code ≡ kind.Blank → step Arithmetic (reading.Want []) p ≡ Some (reading.Want [])
 unfolding step
 want-stays p k = ap (λ x. begun Arithmetic x p []) k
 
-right-run_of : (against : Against) (layers : List Open) (p : Placed) (ps : List Placed) (last : State) (tree : Tree) (before : Bool) (k : Kind) → kind_of p.code ≡ k →
-    (run Arithmetic (reading.Want []) ps ≡ Some last → OperandLead (Right false against false) layers (TruthOne (Compared against.comparison against.left tree)) (is_symbol_character p.code) ps) →
+right-run_of : (relation : OpenRelation) (layers : List Open) (p : Placed) (ps : List Placed) (last : State) (tree : Tree) (before : Bool) (k : Kind) → kind_of p.code ≡ k →
+    (run Arithmetic (reading.Want []) ps ≡ Some last → OperandLead (Right false relation false) layers (TruthOne (Compared relation.comparison relation.left tree)) (is_symbol_character p.code) ps) →
     option_and_then (λ next. run Arithmetic next ps) (step Arithmetic (reading.Want []) p) ≡ Some last → accept Arithmetic last ≡ Some tree →
-    OperandLead (Right false against false) layers (TruthOne (Compared against.comparison against.left tree)) before (p ∷ ps)
-right-run_of against layers p ps last tree before kind.Blank k go e a =
+    OperandLead (Right false relation false) layers (TruthOne (Compared relation.comparison relation.left tree)) before (p ∷ ps)
+right-run_of relation layers p ps last tree before kind.Blank k go e a =
     let l = go (sym (ap (option_and_then (λ next. run Arithmetic next ps)) (want-stays p k)) ∙ e) in
     record {
       last = l.last;
-      runs = point-steps (Right false against false) layers (at_point layers (Right false against false)) p ps (ap (λ x. right_apart false against x p layers) k) ∙ l.runs;
+      runs = point-steps (Right false relation false) layers (at_point layers (Right false relation false)) p ps (ap (λ x. right_apart false relation x p layers) k) ∙ l.runs;
       stands = l.stands;
     }
-right-run_of against layers p ps last tree before _ k go e a =
-    right-first_of against layers p ps last tree before (step Arithmetic (reading.Want []) p) refl (λ b. let both : kind_of p.code ≡ kind.Blank = b in cc) e a
+right-run_of relation layers p ps last tree before _ k go e a =
+    right-first_of relation layers p ps last tree before (step Arithmetic (reading.Want []) p) refl (λ b. let both : kind_of p.code ≡ kind.Blank = b in cc) e a
 
-right-run : (against : Against) (layers : List Open) (text : List Placed) (last : State) (tree : Tree) (before : Bool) → run Arithmetic (reading.Want []) text ≡ Some last → accept Arithmetic last ≡ Some tree →
-    OperandLead (Right false against false) layers (TruthOne (Compared against.comparison against.left tree)) before text
-right-run against layers [] last tree before e a = let same : reading.Want [] ≡ last = cc in absurd (want-none tree (ap (accept Arithmetic) same ∙ a))
-right-run against layers (p ∷ ps) last tree before e a =
-    right-run_of against layers p ps last tree before (kind_of p.code) refl (λ f. right-run against layers ps last tree (is_symbol_character p.code) f a) e a
+right-run : (relation : OpenRelation) (layers : List Open) (text : List Placed) (last : State) (tree : Tree) (before : Bool) → run Arithmetic (reading.Want []) text ≡ Some last → accept Arithmetic last ≡ Some tree →
+    OperandLead (Right false relation false) layers (TruthOne (Compared relation.comparison relation.left tree)) before text
+right-run relation layers [] last tree before e a = let same : reading.Want [] ≡ last = cc in absurd (want-none tree (ap (accept Arithmetic) same ∙ a))
+right-run relation layers (p ∷ ps) last tree before e a =
+    right-run_of relation layers p ps last tree before (kind_of p.code) refl (λ f. right-run relation layers ps last tree (is_symbol_character p.code) f a) e a
 
 -- where no right side began no operand stands
-pub right-stands : (layers : List Open) (is_text : Bool) (against : Against) (operand : Operand) (before touch : Bool) (text : List Placed) → (touch && touches_ahead text) ≡ false →
-    OperandLead (Right is_text against false) layers operand before text → OperandLead (Right is_text against touch) layers operand before text
-right-stands layers is_text against operand before touch [] e l =
-    let runs : Some (at_point layers (Right is_text against false)) ≡ Some (at_point layers l.last) = l.runs in
-    let states : at_point layers (Right is_text against false) ≡ at_point layers l.last = cc in
-    let same : Right is_text against false ≡ l.last = ap (λ (s : LogicState). s.point) states in
+pub right-stands : (layers : List Open) (is_text : Bool) (relation : OpenRelation) (operand : Operand) (before touch : Bool) (text : List Placed) → (touch && touches_ahead text) ≡ false →
+    OperandLead (Right is_text relation false) layers operand before text → OperandLead (Right is_text relation touch) layers operand before text
+right-stands layers is_text relation operand before touch [] e l =
+    let runs : Some (at_point layers (Right is_text relation false)) ≡ Some (at_point layers l.last) = l.runs in
+    let states : at_point layers (Right is_text relation false) ≡ at_point layers l.last = cc in
+    let same : Right is_text relation false ≡ l.last = ap (λ (s : LogicState). s.point) states in
     let none : None ≡ Some operand = ap settled same ∙ l.stands.settles in
     cc
-right-stands layers is_text against operand before touch (p ∷ ps) e l = record { last = l.last; runs = right-apart layers is_text against touch p ps e ∙ l.runs; stands = l.stands }
+right-stands layers is_text relation operand before touch (p ∷ ps) e l = record { last = l.last; runs = right-apart layers is_text relation touch p ps e ∙ l.runs; stands = l.stands }
 
-pub right_number-lead : (tree : Tree) (text : List Placed) (against : Against) (layers : List Open) (before touch : Bool) → (touch && touches_ahead text) ≡ false → IsNumber tree text →
-    OperandLead (Right false against touch) layers (TruthOne (Compared against.comparison against.left tree)) before text
-right_number-lead tree text against layers before touch apart i =
+pub right_number-lead : (tree : Tree) (text : List Placed) (relation : OpenRelation) (layers : List Open) (before touch : Bool) → (touch && touches_ahead text) ≡ false → IsNumber tree text →
+    OperandLead (Right false relation touch) layers (TruthOne (Compared relation.comparison relation.left tree)) before text
+right_number-lead tree text relation layers before touch apart i =
     let a = accepted Arithmetic tree text i.fits i.reads in
-    right-stands layers false against (TruthOne (Compared against.comparison against.left tree)) before touch text apart (right-run against layers text a.last tree before a.runs a.accepts)
+    right-stands layers false relation (TruthOne (Compared relation.comparison relation.left tree)) before touch text apart (right-run relation layers text a.last tree before a.runs a.accepts)

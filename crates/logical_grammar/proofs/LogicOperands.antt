@@ -11,7 +11,7 @@ use Rattle.expression_grammar.specs.Characters.{kind_of, strength}
 use Rattle.expression_grammar.specs.Trees.{Tree, Pair, Paren, Not}
 use Rattle.expression_grammar.specs.Spelling.{Placed, Gap, One, Reads, spell, rank}
 use Rattle.logical_grammar.specs.Logics.{IsNumber, IsCharacters, IsTruth, IsLogical, operator_word, is_logical, touches_behind}
-use Rattle.logical_grammar.specs.LogicReading.{Open, Negation, Both, Group, Ended, Comparing, Closed, Had, LogicState, at_point, Operand, NumberOne, TruthOne, TextOne, truth_of, LogicFolded, logic_fold, blanked, grouped, closing, pushed, joining, compares, comparing, lettered, behind_one}
+use Rattle.logical_grammar.specs.LogicReading.{Open, Negation, LeftOperand, Group, BehindText, Comparing, Closed, BehindTruth, LogicState, at_point, Operand, NumberOne, TruthOne, TextOne, truth_of, LogicFolded, logic_fold, blanked, grouped, closing, pushed, joining, compares, comparing, lettered, behind_one}
 use Rattle.logical_grammar.specs.LogicStanding.{AreOpen, Opened, Under, behind_word, Partly, PointReads, LogicHolds}
 use Rattle.expression_grammar.proofs.Appends.{spell-over}
 use Rattle.expression_grammar.proofs.Pieces.{reads-join, reads-kind, one_of}
@@ -47,13 +47,13 @@ blank-holds (NumberOne tree) touch layers p text n a e r = absurd n
 blank-holds (TruthOne tree) touch layers p text n a e r =
     record {
       ordered = a;
-      reads = under-grows layers (Whole (TruthOne tree) touch) (PointReads (behind_word layers) (Had tree)) text (p ∷ []) a
+      reads = under-grows layers (Whole (TruthOne tree) touch) (PointReads (behind_word layers) (BehindTruth tree)) text (p ∷ []) a
           (λ u w. (logical-blank tree u p e w.0.0, w.0.1, behind-last u p ∙ blank-apart p.code e)) (λ b u w t. ahead-apart u p (blank-apart p.code e) t) r;
     }
 blank-holds (TextOne tree) touch layers p text n a e r =
     record {
       ordered = a;
-      reads = under-grows layers (Whole (TextOne tree) touch) (PointReads (behind_word layers) (Ended tree)) text (p ∷ []) a
+      reads = under-grows layers (Whole (TextOne tree) touch) (PointReads (behind_word layers) (BehindText tree)) text (p ∷ []) a
           (λ u w. (characters-blank tree u p e w.0, behind-last u p ∙ blank-apart p.code e)) (λ b u w t. ahead-apart u p (blank-apart p.code e) t) r;
     }
 
@@ -63,11 +63,11 @@ grouped-holds : (tree : Tree) (touch : Bool) (layers : List Open) (p : Placed) (
     Under layers (λ part. IsLogical tree part × (touches_behind false part ≡ touch)) text → AllLogicHold (grouped tree layers) (text ++ p ∷ [])
 grouped-holds tree touch [] p text a e r = tt
 grouped-holds tree touch (Negation ∷ layers) p text a e r = tt
-grouped-holds tree touch (Both operator left ∷ layers) p text a e r = tt
+grouped-holds tree touch (LeftOperand operator left ∷ layers) p text a e r = tt
 grouped-holds tree touch (Group ∷ layers) p text a e r =
     record {
       ordered = a;
-      reads = under-grows layers (Opened (Ends IsLogical tree touch)) (PointReads (behind_word layers) (Had (Paren tree))) text (p ∷ []) a
+      reads = under-grows layers (Opened (Ends IsLogical tree touch)) (PointReads (behind_word layers) (BehindTruth (Paren tree))) text (p ∷ []) a
           (λ u o. (
             record {
               before = o.before;
@@ -122,14 +122,14 @@ number-high tree touch layers text a r = let i = innermost layers (Ends IsNumber
 pub truth-high : (tree : Tree) (touch : Bool) (layers : List Open) (text : List Placed) → AreOpen layers → Under layers (Whole (TruthOne tree) touch) text → 4 ≤ rank tree
 truth-high tree touch layers text a r = let i = innermost layers (Whole (TruthOne tree) touch) text a r in i.is.0.1
 
-closes-both : (operator : Operator) (left tree : Tree) (touch : Bool) (layers : List Open) (p : Placed) (text : List Placed) → AreOpen (Both operator left ∷ layers) → kind_of p.code ≡ kind.Close →
-    Under (Both operator left ∷ layers) (λ part. IsNumber tree part × (touches_behind false part ≡ touch)) text →
-    AllLogicHold (grouped (logic_fold 0 tree (Both operator left ∷ layers)).tree (logic_fold 0 tree (Both operator left ∷ layers)).layers) (text ++ p ∷ [])
-closes-both operator left tree touch layers p text a e r =
-    let otherwise : LogicFolded = record { tree = tree; layers = Both operator left ∷ layers } in
+closes-left-operand : (operator : Operator) (left tree : Tree) (touch : Bool) (layers : List Open) (p : Placed) (text : List Placed) → AreOpen (LeftOperand operator left ∷ layers) → kind_of p.code ≡ kind.Close →
+    Under (LeftOperand operator left ∷ layers) (λ part. IsNumber tree part × (touches_behind false part ≡ touch)) text →
+    AllLogicHold (grouped (logic_fold 0 tree (LeftOperand operator left ∷ layers)).tree (logic_fold 0 tree (LeftOperand operator left ∷ layers)).layers) (text ++ p ∷ [])
+closes-left-operand operator left tree touch layers p text a e r =
+    let otherwise : LogicFolded = record { tree = tree; layers = LeftOperand operator left ∷ layers } in
     let whole : LogicFolded = logic_fold 0 (Pair operator left tree) layers in
-    let high = number-high tree touch (Both operator left ∷ layers) text a r in
-    let t = under-became (Both operator left ∷ layers) (Ends IsNumber tree touch) (Ends IsTruth tree touch) text (λ u w. (inl w.0, w.1)) r in
+    let high = number-high tree touch (LeftOperand operator left ∷ layers) text a r in
+    let t = under-became (LeftOperand operator left ∷ layers) (Ends IsNumber tree touch) (Ends IsTruth tree touch) text (λ u w. (inl w.0, w.1)) r in
     let f = fold-pair 0 operator left tree layers touch text (omega arith) (omega arith) (omega (arith, logical-strength operator a.0)) a t in
     let go : (b : Bool) → nat_le 0 (strength operator) ≡ b → AllLogicHold (grouped (if b then whole else otherwise).tree (if b then whole else otherwise).layers) (text ++ p ∷ []) =
     elim [ true ↦ λ s. grouped-holds whole.tree touch whole.layers p text f.ordered e f.reads | false ↦ λ s. tt ] in
@@ -144,7 +144,7 @@ closing-holds (NumberOne tree) touch (Negation ∷ layers) p text a e r =
     let t = under-became (Negation ∷ layers) (Ends IsNumber tree touch) (Ends IsTruth tree touch) text (λ u w. (inl w.0, w.1)) r in
     let f = fold-not 0 tree layers touch text (omega arith) (omega arith) a t in
     grouped-holds whole.tree touch whole.layers p text f.ordered e f.reads
-closing-holds (NumberOne tree) touch (Both operator left ∷ layers) p text a e r = closes-both operator left tree touch layers p text a e r
+closing-holds (NumberOne tree) touch (LeftOperand operator left ∷ layers) p text a e r = closes-left-operand operator left tree touch layers p text a e r
 closing-holds (NumberOne tree) touch (Group ∷ layers) p text a e r = closed-holds tree touch layers p text a e r
 closing-holds (TruthOne tree) touch layers p text a e r =
     let whole : LogicFolded = logic_fold 0 tree layers in

@@ -10,7 +10,7 @@ use Rattle.expression_grammar.specs.Trees.{Tree, Paren}
 use Rattle.expression_grammar.specs.Reading as reading
 use Rattle.expression_grammar.specs.Reading.{State, Have}
 use Rattle.logical_grammar.specs.Logics.{touches_behind}
-use Rattle.logical_grammar.specs.LogicReading.{Open, Against, Point, Number, Ended, Closed, Had, at_point, Operand, NumberOne, TruthOne, TextOne, number_side, settled, closing, lettered, behind_one, behind, on_number, after_closed, point_step, logic_run}
+use Rattle.logical_grammar.specs.LogicReading.{Open, OpenRelation, Point, Number, BehindText, Closed, BehindTruth, at_point, Operand, NumberOne, TruthOne, TextOne, number_side, settled, closing, lettered, behind_one, behind, on_number, after_closed, point_step, logic_run}
 use Rattle.logical_grammar.proofs.LogicLaws.{point-steps, kind-apart, gap-apart}
 use Rattle.logical_grammar.proofs.LogicTouches.{Shows, close-none, letter-none}
 
@@ -29,18 +29,18 @@ pub behind-letter : (found : Option Operand) (operand : Operand) (touch : Bool) 
 behind-letter found operand touch p layers f t e =
     ap (λ x. behind x touch p layers) f ∙ ap (λ k. behind_one operand touch k p.code layers) e ∙ ap (λ b. if b then None else lettered operand (to_ascii_uppercase p.code) layers) t
 
-pub number-stands : (against : Option Against) (inner : State) (touch : Bool) (tree : Tree) → reading.accept Arithmetic inner ≡ Some tree → Shows inner touch →
-    Standing (Number against inner touch) touch (number_side against tree)
-number-stands against inner touch tree a s =
-    let settles : settled (Number against inner touch) ≡ Some (number_side against tree) = ap (option_map (number_side against)) a in
+pub number-stands : (relation : Option OpenRelation) (inner : State) (touch : Bool) (tree : Tree) → reading.accept Arithmetic inner ≡ Some tree → Shows inner touch →
+    Standing (Number relation inner touch) touch (number_side relation tree)
+number-stands relation inner touch tree a s =
+    let settles : settled (Number relation inner touch) ≡ Some (number_side relation tree) = ap (option_map (number_side relation)) a in
     record {
       settles = settles;
       closes = λ p layers e.
-          ap (λ x. on_number against x (settled (Number against inner touch)) touch p layers) (close-none inner tree p a e)
-          ∙ behind-close (settled (Number against inner touch)) (number_side against tree) touch p layers settles e;
+          ap (λ x. on_number relation x (settled (Number relation inner touch)) touch p layers) (close-none inner tree p a e)
+          ∙ behind-close (settled (Number relation inner touch)) (number_side relation tree) touch p layers settles e;
       spells = λ t p layers e.
-          ap (λ x. on_number against x (settled (Number against inner touch)) touch p layers) (letter-none inner tree p a (subst (Shows inner) t s) e)
-          ∙ behind-letter (settled (Number against inner touch)) (number_side against tree) touch p layers settles t e;
+          ap (λ x. on_number relation x (settled (Number relation inner touch)) touch p layers) (letter-none inner tree p a (subst (Shows inner) t s) e)
+          ∙ behind-letter (settled (Number relation inner touch)) (number_side relation tree) touch p layers settles t e;
     }
 
 paren-accepts : (inner : Tree) → reading.accept Arithmetic (Have (Paren inner) []) ≡ Some (Paren inner)
@@ -61,27 +61,27 @@ closed-stands inner =
           ∙ behind-letter (Some (NumberOne (Paren inner))) (NumberOne (Paren inner)) false p layers refl refl e;
     }
 
-pub ended-stands : (tree : Tree) → Standing (Ended tree) false (TextOne tree)
-ended-stands tree =
+pub behind-text-stands : (tree : Tree) → Standing (BehindText tree) false (TextOne tree)
+behind-text-stands tree =
     record {
       settles = refl;
       closes = λ p layers e. behind-close (Some (TextOne tree)) (TextOne tree) false p layers refl e;
       spells = λ t p layers e. behind-letter (Some (TextOne tree)) (TextOne tree) false p layers refl refl e;
     }
 
-pub had-stands : (tree : Tree) → Standing (Had tree) false (TruthOne tree)
-had-stands tree =
+pub behind-truth-stands : (tree : Tree) → Standing (BehindTruth tree) false (TruthOne tree)
+behind-truth-stands tree =
     record {
       settles = refl;
       closes = λ p layers e. behind-close (Some (TruthOne tree)) (TruthOne tree) false p layers refl e;
       spells = λ t p layers e. behind-letter (Some (TruthOne tree)) (TruthOne tree) false p layers refl refl e;
     }
 
-pub ended-blank : (tree : Tree) (p : Placed) (layers : List Open) → kind_of p.code ≡ kind.Blank → point_step (Ended tree) p layers ≡ Some (at_point layers (Ended tree))
-ended-blank tree p layers e = ap (λ k. behind_one (TextOne tree) false k p.code layers) e
+pub behind-text-blank : (tree : Tree) (p : Placed) (layers : List Open) → kind_of p.code ≡ kind.Blank → point_step (BehindText tree) p layers ≡ Some (at_point layers (BehindText tree))
+behind-text-blank tree p layers e = ap (λ k. behind_one (TextOne tree) false k p.code layers) e
 
-pub had-blank : (tree : Tree) (p : Placed) (layers : List Open) → kind_of p.code ≡ kind.Blank → point_step (Had tree) p layers ≡ Some (at_point layers (Had tree))
-had-blank tree p layers e = ap (λ k. behind_one (TruthOne tree) false k p.code layers) e
+pub behind-truth-blank : (tree : Tree) (p : Placed) (layers : List Open) → kind_of p.code ≡ kind.Blank → point_step (BehindTruth tree) p layers ≡ Some (at_point layers (BehindTruth tree))
+behind-truth-blank tree p layers e = ap (λ k. behind_one (TruthOne tree) false k p.code layers) e
 
 -- Blanks behind an operand that eats none.
 

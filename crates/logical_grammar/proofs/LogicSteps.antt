@@ -15,7 +15,7 @@ use Rattle.expression_grammar.specs.Spelling.{Placed, Gap, IsGap, Reads, rank, s
 use Rattle.expression_grammar.specs.Reading as reading
 use Rattle.expression_grammar.specs.Reading.{State, Want as WantTerm, Have, Holds}
 use Rattle.logical_grammar.specs.Logics.{IsTruth, Joined, Negated, operator_word, comparison_word, not_word, capitals, touches_behind, touches_ahead}
-use Rattle.logical_grammar.specs.LogicReading.{Open, Negation, Both, Group, Against, Point, Want, MaybeNot, Letters, Number, Text, Ended, Comparing, Right, Closed, Had, LogicState, at_point, Operand, NumberOne, TruthOne, TextOne, number_side, text_side, settled, truth_of, LogicFolded, logic_fold, on_number, on_text, letter_begun, touching, truth_apart, truth_begun, right_apart, right_begun, text_begun, number_begun, after_first, spelling, after_letters, least_or, comparison_of, after_comparing, after_closed, point_step, logic_step, whole_over, whole, logic_accept, logic_run}
+use Rattle.logical_grammar.specs.LogicReading.{Open, Negation, LeftOperand, Group, OpenRelation, Point, Want, NotOrAttribute, Letters, Number, Text, BehindText, Comparing, Right, Closed, BehindTruth, LogicState, at_point, Operand, NumberOne, TruthOne, TextOne, number_side, text_side, settled, truth_of, LogicFolded, logic_fold, on_number, on_text, letter_begun, touching, truth_apart, truth_begun, right_apart, right_begun, text_begun, number_begun, after_first, spelling, after_letters, least_or, comparison_of, after_comparing, after_closed, point_step, logic_step, whole_over, whole, logic_accept, logic_run}
 use Rattle.logical_grammar.specs.LogicStanding.{AreOpen, Opened, Under, behind_word, is_empty, Parenthesized, IsSide, Initial, PointReads, Partly, WordReads, StateReads, LogicHolds}
 use Rattle.character_grammar.specs.TextReading.{TextState, WantQuote, text_step, text_accept}
 use Rattle.character_grammar.specs.TextStanding.{TextHolds}
@@ -56,11 +56,11 @@ want-letter touch layers p text n a r =
     let by_t : (b : Bool) → (letter == 84) ≡ b → AllLogicHold (if b then text_begun None p layers else number_begun None p layers) (text ++ p ∷ []) =
     elim [ true ↦ λ t. want-text touch layers p text n a r | false ↦ λ t. want-number touch layers p text n a r ] in
     let by_n : (b : Bool) → (letter == 78) ≡ b →
-    AllLogicHold (if b then Some (at_point layers (MaybeNot p)) else (if letter == 84 then text_begun None p layers else number_begun None p layers)) (text ++ p ∷ []) =
+    AllLogicHold (if b then Some (at_point layers (NotOrAttribute p)) else (if letter == 84 then text_begun None p layers else number_begun None p layers)) (text ++ p ∷ []) =
     elim [
       | true ↦ λ t. record {
         ordered = a;
-        reads = under-grows layers (PointReads (behind_word layers) (Want touch)) (PointReads (behind_word layers) (MaybeNot p)) text (p ∷ []) a
+        reads = under-grows layers (PointReads (behind_word layers) (Want touch)) (PointReads (behind_word layers) (NotOrAttribute p)) text (p ∷ []) a
             (λ u w. (u, refl, w.0, test letter 78 t)) (λ b u w h. want-apart (behind_word layers) touch p u n w.1 b h) r;
       }
       | false ↦ λ t. by_t (letter == 84) refl
@@ -107,24 +107,24 @@ first-number : (first : Placed) (next : State) (before : List Placed) (p : Place
 first-number first next before p s i =
     subst (λ (found : Option State). AllHold Arithmetic found (before ++ first ∷ p ∷ [])) s (runs Arithmetic (first ∷ p ∷ []) (WantTerm []) before (gap-holds before i))
 
-maybe-attribute : (first : Placed) (layers : List Open) (p : Placed) (text : List Placed) → AreOpen layers → Under layers (PointReads (behind_word layers) (MaybeNot first)) text →
+begins-attribute : (first : Placed) (layers : List Open) (p : Placed) (text : List Placed) → AreOpen layers → Under layers (PointReads (behind_word layers) (NotOrAttribute first)) text →
     (found : Option State) → reading.run Arithmetic (WantTerm []) (first ∷ p ∷ []) ≡ found → AllLogicHold (on_number None found None false p layers) (text ++ p ∷ [])
-maybe-attribute first layers p text a r None s = tt
-maybe-attribute first layers p text a r (Some next) s =
+begins-attribute first layers p text a r None s = tt
+begins-attribute first layers p text a r (Some next) s =
     record {
       ordered = a;
-      reads = under-grows layers (PointReads (behind_word layers) (MaybeNot first)) (PointReads (behind_word layers) (Number None next (is_symbol_character p.code))) text (p ∷ []) a
+      reads = under-grows layers (PointReads (behind_word layers) (NotOrAttribute first)) (PointReads (behind_word layers) (Number None next (is_symbol_character p.code))) text (p ∷ []) a
           (λ u m. ((subst (Holds Arithmetic next) (sym (first-cut first p u m.0 m.1)) (first-number first next m.0 p s m.2), some-last u p), sym (behind-last u p)))
           (λ b u m h. ahead-kept u (p ∷ []) (first-some first u m.0 m.1) h) r;
     }
 
-maybe-not : (first : Placed) (layers : List Open) (p : Placed) (text : List Placed) → AreOpen layers → Under layers (PointReads (behind_word layers) (MaybeNot first)) text →
+begins-not : (first : Placed) (layers : List Open) (p : Placed) (text : List Placed) → AreOpen layers → Under layers (PointReads (behind_word layers) (NotOrAttribute first)) text →
     (b : Bool) → (to_ascii_uppercase p.code == 79) ≡ b → AllLogicHold (if b then Some (at_point (Negation ∷ layers) (Letters (84 ∷ []))) else None) (text ++ p ∷ [])
-maybe-not first layers p text a r false t = tt
-maybe-not first layers p text a r true t =
+begins-not first layers p text a r false t = tt
+begins-not first layers p text a r true t =
     record {
       ordered = a;
-      reads = under-grows layers (PointReads (behind_word layers) (MaybeNot first)) (Partly (IsGap Arithmetic) not_word (84 ∷ [])) text (p ∷ []) a
+      reads = under-grows layers (PointReads (behind_word layers) (NotOrAttribute first)) (Partly (IsGap Arithmetic) not_word (84 ∷ [])) text (p ∷ []) a
           (λ u m. record {
             left = m.0;
             letters = first ∷ p ∷ [];
@@ -136,10 +136,10 @@ maybe-not first layers p text a r true t =
           (λ b u m h. ahead-kept u (p ∷ []) (first-some first u m.0 m.1) h) r;
     }
 
-first-holds : (first : Placed) (k : Kind) (layers : List Open) (p : Placed) (text : List Placed) → AreOpen layers → Under layers (PointReads (behind_word layers) (MaybeNot first)) text →
+first-holds : (first : Placed) (k : Kind) (layers : List Open) (p : Placed) (text : List Placed) → AreOpen layers → Under layers (PointReads (behind_word layers) (NotOrAttribute first)) text →
     AllLogicHold (after_first first k p layers) (text ++ p ∷ [])
-first-holds first kind.Quote layers p text a r = maybe-attribute first layers p text a r (reading.run Arithmetic (WantTerm []) (first ∷ p ∷ [])) refl
-first-holds first kind.Letter layers p text a r = maybe-not first layers p text a r (to_ascii_uppercase p.code == 79) refl
+first-holds first kind.Quote layers p text a r = begins-attribute first layers p text a r (reading.run Arithmetic (WantTerm []) (first ∷ p ∷ [])) refl
+first-holds first kind.Letter layers p text a r = begins-not first layers p text a r (to_ascii_uppercase p.code == 79) refl
 first-holds first _ layers p text a r = tt
 
 -- Within a word.
@@ -162,9 +162,9 @@ not-whole : (text : List Placed) → Partly (IsGap Arithmetic) not_word [] text 
 not-whole text q =
     record { before = q.left; letters = q.letters; operand = []; all = q.all ∙ sym (append-nil (q.left ++ q.letters)); blank = q.first; named = sym (append-nil (capitals q.letters)) ∙ q.named; is = (tt, refl); apart = refl }
 
-both-whole : (operator : Operator) (left : Tree) (text : List Placed) → Partly (Ends IsTruth left false) (operator_word operator) [] text →
+left-operand-whole : (operator : Operator) (left : Tree) (text : List Placed) → Partly (Ends IsTruth left false) (operator_word operator) [] text →
     Joined (IsTruth left) (operator_word operator) (PointReads true (Want true)) text
-both-whole operator left text q =
+left-operand-whole operator left text q =
     record {
       left = q.left;
       letters = q.letters;
@@ -194,17 +194,17 @@ not-letters (c ∷ rest) wanted layers p text a e r =
           (λ b u q h. ahead-kept u (p ∷ []) (partly-some (IsGap Arithmetic) not_word (wanted ∷ c ∷ rest) u q) h) r;
     }
 
-both-letters : (rest : List ℕ) (wanted : ℕ) (operator : Operator) (left : Tree) (layers : List Open) (p : Placed) (text : List Placed) → AreOpen (Both operator left ∷ layers) → to_ascii_uppercase p.code ≡ wanted →
+left-operand-letters : (rest : List ℕ) (wanted : ℕ) (operator : Operator) (left : Tree) (layers : List Open) (p : Placed) (text : List Placed) → AreOpen (LeftOperand operator left ∷ layers) → to_ascii_uppercase p.code ≡ wanted →
     Under layers (Partly (λ part. IsTruth left part × (touches_behind false part ≡ false)) (operator_word operator) (wanted ∷ rest)) text →
-    LogicHolds (at_point (Both operator left ∷ layers) (spelling rest)) (text ++ p ∷ [])
-both-letters [] wanted operator left layers p text a e r =
+    LogicHolds (at_point (LeftOperand operator left ∷ layers) (spelling rest)) (text ++ p ∷ [])
+left-operand-letters [] wanted operator left layers p text a e r =
     record {
       ordered = a;
       reads = under-grows layers (Partly (Ends IsTruth left false) (operator_word operator) (wanted ∷ [])) (Joined (IsTruth left) (operator_word operator) (PointReads true (Want true))) text (p ∷ []) a.3
-          (λ u q. both-whole operator left (u ++ p ∷ []) (partly-grows (Ends IsTruth left false) (operator_word operator) [] wanted u p e q))
+          (λ u q. left-operand-whole operator left (u ++ p ∷ []) (partly-grows (Ends IsTruth left false) (operator_word operator) [] wanted u p e q))
           (λ b u q h. ahead-kept u (p ∷ []) (partly-some (Ends IsTruth left false) (operator_word operator) (wanted ∷ []) u q) h) r;
     }
-both-letters (c ∷ rest) wanted operator left layers p text a e r =
+left-operand-letters (c ∷ rest) wanted operator left layers p text a e r =
     record {
       ordered = a;
       reads = under-grows layers (Partly (Ends IsTruth left false) (operator_word operator) (wanted ∷ c ∷ rest)) (Partly (Ends IsTruth left false) (operator_word operator) (c ∷ rest)) text (p ∷ []) a.3
@@ -215,7 +215,7 @@ both-letters (c ∷ rest) wanted operator left layers p text a e r =
 word-letters : (rest : List ℕ) (wanted : ℕ) (layers : List Open) (p : Placed) (text : List Placed) → AreOpen layers → to_ascii_uppercase p.code ≡ wanted → WordReads layers (wanted ∷ rest) text →
     LogicHolds (at_point layers (spelling rest)) (text ++ p ∷ [])
 word-letters rest wanted (Negation ∷ layers) p text a e r = not-letters rest wanted layers p text a e r
-word-letters rest wanted (Both operator left ∷ layers) p text a e r = both-letters rest wanted operator left layers p text a e r
+word-letters rest wanted (LeftOperand operator left ∷ layers) p text a e r = left-operand-letters rest wanted operator left layers p text a e r
 word-letters rest wanted [] p text a e r = absurd r
 word-letters rest wanted (Group ∷ layers) p text a e r = absurd r
 
@@ -305,45 +305,45 @@ right-ahead : (touch : Bool) (p : Placed) (u : List Placed) → touching touch p
 right-ahead touch p [] n t h = ap (λ b. b && is_symbol_character p.code) (sym t) ∙ n
 right-ahead touch p (q ∷ u) n t h = h
 
-right-some : (is_text : Bool) (against : Against) (touch : Bool) (u : List Placed) → Joined (IsSide is_text against.left) (comparison_word against.comparison) (RightPart touch) u → is_empty u ≡ false
-right-some is_text against touch u j =
-    joined-some (IsSide is_text against.left) (RightPart touch) (comparison_word against.comparison) u j (comparison-some against.comparison j.letters j.named)
+right-some : (is_text : Bool) (relation : OpenRelation) (touch : Bool) (u : List Placed) → Joined (IsSide is_text relation.left) (comparison_word relation.comparison) (RightPart touch) u → is_empty u ≡ false
+right-some is_text relation touch u j =
+    joined-some (IsSide is_text relation.left) (RightPart touch) (comparison_word relation.comparison) u j (comparison-some relation.comparison j.letters j.named)
 
-right-blank : (is_text : Bool) (against : Against) (touch : Bool) (layers : List Open) (p : Placed) (text : List Placed) → AreOpen layers → kind_of p.code ≡ kind.Blank →
-    Under layers (PointReads (behind_word layers) (Right is_text against touch)) text → LogicHolds (at_point layers (Right is_text against false)) (text ++ p ∷ [])
-right-blank is_text against touch layers p text a e r =
+right-blank : (is_text : Bool) (relation : OpenRelation) (touch : Bool) (layers : List Open) (p : Placed) (text : List Placed) → AreOpen layers → kind_of p.code ≡ kind.Blank →
+    Under layers (PointReads (behind_word layers) (Right is_text relation touch)) text → LogicHolds (at_point layers (Right is_text relation false)) (text ++ p ∷ [])
+right-blank is_text relation touch layers p text a e r =
     record {
       ordered = a;
-      reads = under-grows layers (PointReads (behind_word layers) (Right is_text against touch)) (PointReads (behind_word layers) (Right is_text against false)) text (p ∷ []) a
-          (λ u j. joined-more (IsSide is_text against.left) (RightPart touch) (RightPart false) (comparison_word against.comparison) u (p ∷ []) j
+      reads = under-grows layers (PointReads (behind_word layers) (Right is_text relation touch)) (PointReads (behind_word layers) (Right is_text relation false)) text (p ∷ []) a
+          (λ u j. joined-more (IsSide is_text relation.left) (RightPart touch) (RightPart false) (comparison_word relation.comparison) u (p ∷ []) j
           (gap-longer Arithmetic p refl e j.right j.second.0, sym (some-last j.right p)) (ahead-apart j.right p (blank-apart p.code e)))
-          (λ b u j h. ahead-kept u (p ∷ []) (right-some is_text against touch u j) h) r;
+          (λ b u j h. ahead-kept u (p ∷ []) (right-some is_text relation touch u j) h) r;
     }
 
-right-operand : (is_text : Bool) (against : Against) (touch : Bool) (layers : List Open) (p : Placed) (text : List Placed) → touching touch p ≡ false → AreOpen layers →
-    Under layers (PointReads (behind_word layers) (Right is_text against touch)) text →
-    AllLogicHold (if is_text then text_begun (Some against) p layers else number_begun (Some against) p layers) (text ++ p ∷ [])
-right-operand false against touch layers p text n a r =
-    number_begun-holds (Some against) (PointReads (behind_word layers) (Right false against touch)) layers p text a
-    (λ next s u j. joined-more (IsSide false against.left) (RightPart touch) (NumberPart next) (comparison_word against.comparison) u (p ∷ []) j
+right-operand : (is_text : Bool) (relation : OpenRelation) (touch : Bool) (layers : List Open) (p : Placed) (text : List Placed) → touching touch p ≡ false → AreOpen layers →
+    Under layers (PointReads (behind_word layers) (Right is_text relation touch)) text →
+    AllLogicHold (if is_text then text_begun (Some relation) p layers else number_begun (Some relation) p layers) (text ++ p ∷ [])
+right-operand false relation touch layers p text n a r =
+    number_begun-holds (Some relation) (PointReads (behind_word layers) (Right false relation touch)) layers p text a
+    (λ next s u j. joined-more (IsSide false relation.left) (RightPart touch) (NumberPart next) (comparison_word relation.comparison) u (p ∷ []) j
     (number-first next j.right p s j.second.0) (right-ahead touch p j.right n j.second.1))
-    (λ b u j h. ahead-kept u (p ∷ []) (right-some false against touch u j) h) r
-right-operand true against touch layers p text n a r =
-    text_begun-holds (Some against) (PointReads (behind_word layers) (Right true against touch)) layers p text a
-    (λ next s u j. joined-more (IsSide true against.left) (RightPart touch) (TextPart next) (comparison_word against.comparison) u (p ∷ []) j
+    (λ b u j h. ahead-kept u (p ∷ []) (right-some false relation touch u j) h) r
+right-operand true relation touch layers p text n a r =
+    text_begun-holds (Some relation) (PointReads (behind_word layers) (Right true relation touch)) layers p text a
+    (λ next s u j. joined-more (IsSide true relation.left) (RightPart touch) (TextPart next) (comparison_word relation.comparison) u (p ∷ []) j
     (part-first next j.right p s j.second.0) (right-ahead touch p j.right n j.second.1))
-    (λ b u j h. ahead-kept u (p ∷ []) (right-some true against touch u j) h) r
+    (λ b u j h. ahead-kept u (p ∷ []) (right-some true relation touch u j) h) r
 
-right_apart-holds : (is_text : Bool) (against : Against) (touch : Bool) (k : Kind) (layers : List Open) (p : Placed) (text : List Placed) → touching touch p ≡ false → AreOpen layers → kind_of p.code ≡ k →
-    Under layers (PointReads (behind_word layers) (Right is_text against touch)) text → AllLogicHold (right_apart is_text against k p layers) (text ++ p ∷ [])
-right_apart-holds is_text against touch kind.Blank layers p text n a e r = right-blank is_text against touch layers p text a e r
-right_apart-holds is_text against touch _ layers p text n a e r = right-operand is_text against touch layers p text n a r
+right_apart-holds : (is_text : Bool) (relation : OpenRelation) (touch : Bool) (k : Kind) (layers : List Open) (p : Placed) (text : List Placed) → touching touch p ≡ false → AreOpen layers → kind_of p.code ≡ k →
+    Under layers (PointReads (behind_word layers) (Right is_text relation touch)) text → AllLogicHold (right_apart is_text relation k p layers) (text ++ p ∷ [])
+right_apart-holds is_text relation touch kind.Blank layers p text n a e r = right-blank is_text relation touch layers p text a e r
+right_apart-holds is_text relation touch _ layers p text n a e r = right-operand is_text relation touch layers p text n a r
 
-right-holds : (is_text : Bool) (against : Against) (touch : Bool) (layers : List Open) (p : Placed) (text : List Placed) → AreOpen layers →
-    Under layers (PointReads (behind_word layers) (Right is_text against touch)) text → AllLogicHold (right_begun is_text against touch p layers) (text ++ p ∷ [])
-right-holds is_text against touch layers p text a r =
-    let go : (b : Bool) → touching touch p ≡ b → AllLogicHold (if b then None else right_apart is_text against (kind_of p.code) p layers) (text ++ p ∷ []) =
-    elim [ true ↦ λ t. tt | false ↦ λ t. right_apart-holds is_text against touch (kind_of p.code) layers p text t a refl r ] in
+right-holds : (is_text : Bool) (relation : OpenRelation) (touch : Bool) (layers : List Open) (p : Placed) (text : List Placed) → AreOpen layers →
+    Under layers (PointReads (behind_word layers) (Right is_text relation touch)) text → AllLogicHold (right_begun is_text relation touch p layers) (text ++ p ∷ [])
+right-holds is_text relation touch layers p text a r =
+    let go : (b : Bool) → touching touch p ≡ b → AllLogicHold (if b then None else right_apart is_text relation (kind_of p.code) p layers) (text ++ p ∷ []) =
+    elim [ true ↦ λ t. tt | false ↦ λ t. right_apart-holds is_text relation touch (kind_of p.code) layers p text t a refl r ] in
     go (touching touch p) refl
 
 -- Behind a number in parentheses.
@@ -406,17 +406,17 @@ closed-goes inner _ layers p text a r = closed-number inner layers p text a r
 
 point-holds : (layers : List Open) (point : Point) (p : Placed) (text : List Placed) → AreOpen layers → StateReads layers point text → AllLogicHold (point_step point p layers) (text ++ p ∷ [])
 point-holds layers (Want touch) p text a r = truth-holds touch layers p text a r
-point-holds layers (MaybeNot first) p text a r = first-holds first (kind_of p.code) layers p text a r
+point-holds layers (NotOrAttribute first) p text a r = first-holds first (kind_of p.code) layers p text a r
 point-holds layers (Letters rest) p text a r = letters-hold rest layers p text a r
-point-holds layers (Number against inner touch) p text a r = number-holds against inner touch layers p text a r (reading.step Arithmetic inner p) refl
-point-holds layers (Text against inner touch) p text a r = text-holds against inner touch layers p text a r (text_step inner p) refl
-point-holds layers (Ended tree) p text a r = behind_one-holds (TextOne tree) false (kind_of p.code) layers p text (λ k. tt) a refl r
+point-holds layers (Number relation inner touch) p text a r = number-holds relation inner touch layers p text a r (reading.step Arithmetic inner p) refl
+point-holds layers (Text relation inner touch) p text a r = text-holds relation inner touch layers p text a r (text_step inner p) refl
+point-holds layers (BehindText tree) p text a r = behind_one-holds (TextOne tree) false (kind_of p.code) layers p text (λ k. tt) a refl r
 point-holds layers (Comparing letter is_text left) p text a r = comparing-goes letter is_text left layers p text a r (comparison_of letter (to_ascii_uppercase p.code)) refl
-point-holds layers (Right is_text against touch) p text a r = right-holds is_text against touch layers p text a r
+point-holds layers (Right is_text relation touch) p text a r = right-holds is_text relation touch layers p text a r
 point-holds layers (Closed inner) p text a r = closed-goes inner (kind_of p.code) layers p text a r
-point-holds layers (Had tree) p text a r =
+point-holds layers (BehindTruth tree) p text a r =
     behind_one-holds (TruthOne tree) false (kind_of p.code) layers p text (λ k. tt) a refl
-    (under-became layers (PointReads (behind_word layers) (Had tree)) (Whole (TruthOne tree) false) text (λ u w. ((w.0, w.1), w.2)) r)
+    (under-became layers (PointReads (behind_word layers) (BehindTruth tree)) (Whole (TruthOne tree) false) text (λ u w. ((w.0, w.1), w.2)) r)
 
 pub logic_steps : (state : LogicState) (p : Placed) (text : List Placed) → LogicHolds state text → AllLogicHold (logic_step state p) (text ++ p ∷ [])
 unfolding logic_step
@@ -437,36 +437,36 @@ logic_starts = record { ordered = tt; reads = (tt, refl) }
 -- The tree of a whole text.
 
 abbrev touch_of : Point → Bool
-touch_of (Number against inner touch) = touch
-touch_of (Text against inner touch) = touch
+touch_of (Number relation inner touch) = touch
+touch_of (Text relation inner touch) = touch
 touch_of point = false
 
-number-settled : (against : Option Against) (inner : State) (touch : Bool) (operand : Operand) (u : List Placed) (word : Bool) → PointReads word (Number against inner touch) u →
-    (found : Option Tree) → reading.accept Arithmetic inner ≡ found → option_map (number_side against) found ≡ Some operand → Whole operand touch u
-number-settled against inner touch operand u word b None e s = cc
-number-settled against inner touch operand u word b (Some tree) e s =
-    let same : number_side against tree ≡ operand = cc in
-    subst (λ (o : Operand). Whole o touch u) same (side-reads against inner tree u e b.0, sym b.1)
+number-settled : (relation : Option OpenRelation) (inner : State) (touch : Bool) (operand : Operand) (u : List Placed) (word : Bool) → PointReads word (Number relation inner touch) u →
+    (found : Option Tree) → reading.accept Arithmetic inner ≡ found → option_map (number_side relation) found ≡ Some operand → Whole operand touch u
+number-settled relation inner touch operand u word b None e s = cc
+number-settled relation inner touch operand u word b (Some tree) e s =
+    let same : number_side relation tree ≡ operand = cc in
+    subst (λ (o : Operand). Whole o touch u) same (side-reads relation inner tree u e b.0, sym b.1)
 
-text-settled : (against : Option Against) (inner : TextState) (touch : Bool) (operand : Operand) (u : List Placed) (word : Bool) → PointReads word (Text against inner touch) u →
-    (found : Option Tree) → text_accept inner ≡ found → option_map (text_side against) found ≡ Some operand → Whole operand touch u
-text-settled against inner touch operand u word b None e s = cc
-text-settled against inner touch operand u word b (Some tree) e s =
-    let same : text_side against tree ≡ operand = cc in
-    subst (λ (o : Operand). Whole o touch u) same (text_side-reads against inner tree u e b.0, sym b.1)
+text-settled : (relation : Option OpenRelation) (inner : TextState) (touch : Bool) (operand : Operand) (u : List Placed) (word : Bool) → PointReads word (Text relation inner touch) u →
+    (found : Option Tree) → text_accept inner ≡ found → option_map (text_side relation) found ≡ Some operand → Whole operand touch u
+text-settled relation inner touch operand u word b None e s = cc
+text-settled relation inner touch operand u word b (Some tree) e s =
+    let same : text_side relation tree ≡ operand = cc in
+    subst (λ (o : Operand). Whole o touch u) same (text_side-reads relation inner tree u e b.0, sym b.1)
 
 paren-number : (inner : Tree) → reading.accept Arithmetic (Have (Paren inner) []) ≡ Some (Paren inner)
 unfolding reading.accept
 paren-number inner = refl
 
 settled-reads : (word : Bool) (point : Point) (operand : Operand) (u : List Placed) → PointReads word point u → settled point ≡ Some operand → Whole operand (touch_of point) u
-settled-reads word (Number against inner touch) operand u b s = number-settled against inner touch operand u word b (reading.accept Arithmetic inner) refl s
-settled-reads word (Text against inner touch) operand u b s = text-settled against inner touch operand u word b (text_accept inner) refl s
-settled-reads word (Ended tree) operand u b s = let same : TextOne tree ≡ operand = cc in subst (λ (o : Operand). Whole o false u) same (b.0, b.1)
+settled-reads word (Number relation inner touch) operand u b s = number-settled relation inner touch operand u word b (reading.accept Arithmetic inner) refl s
+settled-reads word (Text relation inner touch) operand u b s = text-settled relation inner touch operand u word b (text_accept inner) refl s
+settled-reads word (BehindText tree) operand u b s = let same : TextOne tree ≡ operand = cc in subst (λ (o : Operand). Whole o false u) same (b.0, b.1)
 settled-reads word (Closed inner) operand u b s =
     let same : NumberOne (Paren inner) ≡ operand = cc in
     subst (λ (o : Operand). Whole o false u) same (number-of (Have (Paren inner) []) (Paren inner) u (paren-number inner) (paren-holds inner u b.0), b.1)
-settled-reads word (Had tree) operand u b s = let same : TruthOne tree ≡ operand = cc in subst (λ (o : Operand). Whole o false u) same ((b.0, b.1), b.2)
+settled-reads word (BehindTruth tree) operand u b s = let same : TruthOne tree ≡ operand = cc in subst (λ (o : Operand). Whole o false u) same ((b.0, b.1), b.2)
 settled-reads word _ operand u b s = cc
 
 whole_over-some : (found : Tree) (layers : List Open) (tree : Tree) → whole_over found layers ≡ Some tree → (layers ≡ []) × (found ≡ tree)

@@ -16,12 +16,12 @@ use Rattle.expression_grammar.specs.Reading.{State}
 use Rattle.logical_grammar.specs.Logics.{touches_behind, touches_ahead, IsCharacters}
 use Rattle.character_grammar.specs.TextReading as texts
 use Rattle.character_grammar.specs.TextReading.{Opened, Holder, InText, AsType, Frame, Factor, Subscripts, Start, Count, TextState, WantPart, WantQuote, Inside, Lone, Naming, Behind, Within, WantCount, Star, Letter, Asked, Sigil, Word, Done, with_plain, typed, after_part, begin_part, begin_quoted, go_inside, after_lone, after_symbol, after_name, lengthen, go_naming, subscripted, leave, left_by, go_within, is_star, begin_count, after_star, after_letter, after_asked, after_sigil, lengthen_word, go_word, text_step, text_accept, text_run}
-use Rattle.logical_grammar.specs.LogicReading.{Open, Group, Against, Point, Want, Text, Ended, Right, Closed, Had, LogicState, at_point, Operand, NumberOne, TruthOne, TextOne, text_side, settled, closing, blanked, behind_one, behind, on_text, text_begun, letter_begun, truth_apart, right_apart, after_closed, point_step, logic_step, logic_run}
+use Rattle.logical_grammar.specs.LogicReading.{Open, Group, OpenRelation, Point, Want, Text, BehindText, Right, Closed, BehindTruth, LogicState, at_point, Operand, NumberOne, TruthOne, TextOne, text_side, settled, closing, blanked, behind_one, behind, on_text, text_begun, letter_begun, truth_apart, right_apart, after_closed, point_step, logic_step, logic_run}
 use Rattle.expression_grammar.proofs.CharacterLaws.{kind-letter_symbol, kind-digit_symbol}
 use Rattle.character_grammar.proofs.TextPlain.{test}
 use Rattle.character_grammar.proofs.TextTrees.{text_accepted}
 use Rattle.logical_grammar.proofs.LogicLaws.{point-steps, logic_run-append, touches-all, want-gap, right-gap}
-use Rattle.logical_grammar.proofs.LogicStands.{Standing, behind-close, behind-letter, ended-stands, had-stands, ended-blank, had-blank, OperandLead, gap-behind}
+use Rattle.logical_grammar.proofs.LogicStands.{Standing, behind-close, behind-letter, behind-text-stands, behind-truth-stands, behind-text-blank, behind-truth-blank, OperandLead, gap-behind}
 use Rattle.logical_grammar.proofs.LogicNumbers.{groups, Follows, wanting, follow, stood, want-stands, right-stands}
 
 -- What the last character of a text tells.
@@ -213,52 +213,52 @@ text-none _ tree p a r = cc
 refuses : (k : Kind) (state : TextState) (p : Placed) → kind_of p.code ≡ k → Refuses k state → Refuses (kind_of p.code) state
 refuses k state p e r = subst (λ x. Refuses x state) (sym e) r
 
-text-stands : (against : Option Against) (inner : TextState) (touch : Bool) (tree : Tree) → text_accept inner ≡ Some tree → TextShows inner touch →
-    Standing (Text against inner touch) touch (text_side against tree)
-text-stands against inner touch tree a s =
-    let settles : settled (Text against inner touch) ≡ Some (text_side against tree) = ap (option_map (text_side against)) a in
+text-stands : (relation : Option OpenRelation) (inner : TextState) (touch : Bool) (tree : Tree) → text_accept inner ≡ Some tree → TextShows inner touch →
+    Standing (Text relation inner touch) touch (text_side relation tree)
+text-stands relation inner touch tree a s =
+    let settles : settled (Text relation inner touch) ≡ Some (text_side relation tree) = ap (option_map (text_side relation)) a in
     record {
       settles = settles;
       closes = λ p layers e.
-          ap (λ x. on_text against x (settled (Text against inner touch)) touch p layers) (text-none inner tree p a (refuses kind.Close inner p e tt))
-          ∙ behind-close (settled (Text against inner touch)) (text_side against tree) touch p layers settles e;
+          ap (λ x. on_text relation x (settled (Text relation inner touch)) touch p layers) (text-none inner tree p a (refuses kind.Close inner p e tt))
+          ∙ behind-close (settled (Text relation inner touch)) (text_side relation tree) touch p layers settles e;
       spells = λ t p layers e.
-          ap (λ x. on_text against x (settled (Text against inner touch)) touch p layers) (text-none inner tree p a (refuses kind.Letter inner p e (subst (TextShows inner) t s)))
-          ∙ behind-letter (settled (Text against inner touch)) (text_side against tree) touch p layers settles t e;
+          ap (λ x. on_text relation x (settled (Text relation inner touch)) touch p layers) (text-none inner tree p a (refuses kind.Letter inner p e (subst (TextShows inner) t s)))
+          ∙ behind-letter (settled (Text relation inner touch)) (text_side relation tree) touch p layers settles t e;
     }
 
-text-blank : (against : Option Against) (inner : TextState) (touch : Bool) (tree : Tree) (p : Placed) (layers : List Open) → text_accept inner ≡ Some tree → kind_of p.code ≡ kind.Blank →
-    point_step (Text against inner touch) p layers ≡ Some (at_point layers (blanked (text_side against tree)))
-text-blank against inner touch tree p layers a e =
-    ap (λ x. on_text against x (settled (Text against inner touch)) touch p layers) (text-none inner tree p a (refuses kind.Blank inner p e tt))
-    ∙ ap (λ x. behind x touch p layers) (ap (option_map (text_side against)) a)
-    ∙ ap (λ k. behind_one (text_side against tree) touch k p.code layers) e
+text-blank : (relation : Option OpenRelation) (inner : TextState) (touch : Bool) (tree : Tree) (p : Placed) (layers : List Open) → text_accept inner ≡ Some tree → kind_of p.code ≡ kind.Blank →
+    point_step (Text relation inner touch) p layers ≡ Some (at_point layers (blanked (text_side relation tree)))
+text-blank relation inner touch tree p layers a e =
+    ap (λ x. on_text relation x (settled (Text relation inner touch)) touch p layers) (text-none inner tree p a (refuses kind.Blank inner p e tt))
+    ∙ ap (λ x. behind x touch p layers) (ap (option_map (text_side relation)) a)
+    ∙ ap (λ k. behind_one (text_side relation tree) touch k p.code layers) e
 
 -- Within a text.
 
-record TextRun (against : Option Against) (layers : List Open) (state : TextState) (ps : List Placed) (touch : Bool) (last : TextState) : Type 0 where
-  runs : logic_run (at_point layers (Text against state touch)) ps ≡ Some (at_point layers (Text against last (touches_behind touch ps)))
+record TextRun (relation : Option OpenRelation) (layers : List Open) (state : TextState) (ps : List Placed) (touch : Bool) (last : TextState) : Type 0 where
+  runs : logic_run (at_point layers (Text relation state touch)) ps ≡ Some (at_point layers (Text relation last (touches_behind touch ps)))
   shows : TextShows last (touches_behind touch ps)
 
-text-on_of : (against : Option Against) (layers : List Open) (p : Placed) (ps : List Placed) (state last : TextState) (touch : Bool) (found : Option TextState) → text_step state p ≡ found →
-    ((s : TextState) (t : Bool) → TextShows s t → text_run s ps ≡ Some last → TextRun against layers s ps t last) →
-    option_and_then (λ next. text_run next ps) found ≡ Some last → TextRun against layers state (p ∷ ps) touch last
-text-on_of against layers p ps state last touch None s go e = cc
-text-on_of against layers p ps state last touch (Some next) s go e =
+text-on_of : (relation : Option OpenRelation) (layers : List Open) (p : Placed) (ps : List Placed) (state last : TextState) (touch : Bool) (found : Option TextState) → text_step state p ≡ found →
+    ((s : TextState) (t : Bool) → TextShows s t → text_run s ps ≡ Some last → TextRun relation layers s ps t last) →
+    option_and_then (λ next. text_run next ps) found ≡ Some last → TextRun relation layers state (p ∷ ps) touch last
+text-on_of relation layers p ps state last touch None s go e = cc
+text-on_of relation layers p ps state last touch (Some next) s go e =
     let more = go next (is_symbol_character p.code) (text-shows state next p s) e in
     record {
-      runs = point-steps (Text against state touch) layers (at_point layers (Text against next (is_symbol_character p.code))) p ps
-          (ap (λ x. on_text against x (settled (Text against state touch)) touch p layers) s)
+      runs = point-steps (Text relation state touch) layers (at_point layers (Text relation next (is_symbol_character p.code))) p ps
+          (ap (λ x. on_text relation x (settled (Text relation state touch)) touch p layers) s)
           ∙ more.runs;
       shows = more.shows;
     }
 
-text-on : (against : Option Against) (layers : List Open) (ps : List Placed) (state last : TextState) (touch : Bool) → TextShows state touch → text_run state ps ≡ Some last →
-    TextRun against layers state ps touch last
-text-on against layers [] state last touch s e =
+text-on : (relation : Option OpenRelation) (layers : List Open) (ps : List Placed) (state last : TextState) (touch : Bool) → TextShows state touch → text_run state ps ≡ Some last →
+    TextRun relation layers state ps touch last
+text-on relation layers [] state last touch s e =
     let same : state ≡ last = cc in
-    record { runs = ap (λ x. Some (at_point layers (Text against x touch))) same; shows = subst (λ x. TextShows x touch) same s }
-text-on against layers (p ∷ ps) state last touch s e = text-on_of against layers p ps state last touch (text_step state p) refl (λ x t g h. text-on against layers ps x last t g h) e
+    record { runs = ap (λ x. Some (at_point layers (Text relation x touch))) same; shows = subst (λ x. TextShows x touch) same s }
+text-on relation layers (p ∷ ps) state last touch s e = text-on_of relation layers p ps state last touch (text_step state p) refl (λ x t g h. text-on relation layers ps x last t g h) e
 
 -- Where a truth is wanted.
 
@@ -403,8 +403,8 @@ text-lead tree text layers before touch apart i =
     let ahead : Bool = touches_behind before i.before in
     let touched : Bool = touches_behind ahead i.core in
     let r = text-reached i.core layers ahead (WantPart None) a.last start tree a.accepts (at_part refl refl) a.runs in
-    let l = gap-behind layers (Text None a.last touched) (Ended tree) (TextOne tree) touched (text-stands None a.last touched tree a.accepts r.shows) (ended-stands tree)
-    (λ p e. text-blank None a.last touched tree p layers a.accepts e) (λ p e. ended-blank tree p layers e) i.behind i.blank_behind in
+    let l = gap-behind layers (Text None a.last touched) (BehindText tree) (TextOne tree) touched (text-stands None a.last touched tree a.accepts r.shows) (behind-text-stands tree)
+    (λ p e. text-blank None a.last touched tree p layers a.accepts e) (λ p e. behind-text-blank tree p layers e) i.behind i.blank_behind in
     want-stands layers (TextOne tree) before touch text apart (record {
       last = l.last;
       runs = ap (logic_run start) whole_text ∙ want-gap layers i.before (i.core ++ i.behind) i.blank_before
@@ -414,51 +414,51 @@ text-lead tree text layers before touch apart i =
 
 -- The right side of a comparison.
 
-right-kind : (against : Against) (p : Placed) (layers : List Open) (next : TextState) (k : Kind) → begin_part None k p.code ≡ Some next → right_apart true against k p layers ≡ text_begun (Some against) p layers
-right-kind against p layers next kind.Blank e = cc
-right-kind against p layers next _ e = refl
+right-kind : (relation : OpenRelation) (p : Placed) (layers : List Open) (next : TextState) (k : Kind) → begin_part None k p.code ≡ Some next → right_apart true relation k p layers ≡ text_begun (Some relation) p layers
+right-kind relation p layers next kind.Blank e = cc
+right-kind relation p layers next _ e = refl
 
-record RightRun (layers : List Open) (against : Against) (ps : List Placed) (touch : Bool) (last : TextState) : Type 0 where
-  runs : logic_run (at_point layers (Right true against false)) ps ≡ Some (at_point layers (Text (Some against) last (touches_behind touch ps)))
+record RightRun (layers : List Open) (relation : OpenRelation) (ps : List Placed) (touch : Bool) (last : TextState) : Type 0 where
+  runs : logic_run (at_point layers (Right true relation false)) ps ≡ Some (at_point layers (Text (Some relation) last (touches_behind touch ps)))
   shows : TextShows last (touches_behind touch ps)
 
-right-run_of : (layers : List Open) (against : Against) (p : Placed) (ps : List Placed) (touch : Bool) (last : TextState) (found : Option TextState) → text_step (WantPart None) p ≡ found →
-    option_and_then (λ next. text_run next ps) found ≡ Some last → RightRun layers against (p ∷ ps) touch last
+right-run_of : (layers : List Open) (relation : OpenRelation) (p : Placed) (ps : List Placed) (touch : Bool) (last : TextState) (found : Option TextState) → text_step (WantPart None) p ≡ found →
+    option_and_then (λ next. text_run next ps) found ≡ Some last → RightRun layers relation (p ∷ ps) touch last
 unfolding text_step
-right-run_of layers against p ps touch last None s e = cc
-right-run_of layers against p ps touch last (Some next) s e =
-    let more = text-on (Some against) layers ps next last (is_symbol_character p.code) (text-shows (WantPart None) next p s) e in
+right-run_of layers relation p ps touch last None s e = cc
+right-run_of layers relation p ps touch last (Some next) s e =
+    let more = text-on (Some relation) layers ps next last (is_symbol_character p.code) (text-shows (WantPart None) next p s) e in
     record {
-      runs = point-steps (Right true against false) layers (at_point layers (Text (Some against) next (is_symbol_character p.code))) p ps
-          (right-kind against p layers next (kind_of p.code) s ∙ ap (λ x. on_text (Some against) x None false p layers) s)
+      runs = point-steps (Right true relation false) layers (at_point layers (Text (Some relation) next (is_symbol_character p.code))) p ps
+          (right-kind relation p layers next (kind_of p.code) s ∙ ap (λ x. on_text (Some relation) x None false p layers) s)
           ∙ more.runs;
       shows = more.shows;
     }
 
-right-run : (layers : List Open) (against : Against) (ps : List Placed) (touch : Bool) (last : TextState) (tree : Tree) → text_accept last ≡ Some tree → text_run (WantPart None) ps ≡ Some last →
-    RightRun layers against ps touch last
+right-run : (layers : List Open) (relation : OpenRelation) (ps : List Placed) (touch : Bool) (last : TextState) (tree : Tree) → text_accept last ≡ Some tree → text_run (WantPart None) ps ≡ Some last →
+    RightRun layers relation ps touch last
 unfolding text_accept
-right-run layers against [] touch last tree a e =
+right-run layers relation [] touch last tree a e =
     let same : WantPart None ≡ last = cc in
     let none : None ≡ Some tree = ap text_accept same ∙ a in
     cc
-right-run layers against (p ∷ ps) touch last tree a e = right-run_of layers against p ps touch last (text_step (WantPart None) p) refl e
+right-run layers relation (p ∷ ps) touch last tree a e = right-run_of layers relation p ps touch last (text_step (WantPart None) p) refl e
 
-pub right_text-lead : (tree : Tree) (text : List Placed) (against : Against) (layers : List Open) (before touch : Bool) → (touch && touches_ahead text) ≡ false → IsCharacters tree text →
-    OperandLead (Right true against touch) layers (TruthOne (Compared against.comparison against.left tree)) before text
-right_text-lead tree text against layers before touch apart i =
+pub right_text-lead : (tree : Tree) (text : List Placed) (relation : OpenRelation) (layers : List Open) (before touch : Bool) → (touch && touches_ahead text) ≡ false → IsCharacters tree text →
+    OperandLead (Right true relation touch) layers (TruthOne (Compared relation.comparison relation.left tree)) before text
+right_text-lead tree text relation layers before touch apart i =
     let a = text_accepted tree i.core i.fits i.reads in
     let whole_text : text ≡ i.before ++ (i.core ++ i.behind) = i.all ∙ append_assoc i.before i.core i.behind in
-    let whole : Tree = Compared against.comparison against.left tree in
-    let start : LogicState = at_point layers (Right true against false) in
+    let whole : Tree = Compared relation.comparison relation.left tree in
+    let start : LogicState = at_point layers (Right true relation false) in
     let ahead : Bool = touches_behind before i.before in
     let touched : Bool = touches_behind ahead i.core in
-    let r = right-run layers against i.core ahead a.last tree a.accepts a.runs in
-    let l = gap-behind layers (Text (Some against) a.last touched) (Had whole) (TruthOne whole) touched (text-stands (Some against) a.last touched tree a.accepts r.shows) (had-stands whole)
-    (λ p e. text-blank (Some against) a.last touched tree p layers a.accepts e) (λ p e. had-blank whole p layers e) i.behind i.blank_behind in
-    right-stands layers true against (TruthOne whole) before touch text apart (record {
+    let r = right-run layers relation i.core ahead a.last tree a.accepts a.runs in
+    let l = gap-behind layers (Text (Some relation) a.last touched) (BehindTruth whole) (TruthOne whole) touched (text-stands (Some relation) a.last touched tree a.accepts r.shows) (behind-truth-stands whole)
+    (λ p e. text-blank (Some relation) a.last touched tree p layers a.accepts e) (λ p e. behind-truth-blank whole p layers e) i.behind i.blank_behind in
+    right-stands layers true relation (TruthOne whole) before touch text apart (record {
       last = l.last;
-      runs = ap (logic_run start) whole_text ∙ right-gap layers true against i.before (i.core ++ i.behind) i.blank_before
-          ∙ logic_run-append i.core i.behind start (at_point layers (Text (Some against) a.last touched)) r.runs ∙ l.runs;
+      runs = ap (logic_run start) whole_text ∙ right-gap layers true relation i.before (i.core ++ i.behind) i.blank_before
+          ∙ logic_run-append i.core i.behind start (at_point layers (Text (Some relation) a.last touched)) r.runs ∙ l.runs;
       stands = subst (λ b. Standing l.last b (TruthOne whole)) (sym (touches-all before text i.before i.core i.behind whole_text)) l.stands;
     })

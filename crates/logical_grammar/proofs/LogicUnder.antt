@@ -12,7 +12,7 @@ use Rattle.expression_grammar.specs.declared.tree.Operator.TheVariants.{And, Or,
 use Rattle.expression_grammar.specs.Characters.{kind_of, strength}
 use Rattle.expression_grammar.specs.Spelling.{Placed}
 use Rattle.logical_grammar.specs.Logics.{IsTruth, Joined, Negated, operator_word, comparison_word, is_logical, capitals, touches_behind, touches_ahead}
-use Rattle.logical_grammar.specs.LogicReading.{Open, Negation, Both, Group}
+use Rattle.logical_grammar.specs.LogicReading.{Open, Negation, LeftOperand, Group}
 use Rattle.logical_grammar.specs.LogicStanding.{Takes, AreOpen, Opened, Under, behind_word, is_empty, Partly}
 
 -- Ends of texts.
@@ -169,7 +169,7 @@ innermost (Negation ∷ layers) IsPart text a h =
       is = i.is.is;
       back = λ IsOther more q k. i.back (Negated IsOther) more (negated-more IsPart IsOther i.part more i.is q (k refl)) (λ w. ahead-kept i.part more (negated-some IsPart i.part i.is));
     }
-innermost (Both operator left ∷ layers) IsPart text a h =
+innermost (LeftOperand operator left ∷ layers) IsPart text a h =
     let i = innermost layers (Joined (IsTruth left) (operator_word operator) IsPart) text a.3 h in
     record {
       part = i.is.right;
@@ -198,7 +198,7 @@ under-became [] IsPart IsOther text f r = f text r
 under-became (Negation ∷ layers) IsPart IsOther text f r =
     under-became layers (Negated IsPart) (Negated IsOther) text
     (λ u n. record { before = n.before; letters = n.letters; operand = n.operand; all = n.all; blank = n.blank; named = n.named; is = f n.operand n.is; apart = n.apart }) r
-under-became (Both operator left ∷ layers) IsPart IsOther text f r =
+under-became (LeftOperand operator left ∷ layers) IsPart IsOther text f r =
     under-became layers (Joined (IsTruth left) (operator_word operator) IsPart) (Joined (IsTruth left) (operator_word operator) IsOther) text
     (λ u j. record { left = j.left; letters = j.letters; right = j.right; all = j.all; first = j.first; second = f j.right j.second; named = j.named; apart_left = j.apart_left; apart_right = j.apart_right }) r
 under-became (Group ∷ layers) IsPart IsOther text f r =
@@ -209,5 +209,5 @@ under-became (Group ∷ layers) IsPart IsOther text f r =
 pub takes-high : (layers : List Open) (high : ℕ) → 3 ≤ high → AreOpen layers → Takes layers high
 takes-high [] high h a = tt
 takes-high (Negation ∷ layers) high h a = h
-takes-high (Both operator left ∷ layers) high h a = omega (arith, logical-strength operator a.0)
+takes-high (LeftOperand operator left ∷ layers) high h a = omega (arith, logical-strength operator a.0)
 takes-high (Group ∷ layers) high h a = tt

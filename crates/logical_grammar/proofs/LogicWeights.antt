@@ -14,7 +14,7 @@ use Rattle.expression_grammar.specs.Spelling.{Placed}
 use Rattle.expression_grammar.specs.Reading as reading
 use Rattle.expression_grammar.specs.Reading.{State, Have, Want as WantTerm}
 use Rattle.character_grammar.specs.TextReading.{TextState, WantPart, WantQuote, text_step, text_accept, text_weight}
-use Rattle.logical_grammar.specs.LogicReading.{Open, Negation, Both, Group, Against, Point, Want, MaybeNot, Letters, Number, Text, Ended, Comparing, Right, Closed, Had, LogicState, at_point, Operand, NumberOne, TruthOne, TextOne, number_side, text_side, settled, truth_of, LogicFolded, logic_fold, blanked, grouped, closing, joining, compares, comparing, lettered, behind_one, behind, on_number, on_text, number_begun, text_begun, letter_begun, touching, truth_apart, right_apart, after_first, spelling, after_letters, after_comparing, comparison_of, after_closed, point_step, logic_step, whole_over, whole, logic_accept, open_size, against_size, text_against_size, point_weight, logic_weight, logic_run}
+use Rattle.logical_grammar.specs.LogicReading.{Open, Negation, LeftOperand, Group, OpenRelation, Point, Want, NotOrAttribute, Letters, Number, Text, BehindText, Comparing, Right, Closed, BehindTruth, LogicState, at_point, Operand, NumberOne, TruthOne, TextOne, number_side, text_side, settled, truth_of, LogicFolded, logic_fold, blanked, grouped, closing, joining, compares, comparing, lettered, behind_one, behind, on_number, on_text, number_begun, text_begun, letter_begun, touching, truth_apart, right_apart, after_first, spelling, after_letters, after_comparing, comparison_of, after_closed, point_step, logic_step, whole_over, whole, logic_accept, open_size, relation_size, text_relation_size, point_weight, logic_weight, logic_run}
 use Rattle.expression_grammar.proofs.Weights.{step-weight, run-least, accept-size}
 use Rattle.character_grammar.proofs.TextWeights.{text_step-least, text_accept-size}
 
@@ -22,8 +22,8 @@ pub logic_fold-size : (floor : ℕ) (tree : Tree) (layers : List Open) →
     open_size (logic_fold floor tree layers).layers + size (logic_fold floor tree layers).tree ≡ open_size layers + size tree
 logic_fold-size floor tree [] = refl
 logic_fold-size floor tree (Negation ∷ layers) = omega (arith, logic_fold-size floor (Not tree) layers)
-logic_fold-size floor tree (Both operator left ∷ layers) =
-    let otherwise : LogicFolded = record { tree = tree; layers = Both operator left ∷ layers } in
+logic_fold-size floor tree (LeftOperand operator left ∷ layers) =
+    let otherwise : LogicFolded = record { tree = tree; layers = LeftOperand operator left ∷ layers } in
     elim (nat_le floor (strength operator)) as
     (λ b. open_size (if b then logic_fold floor (Pair operator left tree) layers else otherwise).layers + size (if b then logic_fold floor (Pair operator left tree) layers else otherwise).tree
     ≡ size left + 1 + open_size layers + size tree)
@@ -57,30 +57,30 @@ abbrev AllSized : ℕ → Option Operand → Type 0
 AllSized low None = Unit {0}
 AllSized low (Some operand) = operand_size operand ≡ low
 
-number_side-size : (against : Option Against) (tree : Tree) → operand_size (number_side against tree) ≡ against_size against + size tree
+number_side-size : (relation : Option OpenRelation) (tree : Tree) → operand_size (number_side relation tree) ≡ relation_size relation + size tree
 number_side-size None tree = omega arith
-number_side-size (Some against) tree = refl
+number_side-size (Some relation) tree = refl
 
-text_side-size : (against : Option Against) (tree : Tree) → operand_size (text_side against tree) ≡ text_against_size against + size tree
+text_side-size : (relation : Option OpenRelation) (tree : Tree) → operand_size (text_side relation tree) ≡ text_relation_size relation + size tree
 text_side-size None tree = omega arith
-text_side-size (Some against) tree = refl
+text_side-size (Some relation) tree = refl
 
-number-sized : (against : Option Against) (inner : State) (found : Option Tree) → reading.accept Arithmetic inner ≡ found →
-    AllSized (against_size against + reading.weight inner) (option_map (number_side against) found)
-number-sized against inner None e = tt
-number-sized against inner (Some tree) e = omega (arith, number_side-size against tree, accept-size Arithmetic inner tree e)
+number-sized : (relation : Option OpenRelation) (inner : State) (found : Option Tree) → reading.accept Arithmetic inner ≡ found →
+    AllSized (relation_size relation + reading.weight inner) (option_map (number_side relation) found)
+number-sized relation inner None e = tt
+number-sized relation inner (Some tree) e = omega (arith, number_side-size relation tree, accept-size Arithmetic inner tree e)
 
-text-sized : (against : Option Against) (inner : TextState) (found : Option Tree) → text_accept inner ≡ found →
-    AllSized (text_against_size against + text_weight inner) (option_map (text_side against) found)
-text-sized against inner None e = tt
-text-sized against inner (Some tree) e = omega (arith, text_side-size against tree, text_accept-size inner tree e)
+text-sized : (relation : Option OpenRelation) (inner : TextState) (found : Option Tree) → text_accept inner ≡ found →
+    AllSized (text_relation_size relation + text_weight inner) (option_map (text_side relation) found)
+text-sized relation inner None e = tt
+text-sized relation inner (Some tree) e = omega (arith, text_side-size relation tree, text_accept-size inner tree e)
 
 settled-sized : (point : Point) → AllSized (point_weight point) (settled point)
-settled-sized (Number against inner touch) = number-sized against inner (reading.accept Arithmetic inner) refl
-settled-sized (Text against inner touch) = text-sized against inner (text_accept inner) refl
-settled-sized (Ended text) = refl
+settled-sized (Number relation inner touch) = number-sized relation inner (reading.accept Arithmetic inner) refl
+settled-sized (Text relation inner touch) = text-sized relation inner (text_accept inner) refl
+settled-sized (BehindText text) = refl
 settled-sized (Closed inner) = refl
-settled-sized (Had tree) = refl
+settled-sized (BehindTruth tree) = refl
 settled-sized _ = tt
 
 -- Behind an operand.
@@ -93,7 +93,7 @@ blanked-least (TextOne tree) = omega arith
 grouped-least : (tree : Tree) (layers : List Open) → LogicLeast (open_size layers + size tree) (grouped tree layers)
 grouped-least tree [] = tt
 grouped-least tree (Negation ∷ layers) = tt
-grouped-least tree (Both operator left ∷ layers) = tt
+grouped-least tree (LeftOperand operator left ∷ layers) = tt
 grouped-least tree (Group ∷ layers) = omega arith
 
 folded-least : (tree : Tree) (layers : List Open) → LogicLeast (open_size layers + size tree) (grouped (logic_fold 0 tree layers).tree (logic_fold 0 tree layers).layers)
@@ -105,7 +105,7 @@ closing-least : (operand : Operand) (layers : List Open) → LogicLeast (open_si
 closing-least (NumberOne tree) (Group ∷ layers) = omega arith
 closing-least (NumberOne tree) [] = folded-least tree []
 closing-least (NumberOne tree) (Negation ∷ layers) = folded-least tree (Negation ∷ layers)
-closing-least (NumberOne tree) (Both operator left ∷ layers) = folded-least tree (Both operator left ∷ layers)
+closing-least (NumberOne tree) (LeftOperand operator left ∷ layers) = folded-least tree (LeftOperand operator left ∷ layers)
 closing-least (TruthOne tree) layers = folded-least tree layers
 closing-least (TextOne tree) layers = tt
 
@@ -152,15 +152,15 @@ abbrev TextLeast : ℕ → Option TextState → Type 0
 TextLeast low None = Unit {0}
 TextLeast low (Some state) = low ≤ text_weight state
 
-on_number-least : (low : ℕ) (against : Option Against) (next : Option State) (found : Option Operand) (touch : Bool) (p : Placed) (layers : List Open) →
-    StateLeast low next → AllSized (against_size against + low) found → LogicLeast (open_size layers + (against_size against + low)) (on_number against next found touch p layers)
-on_number-least low against None found touch p layers h e = behind-least (against_size against + low) found touch p layers e
-on_number-least low against (Some next) found touch p layers h e = omega arith
+on_number-least : (low : ℕ) (relation : Option OpenRelation) (next : Option State) (found : Option Operand) (touch : Bool) (p : Placed) (layers : List Open) →
+    StateLeast low next → AllSized (relation_size relation + low) found → LogicLeast (open_size layers + (relation_size relation + low)) (on_number relation next found touch p layers)
+on_number-least low relation None found touch p layers h e = behind-least (relation_size relation + low) found touch p layers e
+on_number-least low relation (Some next) found touch p layers h e = omega arith
 
-on_text-least : (low : ℕ) (against : Option Against) (next : Option TextState) (found : Option Operand) (touch : Bool) (p : Placed) (layers : List Open) →
-    TextLeast low next → AllSized (text_against_size against + low) found → LogicLeast (open_size layers + (text_against_size against + low)) (on_text against next found touch p layers)
-on_text-least low against None found touch p layers h e = behind-least (text_against_size against + low) found touch p layers e
-on_text-least low against (Some next) found touch p layers h e = omega arith
+on_text-least : (low : ℕ) (relation : Option OpenRelation) (next : Option TextState) (found : Option Operand) (touch : Bool) (p : Placed) (layers : List Open) →
+    TextLeast low next → AllSized (text_relation_size relation + low) found → LogicLeast (open_size layers + (text_relation_size relation + low)) (on_text relation next found touch p layers)
+on_text-least low relation None found touch p layers h e = behind-least (text_relation_size relation + low) found touch p layers e
+on_text-least low relation (Some next) found touch p layers h e = omega arith
 
 step-least : (inner : State) (p : Placed) (found : Option State) → reading.step Arithmetic inner p ≡ found → StateLeast (reading.weight inner) found
 step-least inner p None e = tt
@@ -172,13 +172,13 @@ two-least first p (Some next) e = let least : reading.weight (WantTerm []) ≤ r
 
 -- Where an operand is wanted.
 
-number_begun-least : (against : Option Against) (p : Placed) (layers : List Open) → LogicLeast (open_size layers + (against_size against + 1)) (number_begun against p layers)
-number_begun-least against p layers =
-    on_number-least 1 against (reading.step Arithmetic (WantTerm []) p) None false p layers (step-least (WantTerm []) p (reading.step Arithmetic (WantTerm []) p) refl) tt
+number_begun-least : (relation : Option OpenRelation) (p : Placed) (layers : List Open) → LogicLeast (open_size layers + (relation_size relation + 1)) (number_begun relation p layers)
+number_begun-least relation p layers =
+    on_number-least 1 relation (reading.step Arithmetic (WantTerm []) p) None false p layers (step-least (WantTerm []) p (reading.step Arithmetic (WantTerm []) p) refl) tt
 
-text_begun-least : (against : Option Against) (p : Placed) (layers : List Open) → LogicLeast (open_size layers + (text_against_size against + 1)) (text_begun against p layers)
-text_begun-least against p layers =
-    on_text-least 1 against (text_step (WantPart None) p) None false p layers (text_step-least (WantPart None) p) tt
+text_begun-least : (relation : Option OpenRelation) (p : Placed) (layers : List Open) → LogicLeast (open_size layers + (text_relation_size relation + 1)) (text_begun relation p layers)
+text_begun-least relation p layers =
+    on_text-least 1 relation (text_step (WantPart None) p) None false p layers (text_step-least (WantPart None) p) tt
 
 truth-text : (p : Placed) (layers : List Open) → LogicLeast (open_size layers + 1) (text_begun None p layers)
 truth-text p layers = lower (open_size layers + 1) (open_size layers + (2 + 1)) (text_begun None p layers) (omega arith) (text_begun-least None p layers)
@@ -197,16 +197,16 @@ truth_apart-least kind.Quote p layers = truth-text p layers
 truth_apart-least kind.Letter p layers = letter_begun-least (to_ascii_uppercase p.code) p layers
 truth_apart-least _ p layers = truth-number p layers
 
-right-side : (is_text : Bool) (against : Against) (p : Placed) (layers : List Open) →
-    LogicLeast (open_size layers + (size against.left + 2)) (if is_text then text_begun (Some against) p layers else number_begun (Some against) p layers)
-right-side is_text against p layers =
-    if-both (open_size layers + (size against.left + 2)) is_text _ _
-    (lower (open_size layers + (size against.left + 2)) (open_size layers + ((size against.left + 1) + 1)) (text_begun (Some against) p layers) (omega arith) (text_begun-least (Some against) p layers))
-    (lower (open_size layers + (size against.left + 2)) (open_size layers + ((size against.left + 1) + 1)) (number_begun (Some against) p layers) (omega arith) (number_begun-least (Some against) p layers))
+right-side : (is_text : Bool) (relation : OpenRelation) (p : Placed) (layers : List Open) →
+    LogicLeast (open_size layers + (size relation.left + 2)) (if is_text then text_begun (Some relation) p layers else number_begun (Some relation) p layers)
+right-side is_text relation p layers =
+    if-both (open_size layers + (size relation.left + 2)) is_text _ _
+    (lower (open_size layers + (size relation.left + 2)) (open_size layers + ((size relation.left + 1) + 1)) (text_begun (Some relation) p layers) (omega arith) (text_begun-least (Some relation) p layers))
+    (lower (open_size layers + (size relation.left + 2)) (open_size layers + ((size relation.left + 1) + 1)) (number_begun (Some relation) p layers) (omega arith) (number_begun-least (Some relation) p layers))
 
-right_apart-least : (is_text : Bool) (against : Against) (k : Kind) (p : Placed) (layers : List Open) → LogicLeast (open_size layers + (size against.left + 2)) (right_apart is_text against k p layers)
-right_apart-least is_text against kind.Blank p layers = omega arith
-right_apart-least is_text against _ p layers = right-side is_text against p layers
+right_apart-least : (is_text : Bool) (relation : OpenRelation) (k : Kind) (p : Placed) (layers : List Open) → LogicLeast (open_size layers + (size relation.left + 2)) (right_apart is_text relation k p layers)
+right_apart-least is_text relation kind.Blank p layers = omega arith
+right_apart-least is_text relation _ p layers = right-side is_text relation p layers
 
 after_first-least : (first : Placed) (k : Kind) (p : Placed) (layers : List Open) → LogicLeast (open_size layers + 1) (after_first first k p layers)
 after_first-least first kind.Quote p layers =
@@ -246,20 +246,20 @@ after_closed-least inner _ p layers = closed-number inner p layers
 
 point_step-least : (point : Point) (p : Placed) (layers : List Open) → LogicLeast (open_size layers + point_weight point) (point_step point p layers)
 point_step-least (Want touch) p layers = unless-least (open_size layers + 1) (touching touch p) (truth_apart (kind_of p.code) p layers) (truth_apart-least (kind_of p.code) p layers)
-point_step-least (MaybeNot first) p layers = after_first-least first (kind_of p.code) p layers
+point_step-least (NotOrAttribute first) p layers = after_first-least first (kind_of p.code) p layers
 point_step-least (Letters rest) p layers = after_letters-least rest (to_ascii_uppercase p.code) layers
-point_step-least (Number against inner touch) p layers =
-    on_number-least (reading.weight inner) against (reading.step Arithmetic inner p) (settled (Number against inner touch)) touch p layers
-    (step-least inner p (reading.step Arithmetic inner p) refl) (settled-sized (Number against inner touch))
-point_step-least (Text against inner touch) p layers =
-    on_text-least (text_weight inner) against (text_step inner p) (settled (Text against inner touch)) touch p layers
-    (text_step-least inner p) (settled-sized (Text against inner touch))
-point_step-least (Ended text) p layers = behind-least (size text + 2) (Some (TextOne text)) false p layers refl
+point_step-least (Number relation inner touch) p layers =
+    on_number-least (reading.weight inner) relation (reading.step Arithmetic inner p) (settled (Number relation inner touch)) touch p layers
+    (step-least inner p (reading.step Arithmetic inner p) refl) (settled-sized (Number relation inner touch))
+point_step-least (Text relation inner touch) p layers =
+    on_text-least (text_weight inner) relation (text_step inner p) (settled (Text relation inner touch)) touch p layers
+    (text_step-least inner p) (settled-sized (Text relation inner touch))
+point_step-least (BehindText text) p layers = behind-least (size text + 2) (Some (TextOne text)) false p layers refl
 point_step-least (Comparing letter is_text left) p layers = after_comparing-least (comparison_of letter (to_ascii_uppercase p.code)) is_text left layers
-point_step-least (Right is_text against touch) p layers =
-    unless-least (open_size layers + (size against.left + 2)) (touching touch p) (right_apart is_text against (kind_of p.code) p layers) (right_apart-least is_text against (kind_of p.code) p layers)
+point_step-least (Right is_text relation touch) p layers =
+    unless-least (open_size layers + (size relation.left + 2)) (touching touch p) (right_apart is_text relation (kind_of p.code) p layers) (right_apart-least is_text relation (kind_of p.code) p layers)
 point_step-least (Closed inner) p layers = after_closed-least inner (kind_of p.code) p layers
-point_step-least (Had tree) p layers = behind-least (size tree) (Some (TruthOne tree)) false p layers refl
+point_step-least (BehindTruth tree) p layers = behind-least (size tree) (Some (TruthOne tree)) false p layers refl
 
 logic_step-least : (state : LogicState) (p : Placed) → LogicLeast (logic_weight state) (logic_step state p)
 unfolding logic_step

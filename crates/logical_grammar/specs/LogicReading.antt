@@ -20,11 +20,11 @@ use Rattle.character_grammar.specs.TextReading.{TextState, WantPart, WantQuote, 
 -- what is open: a NOT, an operator word with its left operand, a parenthesis where a truth was wanted
 pub data Open : Type 0 where
   Negation : Open
-  Both : (operator : Operator) (left : Tree) → Open
+  LeftOperand : (operator : Operator) (left : Tree) → Open
   Group : Open
 
--- a comparison with its left side
-pub record Against : Type 0 where
+-- a relation whose left side is read
+pub record OpenRelation : Type 0 where
   pub comparison : Comparison
   pub left : Tree
 
@@ -33,23 +33,23 @@ pub data Point : Type 0 where
   -- a truth is wanted
   Want : (touch : Bool) → Point
   -- behind an N where a truth was wanted
-  MaybeNot : (first : Placed) → Point
+  NotOrAttribute : (first : Placed) → Point
   -- within an operator word, with the letters that are to come
   Letters : (rest : List ℕ) → Point
   -- within a number, or behind it
-  Number : (against : Option Against) (inner : State) (touch : Bool) → Point
+  Number : (relation : Option OpenRelation) (inner : State) (touch : Bool) → Point
   -- within a text, or directly behind it
-  Text : (against : Option Against) (inner : TextState) (touch : Bool) → Point
+  Text : (relation : Option OpenRelation) (inner : TextState) (touch : Bool) → Point
   -- behind a text and blanks
-  Ended : (text : Tree) → Point
+  BehindText : (text : Tree) → Point
   -- behind the first letter of a comparison
   Comparing : (letter : ℕ) (is_text : Bool) (left : Tree) → Point
   -- the right side of a comparison is wanted
-  Right : (is_text : Bool) (against : Against) (touch : Bool) → Point
+  Right : (is_text : Bool) (relation : OpenRelation) (touch : Bool) → Point
   -- directly behind the parenthesis that closes a number where a truth was wanted
   Closed : (inner : Tree) → Point
   -- behind a truth that is no number, and has no side to come
-  Had : (tree : Tree) → Point
+  BehindTruth : (tree : Tree) → Point
 
 pub record LogicState : Type 0 where
   pub layers : List Open
@@ -64,20 +64,20 @@ pub data Operand : Type 0 where
   TruthOne : (tree : Tree) → Operand
   TextOne : (tree : Tree) → Operand
 
-abbrev pub number_side : Option Against → Tree → Operand
+abbrev pub number_side : Option OpenRelation → Tree → Operand
 number_side None tree = NumberOne tree
-number_side (Some against) tree = TruthOne (Compared against.comparison against.left tree)
+number_side (Some relation) tree = TruthOne (Compared relation.comparison relation.left tree)
 
-abbrev pub text_side : Option Against → Tree → Operand
+abbrev pub text_side : Option OpenRelation → Tree → Operand
 text_side None tree = TextOne tree
-text_side (Some against) tree = TruthOne (Compared against.comparison against.left tree)
+text_side (Some relation) tree = TruthOne (Compared relation.comparison relation.left tree)
 
 abbrev pub settled : Point → Option Operand
-settled (Number against inner touch) = option_map (number_side against) (reading.accept Arithmetic inner)
-settled (Text against inner touch) = option_map (text_side against) (text_accept inner)
-settled (Ended text) = Some (TextOne text)
+settled (Number relation inner touch) = option_map (number_side relation) (reading.accept Arithmetic inner)
+settled (Text relation inner touch) = option_map (text_side relation) (text_accept inner)
+settled (BehindText text) = Some (TextOne text)
 settled (Closed inner) = Some (NumberOne (Paren inner))
-settled (Had tree) = Some (TruthOne tree)
+settled (BehindTruth tree) = Some (TruthOne tree)
 settled _ = None
 
 abbrev pub truth_of : Operand → Option Tree
@@ -93,9 +93,9 @@ pub record LogicFolded : Type 0 where
 abbrev pub logic_fold : ℕ → Tree → List Open → LogicFolded
 logic_fold floor tree [] = record { tree = tree; layers = [] }
 logic_fold floor tree (Negation ∷ layers) = logic_fold floor (Not tree) layers
-logic_fold floor tree (Both operator left ∷ layers) =
+logic_fold floor tree (LeftOperand operator left ∷ layers) =
     if nat_le floor (strength operator) then logic_fold floor (Pair operator left tree) layers
-    else record { tree = tree; layers = Both operator left ∷ layers }
+    else record { tree = tree; layers = LeftOperand operator left ∷ layers }
 logic_fold floor tree (Group ∷ layers) = record { tree = tree; layers = Group ∷ layers }
 
 -- Behind an operand.
@@ -103,12 +103,12 @@ logic_fold floor tree (Group ∷ layers) = record { tree = tree; layers = Group 
 -- a blank
 abbrev pub blanked : Operand → Point
 blanked (NumberOne tree) = Number None (Have tree []) false
-blanked (TruthOne tree) = Had tree
-blanked (TextOne tree) = Ended tree
+blanked (TruthOne tree) = BehindTruth tree
+blanked (TextOne tree) = BehindText tree
 
 -- a closing parenthesis
 abbrev pub grouped : Tree → List Open → Option LogicState
-grouped tree (Group ∷ layers) = Some (at_point layers (Had (Paren tree)))
+grouped tree (Group ∷ layers) = Some (at_point layers (BehindTruth (Paren tree)))
 grouped tree layers = None
 
 abbrev pub closing : Operand → List Open → Option LogicState
@@ -119,7 +119,7 @@ closing (TextOne tree) layers = None
 
 -- the first letter of an operator
 abbrev pub pushed : Operator → List ℕ → LogicFolded → LogicState
-pushed operator rest folded = at_point (Both operator folded.tree ∷ folded.layers) (Letters rest)
+pushed operator rest folded = at_point (LeftOperand operator folded.tree ∷ folded.layers) (Letters rest)
 
 abbrev pub joining : Operator → List ℕ → Option Tree → List Open → Option LogicState
 joining operator rest None layers = None
@@ -154,26 +154,26 @@ behind (Some operand) touch p layers = behind_one operand touch (kind_of p.code)
 
 -- Within an operand: on in it, or else behind it.
 
-abbrev pub on_number : Option Against → Option State → Option Operand → Bool → Placed → List Open → Option LogicState
-on_number against (Some next) found touch p layers = Some (at_point layers (Number against next (is_symbol_character p.code)))
-on_number against None found touch p layers = behind found touch p layers
+abbrev pub on_number : Option OpenRelation → Option State → Option Operand → Bool → Placed → List Open → Option LogicState
+on_number relation (Some next) found touch p layers = Some (at_point layers (Number relation next (is_symbol_character p.code)))
+on_number relation None found touch p layers = behind found touch p layers
 
-abbrev pub on_text : Option Against → Option TextState → Option Operand → Bool → Placed → List Open → Option LogicState
-on_text against (Some next) found touch p layers = Some (at_point layers (Text against next (is_symbol_character p.code)))
-on_text against None found touch p layers = behind found touch p layers
+abbrev pub on_text : Option OpenRelation → Option TextState → Option Operand → Bool → Placed → List Open → Option LogicState
+on_text relation (Some next) found touch p layers = Some (at_point layers (Text relation next (is_symbol_character p.code)))
+on_text relation None found touch p layers = behind found touch p layers
 
 -- Where an operand is wanted.
 
 -- a character that is no blank and does not touch a word begins a text, or else a number
-abbrev pub number_begun : Option Against → Placed → List Open → Option LogicState
-number_begun against p layers = on_number against (reading.step Arithmetic (WantTerm []) p) None false p layers
+abbrev pub number_begun : Option OpenRelation → Placed → List Open → Option LogicState
+number_begun relation p layers = on_number relation (reading.step Arithmetic (WantTerm []) p) None false p layers
 
-abbrev pub text_begun : Option Against → Placed → List Open → Option LogicState
-text_begun against p layers = on_text against (text_step (WantPart None) p) None false p layers
+abbrev pub text_begun : Option OpenRelation → Placed → List Open → Option LogicState
+text_begun relation p layers = on_text relation (text_step (WantPart None) p) None false p layers
 
 abbrev pub letter_begun : ℕ → Placed → List Open → Option LogicState
 letter_begun letter p layers =
-    if letter == 78 then Some (at_point layers (MaybeNot p))
+    if letter == 78 then Some (at_point layers (NotOrAttribute p))
     else (if letter == 84 then text_begun None p layers
     else number_begun None p layers)
 
@@ -191,12 +191,12 @@ truth_apart _ p layers = number_begun None p layers
 abbrev pub truth_begun : Bool → Placed → List Open → Option LogicState
 truth_begun touch p layers = if touching touch p then None else truth_apart (kind_of p.code) p layers
 
-abbrev pub right_apart : Bool → Against → Kind → Placed → List Open → Option LogicState
-right_apart is_text against kind.Blank p layers = Some (at_point layers (Right is_text against false))
-right_apart is_text against _ p layers = if is_text then text_begun (Some against) p layers else number_begun (Some against) p layers
+abbrev pub right_apart : Bool → OpenRelation → Kind → Placed → List Open → Option LogicState
+right_apart is_text relation kind.Blank p layers = Some (at_point layers (Right is_text relation false))
+right_apart is_text relation _ p layers = if is_text then text_begun (Some relation) p layers else number_begun (Some relation) p layers
 
-abbrev pub right_begun : Bool → Against → Bool → Placed → List Open → Option LogicState
-right_begun is_text against touch p layers = if touching touch p then None else right_apart is_text against (kind_of p.code) p layers
+abbrev pub right_begun : Bool → OpenRelation → Bool → Placed → List Open → Option LogicState
+right_begun is_text relation touch p layers = if touching touch p then None else right_apart is_text relation (kind_of p.code) p layers
 
 -- behind an N: an attribute, or NOT
 abbrev pub after_first : Placed → Kind → Placed → List Open → Option LogicState
@@ -237,15 +237,15 @@ after_closed inner k p layers = on_number None (reading.step Arithmetic (Have (P
 -- a state with one character more, unless no logical expression goes on so
 abbrev pub point_step : Point → Placed → List Open → Option LogicState
 point_step (Want touch) p layers = truth_begun touch p layers
-point_step (MaybeNot first) p layers = after_first first (kind_of p.code) p layers
+point_step (NotOrAttribute first) p layers = after_first first (kind_of p.code) p layers
 point_step (Letters rest) p layers = after_letters rest (to_ascii_uppercase p.code) layers
-point_step (Number against inner touch) p layers = on_number against (reading.step Arithmetic inner p) (settled (Number against inner touch)) touch p layers
-point_step (Text against inner touch) p layers = on_text against (text_step inner p) (settled (Text against inner touch)) touch p layers
-point_step (Ended text) p layers = behind (Some (TextOne text)) false p layers
+point_step (Number relation inner touch) p layers = on_number relation (reading.step Arithmetic inner p) (settled (Number relation inner touch)) touch p layers
+point_step (Text relation inner touch) p layers = on_text relation (text_step inner p) (settled (Text relation inner touch)) touch p layers
+point_step (BehindText text) p layers = behind (Some (TextOne text)) false p layers
 point_step (Comparing letter is_text left) p layers = after_comparing (comparison_of letter (to_ascii_uppercase p.code)) is_text left layers
-point_step (Right is_text against touch) p layers = right_begun is_text against touch p layers
+point_step (Right is_text relation touch) p layers = right_begun is_text relation touch p layers
 point_step (Closed inner) p layers = after_closed inner (kind_of p.code) p layers
-point_step (Had tree) p layers = behind (Some (TruthOne tree)) false p layers
+point_step (BehindTruth tree) p layers = behind (Some (TruthOne tree)) false p layers
 
 unfoldable pub logic_step : LogicState → Placed → Option LogicState
 logic_step state p = point_step state.point p state.layers
@@ -265,33 +265,33 @@ logic_accept state = option_and_then (whole state.layers) (option_and_then truth
 
 abbrev pub one_size : Open → ℕ
 one_size Negation = 1
-one_size (Both operator left) = size left + 1
+one_size (LeftOperand operator left) = size left + 1
 one_size Group = 1
 
 abbrev pub open_size : List Open → ℕ
 open_size [] = 0
 open_size (one ∷ layers) = one_size one + open_size layers
 
-abbrev pub against_size : Option Against → ℕ
-against_size None = 0
-against_size (Some against) = size against.left + 1
+abbrev pub relation_size : Option OpenRelation → ℕ
+relation_size None = 0
+relation_size (Some relation) = size relation.left + 1
 
 -- a text that is compared with nothing yet has a comparison and a text to come
-abbrev pub text_against_size : Option Against → ℕ
-text_against_size None = 2
-text_against_size (Some against) = size against.left + 1
+abbrev pub text_relation_size : Option OpenRelation → ℕ
+text_relation_size None = 2
+text_relation_size (Some relation) = size relation.left + 1
 
 abbrev pub point_weight : Point → ℕ
 point_weight (Want touch) = 1
-point_weight (MaybeNot first) = 1
+point_weight (NotOrAttribute first) = 1
 point_weight (Letters rest) = 1
-point_weight (Number against inner touch) = against_size against + reading.weight inner
-point_weight (Text against inner touch) = text_against_size against + text_weight inner
-point_weight (Ended text) = size text + 2
+point_weight (Number relation inner touch) = relation_size relation + reading.weight inner
+point_weight (Text relation inner touch) = text_relation_size relation + text_weight inner
+point_weight (BehindText text) = size text + 2
 point_weight (Comparing letter is_text left) = size left + 2
-point_weight (Right is_text against touch) = size against.left + 2
+point_weight (Right is_text relation touch) = size relation.left + 2
 point_weight (Closed inner) = 1 + size inner
-point_weight (Had tree) = size tree
+point_weight (BehindTruth tree) = size tree
 
 abbrev pub logic_weight : LogicState → ℕ
 logic_weight state = open_size state.layers + point_weight state.point

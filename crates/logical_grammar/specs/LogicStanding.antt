@@ -8,7 +8,7 @@ use Rattle.expression_grammar.specs.Spelling.{Placed, Gap, One, IsGap, IsOf, Rea
 use Rattle.expression_grammar.specs.Reading as reading
 use Rattle.expression_grammar.specs.Trees.{Tree}
 use Rattle.logical_grammar.specs.Logics.{IsNumber, IsCharacters, IsTruth, IsLogical, Joined, Negated, operator_word, comparison_word, is_logical, not_word, capitals, touches_behind}
-use Rattle.logical_grammar.specs.LogicReading.{Open, Negation, Both, Group, Against, Point, Want, MaybeNot, Letters, Number, Text, Ended, Comparing, Right, Closed, Had, LogicState, compares}
+use Rattle.logical_grammar.specs.LogicReading.{Open, Negation, LeftOperand, Group, OpenRelation, Point, Want, NotOrAttribute, Letters, Number, Text, BehindText, Comparing, Right, Closed, BehindTruth, LogicState, compares}
 use Rattle.character_grammar.specs.TextStanding.{TextHolds}
 use Rattle.character_grammar.specs.TextReading.{TextState}
 
@@ -18,13 +18,13 @@ use Rattle.character_grammar.specs.TextReading.{TextState}
 abbrev pub Takes : List Open → ℕ → Type 0
 Takes [] rank = Unit {0}
 Takes (Negation ∷ layers) rank = 3 ≤ rank
-Takes (Both operator left ∷ layers) rank = strength operator < rank
+Takes (LeftOperand operator left ∷ layers) rank = strength operator < rank
 Takes (Group ∷ layers) rank = Unit {0}
 
 abbrev pub AreOpen : List Open → Type 0
 AreOpen [] = Unit {0}
 AreOpen (Negation ∷ layers) = AreOpen layers
-AreOpen (Both operator left ∷ layers) = IsTrue (is_logical operator) × (strength operator ≤ rank left) × Takes layers (strength operator) × AreOpen layers
+AreOpen (LeftOperand operator left ∷ layers) = IsTrue (is_logical operator) × (strength operator ≤ rank left) × Takes layers (strength operator) × AreOpen layers
 AreOpen (Group ∷ layers) = AreOpen layers
 
 -- an opening parenthesis, and what stands behind it
@@ -41,14 +41,14 @@ pub record Opened (IsInner : List Placed → Type 0) (text : List Placed) : Type
 abbrev pub Under : List Open → (List Placed → Type 0) → List Placed → Type 0
 Under [] IsRest text = IsRest text
 Under (Negation ∷ layers) IsRest text = Under layers (Negated IsRest) text
-Under (Both operator left ∷ layers) IsRest text = Under layers (Joined (IsTruth left) (operator_word operator) IsRest) text
+Under (LeftOperand operator left ∷ layers) IsRest text = Under layers (Joined (IsTruth left) (operator_word operator) IsRest) text
 Under (Group ∷ layers) IsRest text = Under layers (Opened IsRest) text
 
 -- whether a word is the last that is open
 abbrev pub behind_word : List Open → Bool
 behind_word [] = false
 behind_word (Negation ∷ layers) = true
-behind_word (Both operator left ∷ layers) = true
+behind_word (LeftOperand operator left ∷ layers) = true
 behind_word (Group ∷ layers) = false
 
 -- Points.
@@ -88,22 +88,22 @@ pub record Initial (letter : ℕ) (is_text : Bool) (left : Tree) (text : List Pl
   pub named : to_ascii_uppercase first.code ≡ letter
 
 -- a comparison with its left side, and then something else
-abbrev pub Behind : Bool → Option Against → (List Placed → Type 0) → List Placed → Type 0
+abbrev pub Behind : Bool → Option OpenRelation → (List Placed → Type 0) → List Placed → Type 0
 Behind is_text None IsRest text = IsRest text
-Behind is_text (Some against) IsRest text = Joined (IsSide is_text against.left) (comparison_word against.comparison) IsRest text
+Behind is_text (Some relation) IsRest text = Joined (IsSide is_text relation.left) (comparison_word relation.comparison) IsRest text
 
 -- what is read at a point
 abbrev pub PointReads : (behind_word : Bool) → Point → List Placed → Type 0
 PointReads word (Want touch) text = IsGap Arithmetic text × (touch ≡ (word && is_empty text))
-PointReads word (MaybeNot first) text = (before : List Placed) × (text ≡ before ++ first ∷ []) × IsGap Arithmetic before × (to_ascii_uppercase first.code ≡ 78)
+PointReads word (NotOrAttribute first) text = (before : List Placed) × (text ≡ before ++ first ∷ []) × IsGap Arithmetic before × (to_ascii_uppercase first.code ≡ 78)
 PointReads word (Letters rest) text = ⊥
-PointReads word (Number against inner touch) text = Behind false against (λ part. reading.Holds Arithmetic inner part × (is_empty part ≡ false)) text × (touch ≡ touches_behind false text)
-PointReads word (Text against inner touch) text = Behind true against (λ part. Begun inner part × (is_empty part ≡ false)) text × (touch ≡ touches_behind false text)
-PointReads word (Ended tree) text = IsCharacters tree text × (touches_behind false text ≡ false)
+PointReads word (Number relation inner touch) text = Behind false relation (λ part. reading.Holds Arithmetic inner part × (is_empty part ≡ false)) text × (touch ≡ touches_behind false text)
+PointReads word (Text relation inner touch) text = Behind true relation (λ part. Begun inner part × (is_empty part ≡ false)) text × (touch ≡ touches_behind false text)
+PointReads word (BehindText tree) text = IsCharacters tree text × (touches_behind false text ≡ false)
 PointReads word (Comparing letter is_text left) text = (compares letter ≡ true) × Initial letter is_text left text
-PointReads word (Right is_text against touch) text = Behind is_text (Some against) (λ part. IsGap Arithmetic part × (touch ≡ is_empty part)) text
+PointReads word (Right is_text relation touch) text = Behind is_text (Some relation) (λ part. IsGap Arithmetic part × (touch ≡ is_empty part)) text
 PointReads word (Closed inner) text = Parenthesized inner text × (touches_behind false text ≡ false)
-PointReads word (Had tree) text = IsLogical tree text × (4 ≤ rank tree) × (touches_behind false text ≡ false)
+PointReads word (BehindTruth tree) text = IsLogical tree text × (4 ≤ rank tree) × (touches_behind false text ≡ false)
 
 -- letters of an operator word, behind which others are to come
 pub record Partly (IsLeft : List Placed → Type 0) (word rest : List ℕ) (text : List Placed) : Type 0 where
@@ -116,7 +116,7 @@ pub record Partly (IsLeft : List Placed → Type 0) (word rest : List ℕ) (text
 
 abbrev pub WordReads : List Open → List ℕ → List Placed → Type 0
 WordReads (Negation ∷ layers) rest text = Under layers (Partly (IsGap Arithmetic) not_word rest) text
-WordReads (Both operator left ∷ layers) rest text = Under layers (Partly (λ part. IsTruth left part × (touches_behind false part ≡ false)) (operator_word operator) rest) text
+WordReads (LeftOperand operator left ∷ layers) rest text = Under layers (Partly (λ part. IsTruth left part × (touches_behind false part ≡ false)) (operator_word operator) rest) text
 WordReads layers rest text = ⊥
 
 abbrev pub StateReads : List Open → Point → List Placed → Type 0

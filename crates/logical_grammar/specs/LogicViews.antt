@@ -10,7 +10,7 @@ use Rattle.character_grammar.specs.declared.text_point.TextPoint.{TextPoint}
 use Rattle.character_grammar.specs.declared.text_point.TextPoint.TheVariants as text
 use Rattle.logical_grammar.specs.declared.logic_point.Opening.{Opening}
 use Rattle.logical_grammar.specs.declared.logic_point.Opening.TheVariants as opening
-use Rattle.logical_grammar.specs.declared.logic_point.Against.{Against}
+use Rattle.logical_grammar.specs.declared.logic_point.OpenRelation.{OpenRelation}
 use Rattle.logical_grammar.specs.declared.logic_point.Remainder.{Remainder}
 use Rattle.logical_grammar.specs.declared.logic_point.Remainder.TheVariants as remainder
 use Rattle.logical_grammar.specs.declared.logic_point.Initial.{Initial}
@@ -32,7 +32,7 @@ use Rattle.logical_grammar.specs.LogicReading.{Open, LogicState, LogicFolded, lo
 -- something open
 abbrev pub opening_of : Opening → Open
 opening_of opening.Negation = logic.Negation
-opening_of (opening.Both operator left) = logic.Both operator (tree_of left)
+opening_of (opening.LeftOperand operator left) = logic.LeftOperand operator (tree_of left)
 opening_of opening.Group = logic.Group
 
 -- what a stack holds, whose last is the topmost, above other things
@@ -45,8 +45,8 @@ abbrev pub closed_on : ℕ → LogicClosing → List Open → LogicFolded
 closed_on floor (closing.Folded tree) below = logic_fold floor (tree_of tree) below
 closed_on floor (closing.Kept kept tree) below = record { tree = tree_of tree; layers = opening_of kept ∷ below }
 
-abbrev pub against_of : Against → logic.Against
-against_of against = record { comparison = against.comparison; left = tree_of against.left }
+abbrev pub relation_of : OpenRelation → logic.OpenRelation
+relation_of relation = record { comparison = relation.comparison; left = tree_of relation.left }
 
 abbrev pub letters_of : Remainder → List ℕ
 letters_of remainder.Nd = 78 ∷ 68 ∷ []
@@ -63,15 +63,15 @@ letter_of initial.G = 71
 
 abbrev pub point_of : LogicPoint → logic.Point
 point_of (point.Want touch) = logic.Want touch
-point_of (point.MaybeNot first place) = logic.MaybeNot (record { at = place; code = first })
+point_of (point.NotOrAttribute first place) = logic.NotOrAttribute (record { at = place; code = first })
 point_of (point.Letters rest) = logic.Letters (letters_of rest)
-point_of (point.Number against inner above touch) = logic.Number (option_map against_of against) (stand inner (stack_of above.items [])) touch
-point_of (point.Text against inner touch) = logic.Text (option_map against_of against) (text_state inner) touch
-point_of (point.Ended tree) = logic.Ended (tree_of tree)
+point_of (point.Number relation inner above touch) = logic.Number (option_map relation_of relation) (stand inner (stack_of above.items [])) touch
+point_of (point.Text relation inner touch) = logic.Text (option_map relation_of relation) (text_state inner) touch
+point_of (point.BehindText tree) = logic.BehindText (tree_of tree)
 point_of (point.Comparing letter is_text left) = logic.Comparing (letter_of letter) is_text (tree_of left)
-point_of (point.Right is_text against touch) = logic.Right is_text (against_of against) touch
+point_of (point.Right is_text relation touch) = logic.Right is_text (relation_of relation) touch
 point_of (point.Closed tree) = logic.Closed (tree_of tree)
-point_of (point.Had tree) = logic.Had (tree_of tree)
+point_of (point.BehindTruth tree) = logic.BehindTruth (tree_of tree)
 
 abbrev pub operand_of : Operand → logic.Operand
 operand_of (operand.Number tree) = logic.NumberOne (tree_of tree)
@@ -127,7 +127,7 @@ closes_number _ = false
 -- whether the end of a text closes what is open: all but a parenthesis it does
 abbrev pub closes : Opening → Bool
 closes opening.Negation = true
-closes (opening.Both operator left) = true
+closes (opening.LeftOperand operator left) = true
 closes opening.Group = false
 
 abbrev pub all_close : List Opening → Bool

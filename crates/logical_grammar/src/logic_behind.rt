@@ -33,7 +33,7 @@ fn close(
 {
     match opening {
         Opening::Negation => Ok(LogicClosing::Folded(negated(alloc, tree)?)),
-        Opening::Both(operator, left) => close_pair(alloc, floor, operator, left, tree),
+        Opening::LeftOperand(operator, left) => close_pair(alloc, floor, operator, left, tree),
         Opening::Group => Ok(LogicClosing::Kept(Opening::Group, tree)),
     }
 }
@@ -46,12 +46,12 @@ fn close_pair(
     tree: Expr,
 ) -> Result<LogicClosing, OutOfMemory>
     ensures { IfOk result (λ closing. (below : List logic.Open)
-        → logic.logic_fold floor (tree_of tree) (opening_of (Opening.Both operator left) ∷ below) ≡ closed_on floor closing below) }
+        → logic.logic_fold floor (tree_of tree) (opening_of (Opening.LeftOperand operator left) ∷ below) ≡ closed_on floor closing below) }
 {
     if floor <= operator.strength() {
         Ok(LogicClosing::Folded(pair(alloc, operator, left, tree)?))
     } else {
-        Ok(LogicClosing::Kept(Opening::Both(operator, left), tree))
+        Ok(LogicClosing::Kept(Opening::LeftOperand(operator, left), tree))
     }
 }
 
@@ -88,8 +88,8 @@ fn blanked(alloc: Global, operand: Operand) -> LogicPoint
         Operand::Number(tree) => {
             LogicPoint::Number(None, Point::Have(tree), Vec::new(alloc), false)
         }
-        Operand::Truth(tree) => LogicPoint::Had(tree),
-        Operand::Text(tree) => LogicPoint::Ended(tree),
+        Operand::Truth(tree) => LogicPoint::BehindTruth(tree),
+        Operand::Text(tree) => LogicPoint::BehindText(tree),
     }
 }
 
@@ -106,7 +106,7 @@ fn grouped(
     match stack.pop() {
         Some(Opening::Group) => {
             let whole = paren(alloc, tree)?;
-            Ok(logic_moved(LogicPoint::Had(whole), 0))
+            Ok(logic_moved(LogicPoint::BehindTruth(whole), 0))
         }
         _ => Ok(None),
     }
@@ -175,7 +175,7 @@ fn push_operator(
         (logic.open_size (open_of stack.old.items []) + size (tree_of tree)) moved (open_of stack.new.items [])) }
 {
     let left = logic_fold(alloc, operator.strength(), tree, stack)?;
-    stack.push(Opening::Both(operator, left))?;
+    stack.push(Opening::LeftOperand(operator, left))?;
     Ok(logic_moved(LogicPoint::Letters(rest), 2))
 }
 

@@ -2,7 +2,7 @@
 ghost use Rattle.std.specs.Prelude.{◌≡◌, IfOk, Some, option_map};
 ghost use Rattle.expression_grammar.specs.Views.{tree_of};
 ghost use Rattle.logical_grammar.specs.LogicReading as logic;
-ghost use Rattle.logical_grammar.specs.LogicViews.{against_of, closes, operand_of};
+ghost use Rattle.logical_grammar.specs.LogicViews.{relation_of, closes, operand_of};
 
 use character_grammar::text_point::TextPoint;
 use expression_grammar::pending::{Pending, Point};
@@ -16,7 +16,7 @@ pub(crate) enum Opening {
     /// A NOT.
     Negation,
     /// An operator word with its left operand.
-    Both(Operator, Expr),
+    LeftOperand(Operator, Expr),
     /// A parenthesis where a truth was wanted.
     Group,
 }
@@ -27,15 +27,15 @@ impl Opening {
         ensures { result ≡ closes self.now }
     {
         match self {
-            Opening::Negation | Opening::Both(_, _) => true,
+            Opening::Negation | Opening::LeftOperand(_, _) => true,
             Opening::Group => false,
         }
     }
 }
 
-/// A comparison with its left side.
+/// A relation whose left side is read.
 #[derive(Drop)]
-pub(crate) struct Against {
+pub(crate) struct OpenRelation {
     pub(crate) comparison: Comparison,
     pub(crate) left: Expr,
 }
@@ -65,23 +65,23 @@ pub(crate) enum LogicPoint {
     /// A truth is wanted.
     Want(bool),
     /// Behind an N, as it is written and at a place, where a truth was wanted.
-    MaybeNot(char, u32),
+    NotOrAttribute(char, u32),
     /// Within an operator word.
     Letters(Remainder),
     /// Within a number, or behind it.
-    Number(Option<Against>, Point, Vec<Pending>, bool),
+    Number(Option<OpenRelation>, Point, Vec<Pending>, bool),
     /// Within a text, or directly behind it.
-    Text(Option<Against>, TextPoint, bool),
+    Text(Option<OpenRelation>, TextPoint, bool),
     /// Behind a text and blanks.
-    Ended(Expr),
+    BehindText(Expr),
     /// Behind the first letter of a comparison, of texts or of numbers, with its left side.
     Comparing(Initial, bool, Expr),
     /// The right side of a comparison, of texts or of numbers, is wanted.
-    Right(bool, Against, bool),
+    Right(bool, OpenRelation, bool),
     /// Directly behind the parenthesis that closes a number where a truth was wanted.
     Closed(Expr),
     /// Behind a truth that is no number, and has no side to come.
-    Had(Expr),
+    BehindTruth(Expr),
 }
 
 /// What is whole at a point.
@@ -109,13 +109,13 @@ pub(crate) fn logic_moved(point: LogicPoint, more: u64) -> Option<LogicMoved>
 /// A number, or the truth of its comparison.
 pub(crate) fn number_side(
     alloc: Global,
-    against: Option<Against>,
+    relation: Option<OpenRelation>,
     tree: Expr,
 ) -> Result<Operand, OutOfMemory>
-    ensures { IfOk result (λ operand. operand_of operand ≡ logic.number_side (option_map against_of against) (tree_of tree)) }
+    ensures { IfOk result (λ operand. operand_of operand ≡ logic.number_side (option_map relation_of relation) (tree_of tree)) }
 {
-    match against {
-        Some(Against { comparison, left }) => {
+    match relation {
+        Some(OpenRelation { comparison, left }) => {
             Ok(Operand::Truth(compared(alloc, comparison, left, tree)?))
         }
         None => Ok(Operand::Number(tree)),
@@ -125,13 +125,13 @@ pub(crate) fn number_side(
 /// A text, or the truth of its comparison.
 pub(crate) fn text_side(
     alloc: Global,
-    against: Option<Against>,
+    relation: Option<OpenRelation>,
     tree: Expr,
 ) -> Result<Operand, OutOfMemory>
-    ensures { IfOk result (λ operand. operand_of operand ≡ logic.text_side (option_map against_of against) (tree_of tree)) }
+    ensures { IfOk result (λ operand. operand_of operand ≡ logic.text_side (option_map relation_of relation) (tree_of tree)) }
 {
-    match against {
-        Some(Against { comparison, left }) => {
+    match relation {
+        Some(OpenRelation { comparison, left }) => {
             Ok(Operand::Truth(compared(alloc, comparison, left, tree)?))
         }
         None => Ok(Operand::Text(tree)),

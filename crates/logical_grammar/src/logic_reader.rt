@@ -10,13 +10,13 @@ ghost use Rattle.expression_grammar.specs.Stacks.{stack_of, stand};
 ghost use Rattle.expression_grammar.specs.Trees.{Paren, size};
 ghost use Rattle.expression_grammar.specs.Views.{tree_of};
 ghost use Rattle.logical_grammar.specs.LogicReading as logic;
-ghost use Rattle.logical_grammar.specs.LogicViews.{LogicMoves, against_of, all_close, closes_number, ends_number, letter_of, letters_of, may_end_text, open_of, operand_of, part_takes_letter, point_of, text_takes_letter};
+ghost use Rattle.logical_grammar.specs.LogicViews.{LogicMoves, all_close, closes_number, ends_number, letter_of, letters_of, may_end_text, open_of, operand_of, part_takes_letter, point_of, relation_of, text_takes_letter};
 ghost use Rattle.character_grammar.specs.TextReading as texts;
 ghost use Rattle.character_grammar.specs.TextViews.{text_state};
 
 use crate::logic_behind::{behind, logic_fold};
 use crate::logic_point::{
-    Against, Initial, LogicMoved, LogicPoint, Opening, Operand, Remainder, logic_moved,
+    Initial, LogicMoved, LogicPoint, OpenRelation, Opening, Operand, Remainder, logic_moved,
     number_side, text_side, truth_of,
 };
 use character_grammar::text_point::{Holder, TextPoint};
@@ -35,22 +35,22 @@ use std::alloc::Global;
 /// One character more of a number, which it belongs to.
 fn step_number(
     alloc: Global,
-    against: Option<Against>,
+    relation: Option<OpenRelation>,
     inner: Point,
     stack: Vec<Pending>,
     c: char,
     at: u32,
 ) -> Result<Option<LogicMoved>, OutOfMemory>
     ensures moves { IfOk result (λ found. (layers : List logic.Open) → LogicMoves
-        (logic.on_number (option_map against_of against) (reading.step Grammar.Arithmetic (stand inner (stack_of stack.items [])) (record { at = at; code = c })) None false
+        (logic.on_number (option_map relation_of relation) (reading.step Grammar.Arithmetic (stand inner (stack_of stack.items [])) (record { at = at; code = c })) None false
         (record { at = at; code = c }) layers)
-        (logic.open_size layers + (logic.against_size (option_map against_of against) + reading.weight (stand inner (stack_of stack.items [])))) found layers) }
+        (logic.open_size layers + (logic.relation_size (option_map relation_of relation) + reading.weight (stand inner (stack_of stack.items [])))) found layers) }
     ensures small { IfOk result (λ found. IfSome found (λ moved. moved.more < 2 ^ 32)) }
 {
     let mut above = stack;
     match step(alloc, Grammar::Arithmetic, inner, c, at, &mut above)? {
         Some(next) => {
-            let point = LogicPoint::Number(against, next.point, above, is_symbol_character(c));
+            let point = LogicPoint::Number(relation, next.point, above, is_symbol_character(c));
             Ok(logic_moved(point, u64::from(next.more)))
         }
         None => Ok(None),
@@ -85,7 +85,7 @@ fn ends_number(inner: &Point, kind: Kind) -> bool
 /// A character behind a number that may end here, or a parenthesis within it.
 fn end_number(
     alloc: Global,
-    against: Option<Against>,
+    relation: Option<OpenRelation>,
     tree: Expr,
     stack: Vec<Pending>,
     touch: bool,
@@ -94,24 +94,24 @@ fn end_number(
     layers: &mut Vec<Opening>,
 ) -> Result<Option<LogicMoved>, OutOfMemory>
     requires { closes_number (characters.kind_of c) ≡ true }
-    ensures { IfOk result (λ found. LogicMoves (logic.point_step (logic.Number (option_map against_of against) (reading.Have (tree_of tree) (stack_of stack.items [])) touch) (record { at = at; code = c }) (open_of layers.old.items []))
-        (logic.open_size (open_of layers.old.items []) + logic.point_weight (logic.Number (option_map against_of against) (reading.Have (tree_of tree) (stack_of stack.items [])) touch)) found (open_of layers.new.items [])) }
+    ensures { IfOk result (λ found. LogicMoves (logic.point_step (logic.Number (option_map relation_of relation) (reading.Have (tree_of tree) (stack_of stack.items [])) touch) (record { at = at; code = c }) (open_of layers.old.items []))
+        (logic.open_size (open_of layers.old.items []) + logic.point_weight (logic.Number (option_map relation_of relation) (reading.Have (tree_of tree) (stack_of stack.items [])) touch)) found (open_of layers.new.items [])) }
 {
     let mut below = stack;
     let inner = fold(alloc, 0, tree, &mut below)?;
     if below.is_empty() {
-        let operand = number_side(alloc, against, inner)?;
+        let operand = number_side(alloc, relation, inner)?;
         let moved = behind(alloc, operand, touch, kind_of(c), c, layers)?;
         return Ok(moved);
     }
-    let found = step_number(alloc, against, Point::Have(inner), below, c, at)?;
+    let found = step_number(alloc, relation, Point::Have(inner), below, c, at)?;
     Ok(found)
 }
 
 /// A character within a number, or behind it.
 fn go_number(
     alloc: Global,
-    against: Option<Against>,
+    relation: Option<OpenRelation>,
     inner: Point,
     stack: Vec<Pending>,
     touch: bool,
@@ -119,20 +119,20 @@ fn go_number(
     at: u32,
     layers: &mut Vec<Opening>,
 ) -> Result<Option<LogicMoved>, OutOfMemory>
-    ensures { IfOk result (λ found. LogicMoves (logic.point_step (logic.Number (option_map against_of against) (stand inner (stack_of stack.items [])) touch) (record { at = at; code = c }) (open_of layers.old.items []))
-        (logic.open_size (open_of layers.old.items []) + logic.point_weight (logic.Number (option_map against_of against) (stand inner (stack_of stack.items [])) touch)) found (open_of layers.new.items [])) }
+    ensures { IfOk result (λ found. LogicMoves (logic.point_step (logic.Number (option_map relation_of relation) (stand inner (stack_of stack.items [])) touch) (record { at = at; code = c }) (open_of layers.old.items []))
+        (logic.open_size (open_of layers.old.items []) + logic.point_weight (logic.Number (option_map relation_of relation) (stand inner (stack_of stack.items [])) touch)) found (open_of layers.new.items [])) }
 {
     if !ends_number(&inner, kind_of(c)) {
-        let found = step_number(alloc, against, inner, stack, c, at)?;
+        let found = step_number(alloc, relation, inner, stack, c, at)?;
         return Ok(found);
     }
     match settle(alloc, inner) {
         Settled::Tree(tree) => {
-            let moved = end_number(alloc, against, tree, stack, touch, c, at, layers)?;
+            let moved = end_number(alloc, relation, tree, stack, touch, c, at, layers)?;
             Ok(moved)
         }
         Settled::Open(point) => {
-            let within = step_number(alloc, against, point, stack, c, at)?;
+            let within = step_number(alloc, relation, point, stack, c, at)?;
             Ok(within)
         }
     }
@@ -141,17 +141,17 @@ fn go_number(
 /// One character more of a text, which it belongs to.
 fn step_text(
     alloc: Global,
-    against: Option<Against>,
+    relation: Option<OpenRelation>,
     inner: TextPoint,
     c: char,
     at: u32,
 ) -> Result<Option<LogicMoved>, OutOfMemory>
-    ensures { IfOk result (λ found. (layers : List logic.Open) → LogicMoves (logic.on_text (option_map against_of against) (texts.text_step (text_state inner) (record { at = at; code = c })) None false (record { at = at; code = c }) layers)
-        (logic.open_size layers + (logic.text_against_size (option_map against_of against) + texts.text_weight (text_state inner))) found layers) }
+    ensures { IfOk result (λ found. (layers : List logic.Open) → LogicMoves (logic.on_text (option_map relation_of relation) (texts.text_step (text_state inner) (record { at = at; code = c })) None false (record { at = at; code = c }) layers)
+        (logic.open_size layers + (logic.text_relation_size (option_map relation_of relation) + texts.text_weight (text_state inner))) found layers) }
 {
     match text_step(alloc, inner, c, at)? {
         Some(next) => {
-            let point = LogicPoint::Text(against, next.point, is_symbol_character(c));
+            let point = LogicPoint::Text(relation, next.point, is_symbol_character(c));
             Ok(logic_moved(point, next.more))
         }
         None => Ok(None),
@@ -202,16 +202,16 @@ fn ends_text(inner: &TextPoint, kind: Kind) -> bool
 /// A character behind a text.
 fn end_text(
     alloc: Global,
-    against: Option<Against>,
+    relation: Option<OpenRelation>,
     tree: Expr,
     touch: bool,
     c: char,
     layers: &mut Vec<Opening>,
 ) -> Result<Option<LogicMoved>, OutOfMemory>
-    ensures { IfOk result (λ found. LogicMoves (logic.behind_one (logic.text_side (option_map against_of against) (tree_of tree)) touch (characters.kind_of c) c (open_of layers.old.items []))
-        (logic.open_size (open_of layers.old.items []) + (logic.text_against_size (option_map against_of against) + size (tree_of tree))) found (open_of layers.new.items [])) }
+    ensures { IfOk result (λ found. LogicMoves (logic.behind_one (logic.text_side (option_map relation_of relation) (tree_of tree)) touch (characters.kind_of c) c (open_of layers.old.items []))
+        (logic.open_size (open_of layers.old.items []) + (logic.text_relation_size (option_map relation_of relation) + size (tree_of tree))) found (open_of layers.new.items [])) }
 {
-    let operand = text_side(alloc, against, tree)?;
+    let operand = text_side(alloc, relation, tree)?;
     let moved = behind(alloc, operand, touch, kind_of(c), c, layers)?;
     Ok(moved)
 }
@@ -219,24 +219,24 @@ fn end_text(
 /// A character within a text, or behind it.
 fn go_text(
     alloc: Global,
-    against: Option<Against>,
+    relation: Option<OpenRelation>,
     inner: TextPoint,
     touch: bool,
     c: char,
     at: u32,
     layers: &mut Vec<Opening>,
 ) -> Result<Option<LogicMoved>, OutOfMemory>
-    ensures { IfOk result (λ found. LogicMoves (logic.point_step (logic.Text (option_map against_of against) (text_state inner) touch) (record { at = at; code = c }) (open_of layers.old.items []))
-        (logic.open_size (open_of layers.old.items []) + logic.point_weight (logic.Text (option_map against_of against) (text_state inner) touch)) found (open_of layers.new.items [])) }
+    ensures { IfOk result (λ found. LogicMoves (logic.point_step (logic.Text (option_map relation_of relation) (text_state inner) touch) (record { at = at; code = c }) (open_of layers.old.items []))
+        (logic.open_size (open_of layers.old.items []) + logic.point_weight (logic.Text (option_map relation_of relation) (text_state inner) touch)) found (open_of layers.new.items [])) }
 {
     if !ends_text(&inner, kind_of(c)) {
-        let found = step_text(alloc, against, inner, c, at)?;
+        let found = step_text(alloc, relation, inner, c, at)?;
         return Ok(found);
     }
     let ended = text_finish(alloc, inner)?;
     match ended {
         Some(tree) => {
-            let moved = end_text(alloc, against, tree, touch, c, layers)?;
+            let moved = end_text(alloc, relation, tree, touch, c, layers)?;
             Ok(moved)
         }
         None => Ok(None),
@@ -246,14 +246,14 @@ fn go_text(
 /// A number where an operand is wanted.
 fn begin_number(
     alloc: Global,
-    against: Option<Against>,
+    relation: Option<OpenRelation>,
     c: char,
     at: u32,
 ) -> Result<Option<LogicMoved>, OutOfMemory>
-    ensures { IfOk result (λ found. (layers : List logic.Open) → LogicMoves (logic.number_begun (option_map against_of against) (record { at = at; code = c }) layers)
-        (logic.open_size layers + (logic.against_size (option_map against_of against) + 1)) found layers) }
+    ensures { IfOk result (λ found. (layers : List logic.Open) → LogicMoves (logic.number_begun (option_map relation_of relation) (record { at = at; code = c }) layers)
+        (logic.open_size layers + (logic.relation_size (option_map relation_of relation) + 1)) found layers) }
 {
-    step_number(alloc, against, Point::Want, Vec::new(alloc), c, at)
+    step_number(alloc, relation, Point::Want, Vec::new(alloc), c, at)
 }
 
 /// A text where a truth is wanted: a comparison and a text have to come.
@@ -278,7 +278,7 @@ fn begin_letter(
     ensures { IfOk result (λ found. (layers : List logic.Open) → LogicMoves (logic.letter_begun (to_ascii_uppercase c) (record { at = at; code = c }) layers) (logic.open_size layers + 1) found layers) }
 {
     match c.to_ascii_uppercase() {
-        'N' => Ok(logic_moved(LogicPoint::MaybeNot(c, at), 0)),
+        'N' => Ok(logic_moved(LogicPoint::NotOrAttribute(c, at), 0)),
         'T' => Ok(begin_text(alloc, kind, c)),
         _ => begin_number(alloc, None, c, at),
     }
@@ -334,20 +334,20 @@ fn begin_truth(
 fn begin_right(
     alloc: Global,
     is_text: bool,
-    against: Against,
+    relation: OpenRelation,
     touch: bool,
     c: char,
     at: u32,
 ) -> Result<Option<LogicMoved>, OutOfMemory>
-    ensures { IfOk result (λ found. (layers : List logic.Open) → LogicMoves (logic.right_begun is_text (against_of against) touch (record { at = at; code = c }) layers)
-        (logic.open_size layers + (size (tree_of against.left) + 2)) found layers) }
+    ensures { IfOk result (λ found. (layers : List logic.Open) → LogicMoves (logic.right_begun is_text (relation_of relation) touch (record { at = at; code = c }) layers)
+        (logic.open_size layers + (size (tree_of relation.left) + 2)) found layers) }
 {
     if touch && is_symbol_character(c) {
         return Ok(None);
     }
     match kind_of(c) {
-        Kind::Blank => Ok(logic_moved(LogicPoint::Right(is_text, against, false), 0)),
-        _ => begin_side(alloc, is_text, against, c, at),
+        Kind::Blank => Ok(logic_moved(LogicPoint::Right(is_text, relation, false), 0)),
+        _ => begin_side(alloc, is_text, relation, c, at),
     }
 }
 
@@ -355,18 +355,18 @@ fn begin_right(
 fn begin_side(
     alloc: Global,
     is_text: bool,
-    against: Against,
+    relation: OpenRelation,
     c: char,
     at: u32,
 ) -> Result<Option<LogicMoved>, OutOfMemory>
-    ensures { IfOk result (λ found. (layers : List logic.Open) → LogicMoves (if is_text then logic.text_begun (Some (against_of against)) (record { at = at; code = c }) layers else logic.number_begun (Some (against_of against)) (record { at = at; code = c }) layers)
-        (logic.open_size layers + (size (tree_of against.left) + 2)) found layers) }
+    ensures { IfOk result (λ found. (layers : List logic.Open) → LogicMoves (if is_text then logic.text_begun (Some (relation_of relation)) (record { at = at; code = c }) layers else logic.number_begun (Some (relation_of relation)) (record { at = at; code = c }) layers)
+        (logic.open_size layers + (size (tree_of relation.left) + 2)) found layers) }
 {
     if is_text {
-        let text = step_text(alloc, Some(against), TextPoint::WantPart(None), c, at)?;
+        let text = step_text(alloc, Some(relation), TextPoint::WantPart(None), c, at)?;
         return Ok(text);
     }
-    let number = begin_number(alloc, Some(against), c, at)?;
+    let number = begin_number(alloc, Some(relation), c, at)?;
     Ok(number)
 }
 
@@ -475,8 +475,8 @@ fn after_comparing(first: Initial, is_text: bool, left: Expr, letter: char) -> O
         (logic.open_size layers + (size (tree_of left) + 2)) result layers }
 {
     let comparison = comparison_of(first, letter)?;
-    let against = Against { comparison, left };
-    logic_moved(LogicPoint::Right(is_text, against, true), 0)
+    let relation = OpenRelation { comparison, left };
+    logic_moved(LogicPoint::Right(is_text, relation, true), 0)
 }
 
 /// An apostrophe behind a number in parentheses, which is the duplication factor of a text.
@@ -550,26 +550,33 @@ pub(crate) fn logic_step(
     let kind = kind_of(c);
     match point {
         LogicPoint::Want(touch) => begin_truth(alloc, touch, c, at, layers),
-        LogicPoint::MaybeNot(first, place) => {
+        LogicPoint::NotOrAttribute(first, place) => {
             after_first(alloc, first, place, kind, c, at, layers)
         }
         LogicPoint::Letters(rest) => Ok(after_letters(rest, c.to_ascii_uppercase())),
-        LogicPoint::Number(against, inner, stack, touch) => {
-            go_number(alloc, against, inner, stack, touch, c, at, layers)
+        LogicPoint::Number(relation, inner, stack, touch) => {
+            go_number(alloc, relation, inner, stack, touch, c, at, layers)
         }
-        LogicPoint::Text(against, inner, touch) => {
-            go_text(alloc, against, inner, touch, c, at, layers)
+        LogicPoint::Text(relation, inner, touch) => {
+            go_text(alloc, relation, inner, touch, c, at, layers)
         }
-        LogicPoint::Ended(text) => behind(alloc, Operand::Text(text), false, kind, c, layers),
+        LogicPoint::BehindText(text) => behind(alloc, Operand::Text(text), false, kind, c, layers),
         LogicPoint::Comparing(first, is_text, left) => {
             Ok(after_comparing(first, is_text, left, c.to_ascii_uppercase()))
         }
-        LogicPoint::Right(is_text, against, touch) => {
-            let moved = begin_right(alloc, is_text, against, touch, c, at)?;
+        LogicPoint::Right(is_text, relation, touch) => {
+            let moved = begin_right(alloc, is_text, relation, touch, c, at)?;
             Ok(moved)
         }
         LogicPoint::Closed(inner) => after_closed(alloc, inner, kind, c, at, layers),
-        LogicPoint::Had(tree) => behind(alloc, Operand::Truth(tree), false, kind, c, layers),
+        LogicPoint::BehindTruth(tree) => behind(
+            alloc,
+            Operand::Truth(tree),
+            false,
+            kind,
+            c,
+            layers,
+        ),
     }
 }
 
@@ -578,20 +585,20 @@ fn settled(alloc: Global, point: LogicPoint) -> Result<Option<Operand>, OutOfMem
     ensures { IfOk result (λ found. option_map operand_of found ≡ logic.settled (point_of point)) }
 {
     match point {
-        LogicPoint::Number(against, inner, stack, _) => {
+        LogicPoint::Number(relation, inner, stack, _) => {
             let mut below = stack;
             match finish(alloc, Grammar::Arithmetic, inner, &mut below)? {
-                Some(tree) => Ok(Some(number_side(alloc, against, tree)?)),
+                Some(tree) => Ok(Some(number_side(alloc, relation, tree)?)),
                 None => Ok(None),
             }
         }
-        LogicPoint::Text(against, inner, _) => match text_finish(alloc, inner)? {
-            Some(tree) => Ok(Some(text_side(alloc, against, tree)?)),
+        LogicPoint::Text(relation, inner, _) => match text_finish(alloc, inner)? {
+            Some(tree) => Ok(Some(text_side(alloc, relation, tree)?)),
             None => Ok(None),
         },
-        LogicPoint::Ended(text) => Ok(Some(Operand::Text(text))),
+        LogicPoint::BehindText(text) => Ok(Some(Operand::Text(text))),
         LogicPoint::Closed(inner) => Ok(Some(Operand::Number(paren(alloc, inner)?))),
-        LogicPoint::Had(tree) => Ok(Some(Operand::Truth(tree))),
+        LogicPoint::BehindTruth(tree) => Ok(Some(Operand::Truth(tree))),
         _ => Ok(None),
     }
 }
@@ -654,11 +661,11 @@ fn ends_truth(point: &LogicPoint) -> bool
         }
         LogicPoint::Text(Some(_), inner, _) => text_is_whole(inner),
         LogicPoint::Text(None, _, _) => false,
-        LogicPoint::Closed(_) | LogicPoint::Had(_) => true,
+        LogicPoint::Closed(_) | LogicPoint::BehindTruth(_) => true,
         LogicPoint::Want(_)
-        | LogicPoint::MaybeNot(_, _)
+        | LogicPoint::NotOrAttribute(_, _)
         | LogicPoint::Letters(_)
-        | LogicPoint::Ended(_)
+        | LogicPoint::BehindText(_)
         | LogicPoint::Comparing(_, _, _)
         | LogicPoint::Right(_, _, _) => false,
     }

@@ -1,4 +1,3 @@
-pub mod TextLaws
 pub mod Fronts
 pub mod LiteralLaws
 pub mod Alone

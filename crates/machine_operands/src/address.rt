@@ -7,10 +7,11 @@ ghost use Rattle.machine_operands.specs.Views.{displacement_of, parts_reading_of
 
 use crate::parts::{PartsReading, read_parts};
 use crate::reading::{Reading, read_before, read_whole};
-use crate::text::{behind, character_count, head, sum};
+use crate::text::sum;
 use crate::{Address, AddressForm, Displacement, Written};
 use constant_grammar::Formula;
 use hl_base::OutOfMemory;
+use hlasm_statements::text::{behind, character_count, head};
 use std::alloc::Global;
 
 /// A displacement that is all of an operand.

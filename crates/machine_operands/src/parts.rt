@@ -7,9 +7,10 @@ ghost use Rattle.machine_operands.specs.Views.{parts_of, parts_reading_of, readi
 
 use crate::AddressForm;
 use crate::reading::{FrontReading, Reading, read_before, read_closed};
-use crate::text::{behind, character_count, head, sum};
+use crate::text::sum;
 use constant_grammar::Formula;
 use hl_base::OutOfMemory;
+use hlasm_statements::text::{behind, character_count, head};
 use std::alloc::Global;
 
 /// An index, a length or a register in its place, and a base.

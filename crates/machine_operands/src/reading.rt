@@ -13,10 +13,10 @@ ghost use Rattle.machine_operands.specs.Terms.{front_behind, whole_behind};
 ghost use Rattle.machine_operands.specs.Views.{front_reading_of, reading_of};
 
 use crate::term::term_front;
-use crate::text::{before, head};
 use constant_grammar::{Formula, read_formula};
 use expression_grammar::{Expr, Grammar, SyntaxFault, parse_front};
 use hl_base::OutOfMemory;
+use hlasm_statements::text::{before, head};
 use std::alloc::Global;
 
 /// What is read of an expression: its tree, or how many characters can be read.

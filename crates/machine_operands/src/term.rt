@@ -5,11 +5,11 @@ ghost use Rattle.std.specs.Str.{chars};
 ghost use Rattle.expression_grammar.specs.Views.{tree_of};
 ghost use Rattle.machine_operands.specs.Terms as spec;
 
-use crate::text::head;
 use expression_grammar::character::digit_value;
 use expression_grammar::{Expr, Form, Reference, Symbol};
 use hl_base::Name;
 use hlasm_statements::split_columns;
+use hlasm_statements::text::head;
 
 /// The term with which a text begins, how many characters it has, and what stands behind it.
 #[derive(Drop)]

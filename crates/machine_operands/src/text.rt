@@ -1,41 +1,7 @@
-//! Texts, character by character.
-ghost use Rattle.std.specs.Prelude.{◌≡◌, ◌+◌, [], ◌∷◌, drop, length, take, IfOk, MatchOption};
-ghost use Rattle.std.specs.Str.{chars};
+//! Numbers of characters.
+ghost use Rattle.std.specs.Prelude.{◌≡◌, ◌+◌, IfOk};
 
 use hl_base::OutOfMemory;
-use hlasm_statements::split_columns;
-
-/// How many characters a text has.
-pub(crate) fn character_count(text: &str) -> usize
-    ensures { result ≡ length (chars text.now) }
-{
-    text.chars().count()
-}
-
-/// The first character of a text, and what is behind it.
-pub(crate) fn head(text: &str) -> Option<(char, &str)>
-    ensures { MatchOption result (chars text.now ≡ []) (λ p. chars text.now ≡ p.0 ∷ chars p.1.now) }
-{
-    let mut rest = text.chars();
-    match rest.next() {
-        Some(c) => Some((c, rest.as_str())),
-        None => None,
-    }
-}
-
-/// What is behind so many characters of a text.
-pub(crate) fn behind(text: &str, count: usize) -> &str
-    ensures { chars result.now ≡ drop count (chars text.now) }
-{
-    split_columns(text, count).1
-}
-
-/// So many characters at the front of a text, or all of it.
-pub(crate) fn before(text: &str, count: usize) -> &str
-    ensures { chars result.now ≡ take count (chars text.now) }
-{
-    split_columns(text, count).0
-}
 
 /// So many characters, and more.
 pub(crate) fn sum(count: u32, more: usize) -> Result<u32, OutOfMemory>

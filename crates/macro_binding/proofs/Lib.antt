@@ -1,4 +1,3 @@
-pub mod TextLaws
 pub mod ParameterLaws
 pub mod PrototypeLaws
 pub mod SortingLaws

@@ -6,9 +6,10 @@ ghost use Rattle.macro_binding.specs.Inside.{IsAdmitted, parted_chars};
 
 use crate::parameters::Parameters;
 use crate::role::Role;
-use crate::text::{head, is_nothing, name_of};
+use crate::text::name_of;
 use hl_base::{Name, OutOfMemory, Text};
 use instruction_table::{Operation, operation};
+use operand_list::hlasm_statements::text::{head, is_nothing};
 use operand_list::hlasm_statements::{Statement, split_columns};
 use operand_list::{Operands, split_operands};
 use std::alloc::Global;

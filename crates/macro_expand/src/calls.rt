@@ -179,11 +179,11 @@ fn entering(
     ensures { IfOk result (λ p. performed_by means known.now p ≡ Some (led_by (told_by answers.now)
         (acts.calling statement.now.label statement.now.operands known.now notes (content_of definition.definition.value)))) }
 {
-    let mut around = Surroundings {
+    let around = Surroundings {
         knowledge: known,
         answers,
     };
-    match call_operands(alloc, statement, &mut around)? {
+    match call_operands(alloc, statement, &around)? {
         CallOperands::Wants(key) => Ok(Performed::Wants(key)),
         CallOperands::Made(values, more) => {
             labelling(alloc, answers, definition, values, notes, &more)

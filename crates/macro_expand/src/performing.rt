@@ -117,11 +117,11 @@ pub(crate) fn performed(
     ensures { IfOk result (λ p. (e : Element) → performed_by means known.now p ≡ Some (led_on_act (told_by answers.now) (placed_by here.now e) known.now
         (led_as (λ noted. noted) (effects.effect_of (reading_of read.now) (standing.told_by known.now (answers_in (told_by answers.now))))))) }
 {
-    let mut around = Surroundings {
+    let around = Surroundings {
         knowledge: known,
         answers,
     };
-    let effect = perform(alloc, read, &mut around)?;
+    let effect = perform(alloc, read, &around)?;
     acting(
         alloc,
         here,

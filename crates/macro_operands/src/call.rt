@@ -34,11 +34,10 @@ fn with_operands<Q: Lookups>(
     alloc: Global,
     label: Text,
     operands: &str,
-    q: &mut Q,
+    q: &Q,
     notes: &mut Notes,
 ) -> Result<Option<CallValues>, Stop>
-    ensures told { Q.told q.new ≡ Q.told q.old }
-    ensures tells { Tells (calling.and_operands (Some label) (calling.values (operands_of (chars operands.now)) (Q.told q.old))) notes.old notes.new result }
+    ensures { Tells (calling.and_operands (Some label) (calling.values (operands_of (chars operands.now)) (Q.told q.now))) notes.old notes.new result }
 {
     let split = split_operands(alloc, operands)?;
     match values(alloc, split.as_slice(), q, notes) {
@@ -53,11 +52,10 @@ fn called<Q: Lookups>(
     alloc: Global,
     label: &str,
     operands: &str,
-    q: &mut Q,
+    q: &Q,
     notes: &mut Notes,
 ) -> Result<Option<CallValues>, Stop>
-    ensures told { Q.told q.new ≡ Q.told q.old }
-    ensures tells { Tells (calling.call_of (chars label.now) (chars operands.now) (Q.told q.old)) notes.old notes.new result }
+    ensures { Tells (calling.call_of (chars label.now) (chars operands.now) (Q.told q.now)) notes.old notes.new result }
 {
     match value(alloc, name_entry(label), q, notes) {
         Ok(Some(label)) => with_operands(alloc, label, operands, q, notes),
@@ -73,10 +71,9 @@ fn called<Q: Lookups>(
 pub fn call_operands<Q: Lookups>(
     alloc: Global,
     s: &Statement,
-    q: &mut Q,
+    q: &Q,
 ) -> Result<CallOperands, OutOfMemory>
-    ensures told { Q.told q.new ≡ Q.told q.old }
-    ensures call { IfOk result (λ c. c ≡ calling.shown_call (calling.call_of s.now.label s.now.operands (Q.told q.old))) }
+    ensures { IfOk result (λ c. c ≡ calling.shown_call (calling.call_of s.now.label s.now.operands (Q.told q.now))) }
 {
     let mut notes = Notes::new(alloc);
     match called(alloc, s.label.as_str(), s.operands.as_str(), q, &mut notes) {

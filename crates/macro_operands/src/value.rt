@@ -77,11 +77,10 @@ fn read_entry(alloc: Global, text: &str) -> Result<Entry, SyntaxFault>
 fn substituted<Q: Lookups>(
     alloc: Global,
     entry: Entry,
-    q: &mut Q,
+    q: &Q,
     notes: &mut Notes,
 ) -> Result<Text, Stop>
-    ensures told { Q.told q.new ≡ Q.told q.old }
-    ensures tells { Tells (entry_text (entry_of entry) (Q.told q.old)) notes.old notes.new result }
+    ensures { Tells (entry_text (entry_of entry) (Q.told q.now)) notes.old notes.new result }
 {
     match entry {
         Entry::Written(text) => Ok(text),
@@ -96,11 +95,10 @@ fn substituted<Q: Lookups>(
 fn value_of<Q: Lookups>(
     alloc: Global,
     entry: Entry,
-    q: &mut Q,
+    q: &Q,
     notes: &mut Notes,
 ) -> Result<Option<Text>, Stop>
-    ensures told { Q.told q.new ≡ Q.told q.old }
-    ensures tells { Tells (calling.value_of (Ok (entry_of entry)) (Q.told q.old)) notes.old notes.new result }
+    ensures { Tells (calling.value_of (Ok (entry_of entry)) (Q.told q.now)) notes.old notes.new result }
 {
     let text = substituted(alloc, entry, q, notes)?;
     let cut = limited(alloc, text, notes)?;
@@ -111,11 +109,10 @@ fn value_of<Q: Lookups>(
 pub(crate) fn value<Q: Lookups>(
     alloc: Global,
     text: &str,
-    q: &mut Q,
+    q: &Q,
     notes: &mut Notes,
 ) -> Result<Option<Text>, Stop>
-    ensures told { Q.told q.new ≡ Q.told q.old }
-    ensures tells { Tells (calling.value (chars text.now) (Q.told q.old)) notes.old notes.new result }
+    ensures { Tells (calling.value (chars text.now) (Q.told q.now)) notes.old notes.new result }
 {
     match read_entry(alloc, text) {
         Ok(entry) => value_of(alloc, entry, q, notes),
@@ -131,11 +128,10 @@ pub(crate) fn value<Q: Lookups>(
 pub(crate) fn values<Q: Lookups>(
     alloc: Global,
     texts: &[Text],
-    q: &mut Q,
+    q: &Q,
     notes: &mut Notes,
 ) -> Result<Option<Operands>, Stop>
-    ensures told { Q.told q.new ≡ Q.told q.old }
-    ensures tells { Tells (calling.values texts.now (Q.told q.old)) notes.old notes.new result }
+    ensures { Tells (calling.values texts.now (Q.told q.now)) notes.old notes.new result }
 {
     let mut done = Operands::new(alloc);
     for text in texts {

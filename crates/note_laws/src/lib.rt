@@ -6,15 +6,12 @@
 //! nothing but what stands there. This is the project's own.
 #![tactic(auto)]
 
-ghost use Rattle.std.specs.Prelude.{◌≡◌, ◌==◌, ℕ, List, [], ◌∷◌, if◌then◌else◌};
+ghost use Rattle.std.specs.Prelude.{◌≡◌, ◌==◌, ℕ, List, [], if◌then◌else◌};
 ghost use Rattle.hl_base.specs.declared.note.Severity.{Severity};
 ghost use Rattle.hlasm_statements.specs.Faults.{code_of, severity_of};
 ghost use Rattle.hlasm_statements.specs.declared.fault.ColumnFault.TheVariants as column;
-ghost use Rattle.cond_expr.specs.Outcome.{Gives};
 ghost use Rattle.cond_expr.specs.Troubles as evaluation;
-ghost use Rattle.conditional_asm.specs.Messages as message;
 ghost use Rattle.conditional_asm.specs.Troubles as statement;
-ghost use Rattle.conditional_asm.specs.declared.act.Act.TheVariants.{Next};
 ghost use Rattle.note_rows.specs.Table.{line, noted};
 ghost use Rattle.note_rows.specs.declared.row.Row.TheVariants as row;
 
@@ -39,8 +36,7 @@ pub fn statement_notes()
     ensures unreadable { (at : ℕ) → statement.unreadable at ≡ noted (row.Unreadable at) [] }
     ensures undefined { (operation : List ℕ) → statement.undefined operation ≡ noted (row.UndefinedOperation operation) [] }
     ensures left_out { (operation : List ℕ) → statement.left_out operation ≡ noted (row.LeftOutOperation operation) [] }
-    ensures author { (severity : Severity) (words : List ℕ) →
-        message.noted severity words ≡ Gives Next (noted (row.Author severity words) [] ∷ []) }
+    ensures author { (severity : Severity) (words : List ℕ) → statement.author severity words ≡ noted (row.Author severity words) [] }
 {}
 
 /// The codes and severities of the faults of columns.

@@ -9,7 +9,7 @@ use Rattle.hl_base.specs.Quoting as quoting
 use Rattle.hl_base.specs.Quoting.{is_quoted, depth}
 use Rattle.operand_list.specs.Split.{is_separator, parts, operands_of, with_front, whole_parts}
 use Rattle.operand_list.proofs.SplitLaws.{with_front-nil, operands-some}
-use Rattle.plain_fields.specs.declared.cutting.Cutting.{Cutting}
+use Rattle.plain_fields.specs.declared.state.Cutting.{Cutting}
 use Rattle.plain_fields.specs.Cutting.{is_plain, IsBehind, IsCut, part_of, left_of}
 
 plain_first : (c : ℕ) (cs : List ℕ) → list_all is_plain (c ∷ cs) ≡ true → (c == 39) ≡ false

@@ -3,7 +3,7 @@ use Rattle.std.specs.Prelude.{◌≡◌, ℕ, Bool, true, not, ◌==◌, List, t
 use Rattle.std.specs.List.{list_all}
 use Rattle.std.specs.Str.{chars}
 use Rattle.hl_base.specs.Quoting as quoting
-use Rattle.plain_fields.specs.declared.cutting.Cutting.{Cutting}
+use Rattle.plain_fields.specs.declared.state.Cutting.{Cutting}
 use Rattle.operand_list.specs.Split.{whole_parts}
 
 -- no apostrophe

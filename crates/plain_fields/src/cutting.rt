@@ -1,23 +1,13 @@
 //! A field without apostrophes, cut byte by byte.
-ghost use Rattle.std.specs.Prelude.{◌≡◌, ◌==◌, ◌&&◌, ℕ, List, [], ◌∷◌, ◌++◌, ◌+◌, drop, false, IfOk, OnOk};
-ghost use Rattle.std.specs.Str.{chars};
+ghost use Rattle.std.specs.Prelude.{◌≡◌, ◌==◌, ◌&&◌, ℕ, List, [], ◌∷◌, ◌++◌, ◌+◌, drop, take, false, IfOk, OnOk};
+ghost use Rattle.std.specs.Str.{chars, IsAscii};
 ghost use Rattle.plain_fields.specs.Cutting.{IsBehind, depth_behind, left_of, part_of};
 ghost use Rattle.operand_list.specs.Split.{whole_parts};
 
+use crate::state::Cutting;
 use hl_base::{OutOfMemory, Text};
 use operand_list::Operands;
-use operand_list::hlasm_statements::split_columns;
 use std::alloc::Global;
-
-/// The operands so far, what is left of the field from the beginning of the one that is read on, how many characters of this are
-/// read, and how many parentheses are open.
-#[derive(Drop)]
-pub(crate) struct Cutting<'a> {
-    done: Operands,
-    from: &'a str,
-    count: usize,
-    depth: u32,
-}
 
 /// How many parentheses are open behind a character.
 #[inline(always)]
@@ -39,6 +29,18 @@ fn separates(depth: u32, byte: u8) -> bool
     byte == b',' && depth == 0
 }
 
+/// So many characters at the front of an ASCII text, and what is behind them.
+#[inline(always)]
+fn cut_at(text: &str, count: usize) -> (&str, &str)
+    requires { IsAscii text.now }
+    ensures front { chars result.0.now ≡ take count (chars text.now) }
+    ensures back { chars result.1.now ≡ drop count (chars text.now) }
+    ensures ascii { IsAscii result.1.now }
+{
+    let end = count.min(text.len());
+    text.split_at(end)
+}
+
 /// One more than so many.
 #[inline(always)]
 fn one_more(count: usize) -> Result<usize, OutOfMemory>
@@ -49,6 +51,7 @@ fn one_more(count: usize) -> Result<usize, OutOfMemory>
 
 impl<'a> Cutting<'a> {
     pub(crate) fn new(alloc: Global, text: &'a str) -> Cutting<'a>
+        requires { IsAscii text.now }
         ensures none { result.done ≡ [] }
         ensures from { result.from.now ≡ text.now }
         ensures count { result.count ≡ 0 }
@@ -89,9 +92,9 @@ impl<'a> Cutting<'a> {
         ensures count { OnOk result (self.new.count ≡ 0) }
         ensures from { OnOk result (chars self.new.from.now ≡ drop 1 (left_of self.old)) }
     {
-        let (part, left) = split_columns(self.from, self.count);
+        let (part, left) = cut_at(self.from, self.count);
         self.done.push(Text::of(alloc, part)?)?;
-        self.from = split_columns(left, 1).1;
+        self.from = cut_at(left, 1).1;
         self.count = 0;
         Ok(())
     }
@@ -101,7 +104,7 @@ impl<'a> Cutting<'a> {
         ensures { IfOk result (λ s. s ≡ self.entry.done ++ part_of self.entry ∷ []) }
     {
         let mut done = self.done;
-        done.push(Text::of(alloc, split_columns(self.from, self.count).0)?)?;
+        done.push(Text::of(alloc, cut_at(self.from, self.count).0)?)?;
         Ok(done)
     }
 }

@@ -7,5 +7,6 @@
 
 mod cutting;
 mod split;
+mod state;
 
 pub use split::split_field;

@@ -5,7 +5,7 @@ ghost use Rattle.std.specs.Str.{chars, IsAscii};
 ghost use Rattle.operand_list.specs.Split.{operands_of};
 ghost use Rattle.plain_fields.specs.Cutting.{is_plain};
 
-use crate::cutting::Cutting;
+use crate::state::Cutting;
 use hl_base::OutOfMemory;
 use operand_list::{Operands, split_operands};
 use std::alloc::Global;

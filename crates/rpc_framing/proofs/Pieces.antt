@@ -1,8 +1,8 @@
 -- What a piece brings to a reader, in the words of the grammar: the facts behind each function that takes one.
-use Rattle.std.proofs.Common.{◌≡◌, ℕ, ◌+◌, ◌-◌, ◌<◌, ◌≤◌, List, [], ◌∷◌, ◌++◌, length, take, drop, get_or, Option, Some, None, refl, sym, ◌∙◌, ap, subst, arith, append_assoc, length-append}
+use Rattle.std.proofs.Common.{◌≡◌, ℕ, ◌+◌, ◌-◌, ◌<◌, ◌≤◌, List, [], ◌∷◌, ◌++◌, length, take, drop, get_or, Option, Some, None, refl, sym, ◌∙◌, ap, subst, arith, append_assoc, length-append, length-drop}
 use Rattle.std.proofs.lemmas.List.{append-nil, take_more, take-append-drop, take_all, length-take-le, drop-take, take_rest, map_push, map-append}
 use Rattle.std.specs.declared.alloc.Global.{Global}
-use Rattle.std.specs.Prelude.{Vec, MatchOption, option_and_then, option_map}
+use Rattle.std.specs.Prelude.{Vec, MatchOption, IfSome, option_and_then, option_map}
 use Rattle.rpc_framing.specs.Faults.{Breaks, fault_at}
 use Rattle.rpc_framing.specs.Frames.{IsFrame, IsFrames, Splits}
 use Rattle.rpc_framing.specs.Places.{departure_at}
@@ -205,6 +205,20 @@ Accepts-whole stage last header body piece size end held before now fresh new ah
           breaks = subst R all (subst S place (Breaks-behind ((header ++ body) ++ take end piece) (whole ∷ []) spoils.fresh (drop end piece) astray.departure (0 + astray.count) (IsFrames-one ((header ++ body) ++ take end piece) whole first) spoils.breaks));
           ready = ready ∙ ap (λ t. before ++ whole ∷ t) spoils.ready;
         }
+
+-- A fault behind a frame that a piece ends lies within the piece.
+pub within_later : (piece : List ℕ) (end : ℕ) (fresh : List (List ℕ)) (new : List ℕ) (ahead fault : Option Astray) → end ≤ length piece → Accepts [] (take (length piece - end) (drop end piece)) [] fresh new ahead → fault ≡ option_map (later end) ahead → IfSome fault (λ astray. astray.count ≤ length piece)
+within_later piece end fresh new ahead fault within read mapped =
+    let P : List ℕ → Type 0 = λ t. Accepts [] t [] fresh new ahead in
+    let Q : Option Astray → Type 0 = λ o. IfSome o (λ astray. astray.count ≤ length piece) in
+    subst Q (sym mapped) (go ahead (subst P (take_rest piece end) read))
+  where
+    go : (o : Option Astray) → Accepts [] (drop end piece) [] fresh new o → IfSome (option_map (later end) o) (λ astray. astray.count ≤ length piece)
+    go None brings = tt
+    go (Some astray) spoils =
+        let b = spoils.breaks in
+        let all : length piece - end ≡ length b.front + length b.tail = sym (length-drop end piece) ∙ ap length b.is ∙ length-append b.front b.tail in
+        omega (arith, all, b.place, b.bad.within, within)
 
 -- The first fault, as the reader shows it.
 pub Stops-Spoils : (old new : Reading) (rest piece : List ℕ) (now ready : List (List ℕ)) (fed count : ℕ) (departs : Departure) (fault : FrameFault) → Spoils rest piece now ready departs count → old.fault ≡ None → rest ≡ old.rest → now ≡ old.ready → fed ≡ old.fed → new.ready ≡ ready → new.fed ≡ fed + length piece → fault ≡ fault_at departs (fed + count) → new.fault ≡ Some fault → Stops old new piece fault

@@ -1,5 +1,6 @@
 //! What has come of a frame that is not yet whole, and the frames of a piece.
-ghost use Rattle.std.specs.Prelude.{◌≡◌, ◌+◌, ◌-◌, ◌++◌, ◌≤◌, [], length, take, drop, OnOk, OnErr, IfOk, IfSome, option_map, vec_len};
+ghost use Rattle.std.specs.Prelude.{◌≡◌, ◌+◌, ◌-◌, ◌++◌, ◌≤◌, [], ◌∷◌, length, take, drop, OnOk, OnErr, IfOk, IfSome, option_map, vec_len};
+ghost use Rattle.std.specs.VecDeque.{deque_capacity};
 ghost use Rattle.rpc_framing.specs.Reading.{bodies_of};
 ghost use Rattle.rpc_framing.specs.Stages.{whole_length};
 ghost use Rattle.rpc_framing.specs.Steps.{Reaches, IsShort, Stands, Accepts};
@@ -176,6 +177,46 @@ pub(crate) fn accept(
     }
 }
 
+/// Makes room for so many bodies more, and takes the bytes with which a frame is whole, `size` of them its header. An `Err` changes
+/// nothing.
+fn make_room(
+    rest: &mut Unfinished,
+    ready: &mut VecDeque<Vec<u8>>,
+    count: usize,
+    front: &[u8],
+    size: usize,
+) -> Result<(), OutOfMemory>
+    requires { size ≤ length front.now }
+    ensures room { OnOk result (length ready.old.items + count ≤ deque_capacity ready.new) }
+    ensures ready { ready.new.items ≡ ready.old.items }
+    ensures body { OnOk result (rest.new.body.items ≡ rest.old.body.items ++ drop size front.now) }
+    ensures err_header { OnErr result (rest.new.header.items ≡ rest.old.header.items) }
+    ensures err_body { OnErr result (rest.new.body.items ≡ rest.old.body.items) }
+    ensures err_stage { OnErr result (rest.new.stage ≡ rest.old.stage) }
+{
+    ready.reserve(count)?;
+    rest.grow(front, size, rest.stage)
+}
+
+/// The body of a frame that is whole is ready, and those behind it, for all of which there is room; what follows them stands in the
+/// frame's place. Their first fault.
+fn take_up(rest: &mut Unfinished, ready: &mut VecDeque<Vec<u8>>, ahead: Ahead) -> Option<Astray>
+    requires { length ready.old.items + (length ahead.bodies.items + 1) ≤ deque_capacity ready.old }
+    ensures rest { rest.new ≡ ahead.rest }
+    ensures ready { bodies_of ready.new.items ≡ bodies_of ready.old.items ++ rest.old.body.items ∷ bodies_of ahead.bodies.items }
+    ensures fault { result ≡ ahead.fault }
+{
+    let Ahead {
+        mut bodies,
+        rest: next,
+        fault,
+    } = ahead;
+    let whole = mem::replace(rest, next);
+    ready.push_back_reserved(whole.body);
+    ready.append(&mut bodies).unwrap();
+    fault
+}
+
 /// Takes a piece of which the first `end` bytes complete the frame, `size` of them its header. `Ok` and `Err` are as for
 /// `accept`.
 fn complete(
@@ -196,17 +237,9 @@ fn complete(
     ensures err_rest { OnErr result (rest.new.header.items ++ rest.new.body.items ≡ rest.old.header.items ++ rest.old.body.items) }
     ensures err_ready { OnErr result (bodies_of ready.new.items ≡ bodies_of ready.old.items) }
 {
-    let Ahead {
-        mut bodies,
-        rest: next,
-        fault,
-    } = read_ahead(alloc, &piece[end..])?;
-    ready.reserve(bodies.len() + 1)?;
-    rest.grow(&piece[..end], size, rest.stage)?;
-    let whole = mem::replace(rest, next);
-    ready.push_back(whole.body).unwrap();
-    ready.append(&mut bodies).unwrap();
-    Ok(fault.map(|astray| Astray {
+    let ahead = read_ahead(alloc, &piece[end..])?;
+    make_room(rest, ready, ahead.bodies.len() + 1, &piece[..end], size)?;
+    Ok(take_up(rest, ready, ahead).map(|astray| Astray {
         count: end + astray.count,
         departure: astray.departure,
     }))

@@ -31,7 +31,7 @@ use Rattle.session_core.specs.Message.{message, event, effect, concluded, after_
 use Rattle.session_core.specs.Refusals.{is_ended}
 use Rattle.session_core.specs.Replies.{initialize_reply, list_body}
 use Rattle.answers_feed.specs.Same.{is_same_position, is_same_span, is_same_relation, is_same_diagnostic, is_same_list}
-use Rattle.session_core.specs.State.{State, start, libraries, number_at, number_named, is_number, is_program, is_queued, document_at, programs, with_programs, last_list, without_list, with_list, without, published_without}
+use Rattle.session_core.specs.State.{State, around_of, start, libraries, number_at, number_named, is_number, is_program, is_queued, document_at, programs, with_programs, last_list, without_list, with_list, without, published_without}
 use Rattle.session_core.specs.Step.{Effect, quiet, says, step_of}
 use Rattle.session_core.proofs.AnswerLaws.{so_behind}
 use Rattle.session_core.proofs.AskingLaws.{Whenever, whenever_event, HoldsOfQueues, whenever_begun, whenever_watched}
@@ -354,9 +354,9 @@ fresh_start budget n document found program free = cc
 
 -- ---- changes
 
--- the documents, the files and the configuration are as they were
+-- the documents, the files and what surrounds every program are as they were
 abbrev IsAsBefore : State → State → Type 0
-IsAsBefore s t = (t.store ≡ s.store) × (t.configuration ≡ s.configuration)
+IsAsBefore s t = (t.store ≡ s.store) × (around_of t ≡ around_of s)
 
 -- or every program is queued
 abbrev KeepsThemOrQueues : State → Effect → Type 0

@@ -27,8 +27,8 @@ use Rattle.answers_feed.specs.Sites.{sites_of}
 use Rattle.answers_feed.proofs.SiteLaws.{same_sites, library_opened, library_changed, library_closed}
 use Rattle.session_core.specs.declared.state.LastList.{LastList}
 use Rattle.session_core.specs.Diagnostics.{diagnostics_of, list_of, members_of}
-use Rattle.session_core.specs.Inside.{AreNumbered, IsSound, Around, around_of, list_in, libraries_in}
-use Rattle.session_core.specs.State.{State, is_number, is_queued, document_at, number_named, without, last_list, without_list, published_without, with_list}
+use Rattle.session_core.specs.Inside.{AreNumbered, IsSound, list_in, libraries_in}
+use Rattle.session_core.specs.State.{State, Around, around_of, is_number, is_queued, document_at, number_named, without, last_list, without_list, published_without, with_list}
 use Rattle.session_core.specs.Step.{quiet, says, IsEffect}
 use Rattle.session_core.specs.Turn.{turn_at, is_published}
 use Rattle.session_core.proofs.FreshLaws.{or_right, not_both, same_number, other_number, last_other, last_newest, published_itself}

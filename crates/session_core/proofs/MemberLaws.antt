@@ -14,8 +14,8 @@ use Rattle.group_members.specs.Members.{Indexes, is_there, is_file_of, member_nu
 use Rattle.group_members.specs.declared.index.MemberIndex.{MemberIndex}
 use Rattle.group_members.proofs.AgreementLaws.{member_of-same}
 use Rattle.session_core.specs.Diagnostics.{members_of}
-use Rattle.session_core.specs.Inside.{Around, libraries_in}
-use Rattle.session_core.specs.State.{libraries_of}
+use Rattle.session_core.specs.Inside.{libraries_in}
+use Rattle.session_core.specs.State.{Around, libraries_of}
 use Rattle.session_core.proofs.FreshLaws.{not_both}
 
 -- a path in a folder of a program stands in a library folder

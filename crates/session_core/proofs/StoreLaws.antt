@@ -1,4 +1,4 @@
--- How many documents are open: at most 64, whatever is asked of the store; and which refusal a call gives.
+-- How many documents are open: at most so many, whatever is asked of the store; and which refusal a call gives.
 use Rattle.std.proofs.Common.{◌≡◌, ◌≢◌, ℕ, ℤ, ◌≤◌, Bool, true, false, List, [], ◌∷◌, ◌++◌, length, Option, Some, None, Result, Ok, Err, refl, ap, arith, nat_le, filter, not, cond}
 use Rattle.std.proofs.lemmas.Bool.{leb-false}
 use Rattle.std.proofs.lemmas.List.{length-append, length-map}
@@ -8,6 +8,7 @@ use Rattle.file_uri.specs.Paths.{path_of}
 use Rattle.document_store.specs.Store.{Store, OpenDocument, document_of, is_at}
 use Rattle.document_store.specs.Changes.{opened, changed, closed, Answers, with_document, with_text, without}
 use Rattle.document_store.specs.Edits.{and_then}
+use Rattle.document_store.specs.declared.limits.TheConstants.{MOST_DOCUMENTS}
 use Rattle.document_store.specs.declared.fault.StoreFault.{StoreFault}
 use Rattle.document_store.specs.declared.fault.StoreFault.TheVariants.{AlreadyOpen, BadUri, NotOpen, OutOfMemory, TextTooLong, TooMany, BadRange, LibraryTooLarge}
 
@@ -22,17 +23,17 @@ Answers-refused asked (BadRange n) new answers other = answers
 Answers-refused asked LibraryTooLarge new answers other = answers
 Answers-refused asked OutOfMemory new answers other = absurd (other refl)
 
--- at most 64 documents are open
+-- no more documents are open than may be
 abbrev pub IsFew : Store → Type 0
-IsFew store = length store.documents ≤ 64
+IsFew store = length store.documents ≤ MOST_DOCUMENTS
 
-few-room : (path text : List ℕ) (s new : Store) (document : OpenDocument) (taken full long : Bool) → nat_le 64 (length s.documents) ≡ full
+few-room : (path text : List ℕ) (s new : Store) (document : OpenDocument) (taken full long : Bool) → nat_le MOST_DOCUMENTS (length s.documents) ≡ full
     → cond taken (Err AlreadyOpen) (cond full (Err TooMany) (cond long (Err TextTooLong) (Ok (with_document s document)))) ≡ Ok new → IsFew new
 few-room path text s new document true full long fills is = cc
 few-room path text s new document false true long fills is = cc
 few-room path text s new document false false true fills is = cc
 few-room path text s new document false false false fills is =
-    let room = leb-false 64 (length s.documents) fills in
+    let room = leb-false MOST_DOCUMENTS (length s.documents) fills in
     let same : with_document s document ≡ new = cc in
     let size : length (s.documents ++ document ∷ []) ≡ length new.documents = ap (λ (z : Store). length z.documents) same in
     omega (arith, length-append s.documents (document ∷ []))

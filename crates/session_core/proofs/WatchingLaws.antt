@@ -5,6 +5,7 @@ use Rattle.std.specs.List.{Contains}
 use Rattle.hl_base.specs.declared.memory.OutOfMemory.{OutOfMemory}
 use Rattle.hl_base.specs.declared.place.PathId.{PathId}
 use Rattle.io_edge.specs.LibraryCall.{LibraryCall}
+use Rattle.document_store.specs.declared.limits.TheConstants.{MOST_DOCUMENTS}
 use Rattle.document_store.specs.Store.{Store, OpenDocument, empty_store, number_of}
 use Rattle.document_store.specs.Shown.{HaveNumbers}
 use Rattle.file_uri.specs.Paths.{path_of}
@@ -28,11 +29,11 @@ use Rattle.session_core.specs.declared.state.LastList.{LastList}
 use Rattle.session_core.specs.declared.state.Stage.{Stage}
 use Rattle.session_core.specs.declared.state.Stage.TheVariants.{Fresh, Active, Closing, Ended}
 use Rattle.session_core.specs.declared.watching.Watch.{Watch}
-use Rattle.session_core.specs.Inside.{AreNumbered, Around, IsSound, IsWhole, libraries_in, names_among, configured_where, watched_so_far}
+use Rattle.session_core.specs.Inside.{AreNumbered, IsSound, IsWhole, libraries_in, names_among, configured_where, watched_so_far}
 use Rattle.session_core.specs.Message.{Watching, unconcerned, concerned_by, taking_of, after_reading, after_member, configured, member_changed, is_configuration, is_member_file, change_told, changes_told, after_watching, begun, effect, asked, asked_at, queue_all, settled}
 use Rattle.session_core.specs.Refusals.{is_active}
 use Rattle.session_core.specs.Replies.{logged_line}
-use Rattle.session_core.specs.State.{State, libraries}
+use Rattle.session_core.specs.State.{State, Around, libraries}
 use Rattle.session_core.specs.Step.{Effect, quiet, IsEffect}
 use Rattle.session_core.proofs.ListedLaws.{sound_none}
 use Rattle.session_core.proofs.ShortLaws.{short_configured, short_changes}
@@ -73,7 +74,7 @@ pub few_configured : {T : Type 0} (root : List ℕ) (taking : Taking) (reached :
 few_configured root taking reached value before now few many one fits =
     let same : (reached value).taking.store.documents ≡ taking.store.documents =
     subst (Whenever (λ (reading : Reading). reading.taking.store.documents ≡ taking.store.documents)) (one.comes []) (documents_configured root taking (one.calls ++ [])) in
-    subst (λ (documents : List OpenDocument). length documents ≤ 64) (sym same) fits
+    subst (λ (documents : List OpenDocument). length documents ≤ MOST_DOCUMENTS) (sym same) fits
 
 -- or a member
 pub few_read : {T : Type 0} (path : List ℕ) (taking : Taking) (reached : T → Passed) (value : T) (before now : Option (List LibraryCall)) (few many : ℕ)
@@ -81,7 +82,7 @@ pub few_read : {T : Type 0} (path : List ℕ) (taking : Taking) (reached : T →
 few_read path taking reached value before now few many one fits =
     let same : (reached value).taking.store.documents ≡ taking.store.documents =
     subst (Whenever (λ (passed : Passed). passed.taking.store.documents ≡ taking.store.documents)) (one.comes []) (documents_read path taking (one.calls ++ [])) in
-    subst (λ (documents : List OpenDocument). length documents ≤ 64) (sym same) fits
+    subst (λ (documents : List OpenDocument). length documents ≤ MOST_DOCUMENTS) (sym same) fits
 
 few_number : (store : Store) (n : Option ℕ) → IsFew store → IsFew (number_dropped store n)
 few_number store None fits = fits

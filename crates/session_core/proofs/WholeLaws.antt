@@ -14,8 +14,8 @@ use Rattle.group_members.specs.Members.{Indexes}
 use Rattle.group_members.specs.declared.index.MemberIndex.{MemberIndex}
 use Rattle.waiting_requests.specs.Names.{Names}
 use Rattle.session_core.specs.declared.state.LastList.{LastList}
-use Rattle.session_core.specs.Inside.{Around, IsSound, IsWhole, libraries_in}
-use Rattle.session_core.specs.State.{number_named, without, published_without}
+use Rattle.session_core.specs.Inside.{IsSound, IsWhole, libraries_in}
+use Rattle.session_core.specs.State.{Around, number_named, without, published_without}
 use Rattle.session_core.proofs.MemberLaws.{index_kept}
 use Rattle.session_core.proofs.ListedLaws.{TellsMember, sound_opened, sound_changed, sound_closed}
 

@@ -20,6 +20,7 @@ use Rattle.trace_arena.specs.Points.{Point}
 use Rattle.document_store.specs.Store.{Store, OpenDocument, number_of}
 use Rattle.document_store.specs.Shown.{Shows}
 use Rattle.document_store.specs.declared.document.Document.{Document}
+use Rattle.document_store.specs.declared.limits.TheConstants.{MOST_DOCUMENTS}
 use Rattle.document_store.specs.declared.fault.StoreFault.{StoreFault}
 use Rattle.waiting_requests.specs.Names.{Names}
 use Rattle.waiting_requests.specs.declared.request.Question.{Question}
@@ -31,7 +32,7 @@ use Rattle.session_core.specs.Held.{Held}
 use Rattle.session_core.specs.Message.{after_change, after_closing, asked, asks_later, farewell, unless_refused, Watching, configured}
 use Rattle.session_core.specs.Names.{names_of, names_over_all}
 use Rattle.session_core.specs.Refusals.{Asks, too_early, out_of_place, repeats, first_of, log_fault}
-use Rattle.session_core.specs.State.{State, libraries, libraries_of, is_program, is_queued, number_at, document_at, last_list}
+use Rattle.session_core.specs.State.{State, Around, libraries, libraries_of, is_program, is_queued, number_at, document_at, last_list}
 use Rattle.session_core.specs.Step.{Effect, written}
 use Rattle.session_core.specs.Turn.{is_published}
 
@@ -82,15 +83,6 @@ abbrev pub AreNumbered : (paths : List (List ℕ)) → List OpenDocument → Typ
 AreNumbered paths [] = Unit {0}
 AreNumbered paths (document ∷ others) = ((n : ℕ) × (number_of paths document.path ≡ Some n)) × AreNumbered paths others
 
--- what surrounds every program of a session, besides the documents and files
-pub record Around : Type 0 where
-  pub root : Option (List ℕ)
-  pub configuration : Configuration
-  pub budget : ℕ
-
-abbrev pub around_of : State → Around
-around_of s = record { root = s.root; configuration = s.configuration; budget = s.budget }
-
 -- the list of a program among these documents and files
 abbrev pub list_in : Around → Store → PathId → OpenDocument → List Diagnostic
 list_in around store n document = diagnostics_of around.root around.configuration store around.budget n document
@@ -112,7 +104,7 @@ AreListed listed around store published = (n : PathId) (document : OpenDocument)
 
 -- what is true of the documents of a session and of the programs whose lists are of what is there
 pub record IsSound (listed : List PathId) (around : Around) (store : Store) (published : List LastList) : Type 0 where
-  pub few : length store.documents ≤ 64
+  pub few : length store.documents ≤ MOST_DOCUMENTS
   pub numbered : AreNumbered store.paths store.documents
   pub given : (n : PathId) → is_queued listed n ≡ true → n.0 < length store.paths
   pub are_listed : AreListed listed around store published

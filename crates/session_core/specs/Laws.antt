@@ -24,7 +24,7 @@ use Rattle.debug_sessions.specs.Laws.{reads_disconnect, trace_in}
 use Rattle.session_core.specs.Refusals.{is_fresh, is_active, is_ended}
 use Rattle.waiting_requests.specs.Requests.{waits, AreDistinct}
 use Rattle.session_core.specs.Diagnostics.{list_of}
-use Rattle.session_core.specs.State.{State, is_idle, libraries, document_at, is_program, is_queued, last_list}
+use Rattle.session_core.specs.State.{State, around_of, is_idle, libraries, document_at, is_program, is_queued, last_list}
 use Rattle.session_core.specs.Step.{Step, Goes, Stopped, Other}
 use Rattle.session_core.specs.Turn.{is_published}
 
@@ -189,9 +189,10 @@ LeavesFresh (Goes t bodies rest) = is_ended t.stage ≡ false → AreFresh t
 LeavesFresh Stopped = Unit {0}
 LeavesFresh Other = Unit {0}
 
--- where the session goes on, the documents, the files and the configuration are as they were, or every open program is queued
+-- where the session goes on, the documents, the files and what surrounds every program are as they were, or every open program
+-- is queued
 abbrev pub KeepsOrQueues : State → Step → Type 0
-KeepsOrQueues s (Goes t bodies rest) = ((t.store ≡ s.store) × (t.configuration ≡ s.configuration)) ⊎ AllQueued t
+KeepsOrQueues s (Goes t bodies rest) = ((t.store ≡ s.store) × (around_of t ≡ around_of s)) ⊎ AllQueued t
 KeepsOrQueues s Stopped = Unit {0}
 KeepsOrQueues s Other = Unit {0}
 

@@ -49,6 +49,17 @@ start budget = record {
   waiting = [];
 }
 
+-- ---- what surrounds programs
+
+-- what surrounds every program of a session, besides the documents and files
+pub record Around : Type 0 where
+  pub root : Option (List ℕ)
+  pub configuration : Configuration
+  pub budget : ℕ
+
+abbrev pub around_of : State → Around
+around_of s = record { root = s.root; configuration = s.configuration; budget = s.budget }
+
 -- ---- library folders
 
 -- the library folders of a configuration; without a root there is none

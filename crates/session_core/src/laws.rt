@@ -58,7 +58,8 @@ pub fn no_answer_is_never_other()
     ensures { (s : State) (body : List ℕ) → MakesAll (message s body []) }
 {}
 
-/// A message that changes the documents, the files or the configuration queues every open program.
+/// A message that changes the documents, the files, the folder of the client, the configuration or the budget queues every open
+/// program.
 pub fn changes_queue_every_program()
     ensures { (s : State) (body : List ℕ) (calls : List LibraryCall) → KeepsOrQueues s (message s body calls) }
 {}

@@ -29,7 +29,7 @@ const PROGRAM_LANGUAGE: &str = "hlasm";
 
 /// The open document of a number.
 pub(crate) fn document_at(store: &DocumentStore, path: PathId) -> Option<Document<'_>>
-    requires few { length store.now.store.documents ≤ 64 }
+    requires few { length store.now.store.documents ≤ MOST_DOCUMENTS }
     ensures { IsShown store.now.store.paths (document_at store.now.store path) result }
 {
     for index in 0..MOST_DOCUMENTS as u32 {
@@ -132,7 +132,7 @@ pub(crate) fn queue_programs(
     store: &DocumentStore,
     queue: &mut Vec<PathId>,
 ) -> Result<(), OutOfMemory>
-    requires few { length store.now.store.documents ≤ 64 }
+    requires few { length store.now.store.documents ≤ MOST_DOCUMENTS }
     ensures { OnOk result (queue.new.items ≡ with_programs queue.old.items (programs folders.now store.now.store)) }
 {
     let kept = queue.as_slice().len();

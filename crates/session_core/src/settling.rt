@@ -39,7 +39,7 @@ pub(crate) fn open_programs(
     folders: &[Folder],
     store: &DocumentStore,
 ) -> Result<Vec<PathId>, OutOfMemory>
-    requires few { length store.now.store.documents ≤ 64 }
+    requires few { length store.now.store.documents ≤ MOST_DOCUMENTS }
     ensures { IfOk result (λ all. all.items ≡ programs folders.now store.now.store) }
 {
     let mut programs = Vec::new(alloc);

@@ -20,7 +20,7 @@ use crate::lifecycle::folders_in;
 use crate::programs::{forget_members, queue_programs};
 use crate::replies;
 use crate::standing::Standing;
-use document_store::{DocumentStore, documents_have_numbers};
+use document_store::{DocumentStore, MOST_DOCUMENTS, documents_have_numbers};
 use file_uri::{UriFault, file_path};
 use hl_base::{OutOfMemory, Text};
 use io_edge::Library;
@@ -119,7 +119,7 @@ impl Standing {
     /// Takes the documents and files out of their place. No list counts as that of what is there any more.
     fn take_store(&mut self, alloc: Global) -> DocumentStore
         ensures taken { result.store ≡ self.old.store }
-        ensures few { length result.store.documents ≤ 64 }
+        ensures few { length result.store.documents ≤ MOST_DOCUMENTS }
         ensures left { self.new ≡ record self.old { store = empty_store } }
     {
         forget_members(&mut self.listed, &mut self.index, &mut self.names);
@@ -133,7 +133,7 @@ impl Standing {
         configuration: Configuration,
         store: DocumentStore,
     ) -> Result<Bodies, OutOfMemory>
-        requires few { length store.store.documents ≤ 64 }
+        requires few { length store.store.documents ≤ MOST_DOCUMENTS }
         ensures { IfOk result (λ bodies.
             IsEffect (settled (record self.old { configuration = configuration; store = store.store })) self.new bodies) }
     {
@@ -153,7 +153,7 @@ impl Standing {
         store: DocumentStore,
         watch: &mut Watch,
     ) -> Result<(), OutOfMemory>
-        requires few { length store.store.documents ≤ 64 }
+        requires few { length store.store.documents ≤ MOST_DOCUMENTS }
         ensures { IfOk result (λ _. messages.after_member (watched_so_far self.old watch.old)
             (record { store = store.store; log = watch.old.logs })
             ≡ watched_so_far self.new watch.new) }

@@ -21,11 +21,7 @@ fn entries(alloc: Global, values: &CallValues) -> Result<String, OutOfMemory> {
 }
 
 /// The first statement of a text as a macro call.
-pub fn first_call(
-    alloc: Global,
-    text: &str,
-    among: &mut Surroundings,
-) -> Result<String, OutOfMemory> {
+pub fn first_call(alloc: Global, text: &str, among: &Surroundings) -> Result<String, OutOfMemory> {
     let statements = read_statements(alloc, text)?;
     let [one, ..] = statements.as_slice() else {
         return Ok(String::from_str(alloc, "no statement")?);

@@ -15,7 +15,7 @@ fn shown(alloc: Global, found: &Evaluated) -> Result<String, OutOfMemory> {
 }
 
 /// The value of an arithmetic expression.
-pub fn number(alloc: Global, text: &str, among: &mut Surroundings) -> Result<String, OutOfMemory> {
+pub fn number(alloc: Global, text: &str, among: &Surroundings) -> Result<String, OutOfMemory> {
     match parse_arith(alloc, text) {
         Ok(e) => shown(alloc, &eval_a(alloc, &e, among)?),
         Err(stop) => fault(alloc, stop),
@@ -23,11 +23,7 @@ pub fn number(alloc: Global, text: &str, among: &mut Surroundings) -> Result<Str
 }
 
 /// The notes of an arithmetic expression, with their texts.
-pub fn note_texts(
-    alloc: Global,
-    text: &str,
-    among: &mut Surroundings,
-) -> Result<String, OutOfMemory> {
+pub fn note_texts(alloc: Global, text: &str, among: &Surroundings) -> Result<String, OutOfMemory> {
     match parse_arith(alloc, text) {
         Ok(e) => in_full(alloc, &eval_a(alloc, &e, among)?.notes),
         Err(stop) => fault(alloc, stop),
@@ -35,7 +31,7 @@ pub fn note_texts(
 }
 
 /// The value of a logical expression.
-pub fn truth(alloc: Global, text: &str, among: &mut Surroundings) -> Result<String, OutOfMemory> {
+pub fn truth(alloc: Global, text: &str, among: &Surroundings) -> Result<String, OutOfMemory> {
     match parse_logic(alloc, text) {
         Ok(e) => shown(alloc, &eval_b(alloc, &e, among)?),
         Err(stop) => fault(alloc, stop),
@@ -43,7 +39,7 @@ pub fn truth(alloc: Global, text: &str, among: &mut Surroundings) -> Result<Stri
 }
 
 /// The value of a character expression.
-pub fn text(alloc: Global, text: &str, among: &mut Surroundings) -> Result<String, OutOfMemory> {
+pub fn text(alloc: Global, text: &str, among: &Surroundings) -> Result<String, OutOfMemory> {
     match parse_char(alloc, text) {
         Ok(e) => shown(alloc, &eval_c(alloc, &e, among)?),
         Err(stop) => fault(alloc, stop),

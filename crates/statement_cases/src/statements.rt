@@ -77,7 +77,7 @@ fn act(alloc: Global, act: &Act) -> Result<String, AllocError> {
 pub fn first_effect(
     alloc: Global,
     text: &str,
-    among: &mut Surroundings,
+    among: &Surroundings,
 ) -> Result<String, OutOfMemory> {
     let statements = read_statements(alloc, text)?;
     match statements.as_slice() {
@@ -95,9 +95,9 @@ fn task(operation: &str) -> Task {
         "SETA" => Task::Assign(SetKind::A),
         "SETB" => Task::Assign(SetKind::B),
         "SETC" => Task::Assign(SetKind::C),
-        "AGO" => Task::Go,
-        "AIF" => Task::GoIf,
-        "ACTR" => Task::LimitBranches,
+        "AGO" => Task::Ago,
+        "AIF" => Task::Aif,
+        "ACTR" => Task::Actr,
         "END" => Task::End,
         "MACRO" => Task::Define,
         "MEND" | "MEXIT" => Task::Leave,
@@ -109,7 +109,7 @@ fn task(operation: &str) -> Task {
 /// What an operation of this name does with these fields.
 fn stopped(
     alloc: Global,
-    among: &mut Surroundings,
+    among: &Surroundings,
     name: &Name,
     label: &str,
     field: &str,
@@ -123,7 +123,7 @@ fn stopped(
 /// What an operation does with these fields, and its notes, or what it asks.
 pub fn done(
     alloc: Global,
-    among: &mut Surroundings,
+    among: &Surroundings,
     operation: &str,
     label: &str,
     field: &str,

@@ -59,7 +59,7 @@ fn answer_of_text(alloc: Global, table: Table, text: &str) -> Result<String, Out
         Table::Branches => fields::branches(alloc, text),
         Table::Templates => fields::pieces(alloc, text),
         Table::FieldEnds => fields::ending(alloc, text),
-        _ => answer_among(alloc, table, &mut Surroundings::nothing(), text),
+        _ => answer_among(alloc, table, &Surroundings::nothing(), text),
     }
 }
 
@@ -67,7 +67,7 @@ fn answer_of_text(alloc: Global, table: Table, text: &str) -> Result<String, Out
 fn answer_among(
     alloc: Global,
     table: Table,
-    among: &mut Surroundings,
+    among: &Surroundings,
     text: &str,
 ) -> Result<String, OutOfMemory> {
     match table {
@@ -89,7 +89,7 @@ fn answer_worded(
     text: &str,
 ) -> Result<String, OutOfMemory> {
     match Surroundings::read(alloc, words)? {
-        Some(mut among) => answer_among(alloc, table, &mut among, text),
+        Some(among) => answer_among(alloc, table, &among, text),
         None => other_fields(alloc),
     }
 }
@@ -103,7 +103,7 @@ fn answer_of_operation(
     field: &str,
 ) -> Result<String, OutOfMemory> {
     match Surroundings::read(alloc, words)? {
-        Some(mut among) => statements::done(alloc, &mut among, operation, label, field),
+        Some(among) => statements::done(alloc, &among, operation, label, field),
         None => other_fields(alloc),
     }
 }

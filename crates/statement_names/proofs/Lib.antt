@@ -1,4 +1,3 @@
-pub mod TextLaws
 pub mod ListLaws
 pub mod ScanLaws
 pub mod GroupLaws

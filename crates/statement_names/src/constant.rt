@@ -5,10 +5,11 @@ ghost use Rattle.statement_names.specs.Constants as constants;
 
 use crate::name::WrittenNames;
 use crate::scan::{Sought, push_names};
-use crate::text::{advance, before, behind, digit_count, head};
+use crate::text::{advance, digit_count};
 use constant_table::ConstantType;
 use hl_base::{Nesting, OutOfMemory};
 use hlasm_statements::Field;
+use hlasm_statements::text::{before, behind, head};
 
 /// Adds the ordinary symbols in a text that stands behind so many characters of an operand field.
 pub(crate) fn push_symbols(at: u32, text: &str, found: &mut WrittenNames) -> Result<(), OutOfMemory>

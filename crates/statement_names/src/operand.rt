@@ -6,10 +6,11 @@ ghost use Rattle.statement_names.specs.Operands as operands;
 use crate::constant::{push_constant, push_symbols};
 use crate::name::{NameKind, WrittenNames};
 use crate::scan::{Sought, named, push_names};
-use crate::text::{advance, character_count, counted, has_ampersand, head, name_of};
+use crate::text::{advance, counted, has_ampersand, name_of};
 use crate::uses::OperandUse;
 use hl_base::{OutOfMemory, Text};
 use hlasm_statements::Field;
+use hlasm_statements::text::{character_count, head};
 use operand_list::split_operands;
 use std::alloc::Global;
 

@@ -6,11 +6,10 @@ ghost use Rattle.statement_names.specs.Names as names;
 ghost use Rattle.statement_names.specs.Scans.{Stands};
 
 use crate::name::{NameKind, Named, WrittenNames};
-use crate::text::{
-    advance, before, behind, character_count, counted, head, is_front, name_of, word_length,
-};
+use crate::text::{advance, counted, is_front, name_of, word_length};
 use hl_base::{Name, Nesting, OutOfMemory, is_symbol_character};
 use hlasm_statements::Field;
+use hlasm_statements::text::{before, behind, character_count, head};
 
 /// What is sought in a text.
 #[derive(Clone, Copy, Debug, PartialEq, Eq)]

@@ -9,9 +9,10 @@ ghost use Rattle.statement_names.specs.Statements as statements;
 use crate::name::{NameKind, WrittenNames};
 use crate::operand::{push_field, push_variables};
 use crate::scan::named;
-use crate::text::{advance, character_count, counted, has_ampersand, head, name_of};
+use crate::text::{advance, counted, has_ampersand, name_of};
 use crate::uses::OperandUse;
 use hl_base::OutOfMemory;
+use hlasm_statements::text::{character_count, head};
 use hlasm_statements::{Field, Statement};
 use std::alloc::Global;
 

@@ -1,30 +1,12 @@
 //! Texts, character by character.
-ghost use Rattle.std.specs.Prelude.{◌≡◌, ◌==◌, ◌+◌, [], ◌∷◌, false, drop, length, take, slice_index, IfOk, MatchOption};
+ghost use Rattle.std.specs.Prelude.{◌≡◌, ◌==◌, ◌+◌, false, slice_index, IfOk};
 ghost use Rattle.std.specs.List.{list_any, prefix_len};
 ghost use Rattle.std.specs.Char.{is_ascii_digit};
 ghost use Rattle.std.specs.Str.{chars};
 ghost use Rattle.statement_names.specs.Names as names;
 
 use hl_base::{Name, OutOfMemory, is_symbol_character};
-use hlasm_statements::split_columns;
-
-/// How many characters a text has.
-pub(crate) fn character_count(text: &str) -> usize
-    ensures { result ≡ length (chars text.now) }
-{
-    text.chars().count()
-}
-
-/// The first character of a text, and what is behind it.
-pub(crate) fn head(text: &str) -> Option<(char, &str)>
-    ensures { MatchOption result (chars text.now ≡ []) (λ p. chars text.now ≡ p.0 ∷ chars p.1.now) }
-{
-    let mut rest = text.chars();
-    match rest.next() {
-        Some(c) => Some((c, rest.as_str())),
-        None => None,
-    }
-}
+use hlasm_statements::text::head;
 
 /// The name that a text spells.
 pub(crate) fn name_of(text: &str) -> Option<Name>
@@ -38,20 +20,6 @@ pub(crate) fn has_ampersand(text: &str) -> bool
     ensures { result ≡ list_any (λ c. c == 38) (chars text.now) }
 {
     text.chars().any(|c| c == '&')
-}
-
-/// What is behind so many characters of a text.
-pub(crate) fn behind(text: &str, count: usize) -> &str
-    ensures { chars result.now ≡ drop count (chars text.now) }
-{
-    split_columns(text, count).1
-}
-
-/// So many characters at the front of a text, or all of it.
-pub(crate) fn before(text: &str, count: usize) -> &str
-    ensures { chars result.now ≡ take count (chars text.now) }
-{
-    split_columns(text, count).0
 }
 
 /// How many letters and digits a text begins with.

@@ -20,14 +20,14 @@ use Rattle.statement_reading.specs.Templates.{Part, template, has_ampersand}
 -- statement whether its operands end within quotes
 pub data Body : Type 0 where
   unread : (at : ℕ) → Body
-  limits : (count : Tree) → Body
-  goes : (branch : Branch) → Body
-  goes_if : (pairs : List Choice) → Body
+  actr : (count : Tree) → Body
+  ago : (branch : Branch) → Body
+  aif : (pairs : List Choice) → Body
   declares : (list : List Declaration) → Body
   assigns : (kind : SetKind) (setting : Setting) → Body
   copies : (member : List ℕ) → Body
   copies_varying : (parts : List Part) → Body
-  says : (message : Message) → Body
+  mnote : (message : Message) → Body
   generates : (fields : Fields) → Body
   generates_unread : (at : ℕ) (open_end : Bool) → Body
   ends : (fields : Fields) → Body
@@ -63,15 +63,15 @@ copying operands = if has_ampersand operands then or_unread copies_varying (temp
 
 -- what name entry and operands say for a task
 abbrev pub body : Task → (label operands : List ℕ) → Body
-body task.LimitBranches label operands = or_unread limits (read Arithmetic operands)
-body task.Go label operands = or_unread goes (goto operands)
-body task.GoIf label operands = or_unread goes_if (choices operands)
+body task.Actr label operands = or_unread actr (read Arithmetic operands)
+body task.Ago label operands = or_unread ago (goto operands)
+body task.Aif label operands = or_unread aif (choices operands)
 body (task.Declare kind global) label operands = or_unread declares (declarations kind global operands)
 body (task.Assign kind) label operands = or_unread (λ one. assigns kind one) (setting kind label operands)
 body task.Define label operands = defines
 body task.Leave label operands = leaves
 body task.Copy label operands = copying operands
-body task.Say label operands = or_unread says (message operands)
+body task.Mnote label operands = or_unread mnote (message operands)
 body task.Nothing label operands = nothing
 body task.Generate label operands = generating (open_as_written operands) (fields label operands)
 body task.GenerateAlone label operands = generating false (alone label)

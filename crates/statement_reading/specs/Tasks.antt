@@ -7,14 +7,14 @@ use Rattle.instruction_table.specs.Formats.{operands_of}
 use Rattle.instruction_table.specs.declared.meaning.Operation.{Operation}
 use Rattle.instruction_table.specs.declared.meaning.Operation.TheVariants.{Conditional, Ordinary, Both, Silent, LeftOut, Machine, Unknown}
 use Rattle.statement_reading.specs.declared.task.Task.{Task}
-use Rattle.statement_reading.specs.declared.task.Task.TheVariants.{LimitBranches, Go, GoIf, Declare, Assign, Define, Leave, Copy, Say, Nothing, Generate, GenerateAlone, End, LeaveOut, Call}
+use Rattle.statement_reading.specs.declared.task.Task.TheVariants.{Actr, Ago, Aif, Declare, Assign, Define, Leave, Copy, Mnote, Nothing, Generate, GenerateAlone, End, LeaveOut, Call}
 
 -- the operations of conditional assembly; ANOP is the one that does nothing
 abbrev pub conditional : List ℕ → Task
 conditional name =
-    if bytes_eq name (codes "ACTR") then LimitBranches else
-    (if bytes_eq name (codes "AGO") then Go else
-    (if bytes_eq name (codes "AIF") then GoIf else
+    if bytes_eq name (codes "ACTR") then Actr else
+    (if bytes_eq name (codes "AGO") then Ago else
+    (if bytes_eq name (codes "AIF") then Aif else
     (if bytes_eq name (codes "GBLA") then Declare A true else
     (if bytes_eq name (codes "GBLB") then Declare B true else
     (if bytes_eq name (codes "GBLC") then Declare C true else
@@ -35,7 +35,7 @@ ordinary name = if bytes_eq name (codes "END") then End else Generate
 
 -- COPY and MNOTE
 abbrev pub both : List ℕ → Task
-both name = if bytes_eq name (codes "COPY") then Copy else Say
+both name = if bytes_eq name (codes "COPY") then Copy else Mnote
 
 -- a machine instruction with these operands: what follows one without operands are remarks
 abbrev pub machine : {K : Type 0} → List K → Task

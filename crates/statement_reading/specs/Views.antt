@@ -80,14 +80,14 @@ fields_of f = record { label = entry_of f.label; operands = entry_of f.operands;
 -- what fields say for a task
 abbrev pub body_of : Body → bodies.Body
 body_of (body.Unread at) = bodies.unread at
-body_of (body.Limits count) = bodies.limits (tree_of count)
-body_of (body.Goes goto) = bodies.goes (branch_of goto)
-body_of (body.GoesIf choices) = bodies.goes_if (choices_of choices)
+body_of (body.Actr count) = bodies.actr (tree_of count)
+body_of (body.Ago goto) = bodies.ago (branch_of goto)
+body_of (body.Aif choices) = bodies.aif (choices_of choices)
 body_of (body.Declares list) = bodies.declares list
 body_of (body.Assigns kind setting) = bodies.assigns kind (setting_of setting)
 body_of (body.Copies member) = bodies.copies member
 body_of (body.CopiesVarying template) = bodies.copies_varying (parts_of template)
-body_of (body.Says message) = bodies.says (message_of message)
+body_of (body.Mnote message) = bodies.mnote (message_of message)
 body_of (body.Generates f) = bodies.generates (fields_of f)
 body_of (body.GeneratesUnread at open_end) = bodies.generates_unread at open_end
 body_of (body.Ends f) = bodies.ends (fields_of f)

@@ -31,12 +31,10 @@ use std::alloc::Global;
 pub enum Body {
     /// They cannot be read, and up to this character they can.
     Unread(u32),
-    /// ACTR: so many branches.
-    Limits(Expr),
-    /// AGO.
-    Goes(Goto),
-    /// AIF.
-    GoesIf(Choices),
+    /// How many branches are left.
+    Actr(Expr),
+    Ago(Goto),
+    Aif(Choices),
     /// GBLA, GBLB, GBLC, LCLA, LCLB, LCLC.
     Declares(Declarations),
     /// SETA, SETB, SETC.
@@ -45,8 +43,7 @@ pub enum Body {
     Copies(Name),
     /// COPY of an operand with variable symbols.
     CopiesVarying(Template),
-    /// MNOTE.
-    Says(Message),
+    Mnote(Message),
     Generates(Fields),
     /// A generated statement whose fields cannot be read, and whether its operands end within quotes.
     GeneratesUnread(u32, bool),
@@ -64,33 +61,33 @@ pub enum Body {
 }
 
 /// ACTR.
-fn limits(alloc: Global, operands: &str) -> Result<Body, OutOfMemory>
-    ensures { IfOk result (λ b. body_of b ≡ bodies.or_unread bodies.limits (read Arithmetic (chars operands.now))) }
+fn actr(alloc: Global, operands: &str) -> Result<Body, OutOfMemory>
+    ensures { IfOk result (λ b. body_of b ≡ bodies.or_unread bodies.actr (read Arithmetic (chars operands.now))) }
 {
     match read_number(alloc, operands) {
-        Ok(count) => Ok(Body::Limits(count)),
+        Ok(count) => Ok(Body::Actr(count)),
         Err(SyntaxFault::At(at)) => Ok(Body::Unread(at)),
         Err(SyntaxFault::OutOfMemory) => Err(OutOfMemory),
     }
 }
 
 /// AGO.
-fn goes(alloc: Global, operands: &str) -> Result<Body, OutOfMemory>
-    ensures { IfOk result (λ b. body_of b ≡ bodies.or_unread bodies.goes (branches.goto (chars operands.now))) }
+fn ago(alloc: Global, operands: &str) -> Result<Body, OutOfMemory>
+    ensures { IfOk result (λ b. body_of b ≡ bodies.or_unread bodies.ago (branches.goto (chars operands.now))) }
 {
     match read_branch(alloc, operands) {
-        Ok(goto) => Ok(Body::Goes(goto)),
+        Ok(goto) => Ok(Body::Ago(goto)),
         Err(SyntaxFault::At(at)) => Ok(Body::Unread(at)),
         Err(SyntaxFault::OutOfMemory) => Err(OutOfMemory),
     }
 }
 
 /// AIF.
-fn goes_if(alloc: Global, operands: &str) -> Result<Body, OutOfMemory>
-    ensures { IfOk result (λ b. body_of b ≡ bodies.or_unread bodies.goes_if (branches.choices (chars operands.now))) }
+fn aif(alloc: Global, operands: &str) -> Result<Body, OutOfMemory>
+    ensures { IfOk result (λ b. body_of b ≡ bodies.or_unread bodies.aif (branches.choices (chars operands.now))) }
 {
     match read_choices(alloc, operands) {
-        Ok(choices) => Ok(Body::GoesIf(choices)),
+        Ok(choices) => Ok(Body::Aif(choices)),
         Err(SyntaxFault::At(at)) => Ok(Body::Unread(at)),
         Err(SyntaxFault::OutOfMemory) => Err(OutOfMemory),
     }
@@ -151,11 +148,11 @@ fn copies(alloc: Global, operands: &str) -> Result<Body, OutOfMemory>
 }
 
 /// MNOTE.
-fn says(alloc: Global, operands: &str) -> Result<Body, OutOfMemory>
-    ensures { IfOk result (λ b. body_of b ≡ bodies.or_unread bodies.says (messages.message (chars operands.now))) }
+fn mnote(alloc: Global, operands: &str) -> Result<Body, OutOfMemory>
+    ensures { IfOk result (λ b. body_of b ≡ bodies.or_unread bodies.mnote (messages.message (chars operands.now))) }
 {
     match read_message(alloc, operands) {
-        Ok(message) => Ok(Body::Says(message)),
+        Ok(message) => Ok(Body::Mnote(message)),
         Err(SyntaxFault::At(at)) => Ok(Body::Unread(at)),
         Err(SyntaxFault::OutOfMemory) => Err(OutOfMemory),
     }
@@ -208,15 +205,15 @@ pub fn read_body(
     ensures { IfOk result (λ b. body_of b ≡ bodies.body task (chars label.now) (chars operands.now)) }
 {
     match task {
-        Task::LimitBranches => limits(alloc, operands),
-        Task::Go => goes(alloc, operands),
-        Task::GoIf => goes_if(alloc, operands),
+        Task::Actr => actr(alloc, operands),
+        Task::Ago => ago(alloc, operands),
+        Task::Aif => aif(alloc, operands),
         Task::Declare(kind, global) => declares(alloc, kind, global, operands),
         Task::Assign(kind) => assigns(alloc, kind, label, operands),
         Task::Define => Ok(Body::Defines),
         Task::Leave => Ok(Body::Leaves),
         Task::Copy => copies(alloc, operands),
-        Task::Say => says(alloc, operands),
+        Task::Mnote => mnote(alloc, operands),
         Task::Nothing => Ok(Body::Nothing),
         Task::Generate => generates(alloc, label, operands),
         Task::GenerateAlone => generates_alone(alloc, label),

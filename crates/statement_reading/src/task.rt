@@ -9,16 +9,16 @@ use instruction_table::{Format, Operation, operands};
 /// What a statement does where no macro definition has the name of its operation.
 #[derive(Clone, Copy, Debug, PartialEq, Eq)]
 pub enum Task {
-    LimitBranches,
-    Go,
-    GoIf,
+    Actr,
+    Ago,
+    Aif,
     /// Of this type, and whether the symbols are global.
     Declare(SetKind, bool),
     Assign(SetKind),
     Define,
     Leave,
     Copy,
-    Say,
+    Mnote,
     Nothing,
     Generate,
     /// A machine instruction without operands, whose name entry alone is read.
@@ -33,9 +33,9 @@ fn conditional(name: &str) -> Task
     ensures { result ≡ tasks.conditional name.now }
 {
     match name {
-        "ACTR" => Task::LimitBranches,
-        "AGO" => Task::Go,
-        "AIF" => Task::GoIf,
+        "ACTR" => Task::Actr,
+        "AGO" => Task::Ago,
+        "AIF" => Task::Aif,
         "GBLA" => Task::Declare(SetKind::A, true),
         "GBLB" => Task::Declare(SetKind::B, true),
         "GBLC" => Task::Declare(SetKind::C, true),
@@ -94,7 +94,7 @@ fn both(name: &str) -> Task
 {
     match name {
         "COPY" => Task::Copy,
-        _ => Task::Say,
+        _ => Task::Mnote,
     }
 }
 
@@ -115,15 +115,15 @@ pub fn is_generated(task: Task) -> bool
 {
     match task {
         Task::Generate | Task::GenerateAlone | Task::End => true,
-        Task::LimitBranches
-        | Task::Go
-        | Task::GoIf
+        Task::Actr
+        | Task::Ago
+        | Task::Aif
         | Task::Declare(_, _)
         | Task::Assign(_)
         | Task::Define
         | Task::Leave
         | Task::Copy
-        | Task::Say
+        | Task::Mnote
         | Task::Nothing
         | Task::LeaveOut
         | Task::Call => false,

@@ -1,5 +1,6 @@
 use Rattle.std.proofs.Common.{◌≡◌, ◌++◌, drop}
-use Rattle.conditional_asm.specs.Repeating.{once, once_behind}
+use Rattle.conditional_asm.specs.Repeating.{once}
+use Rattle.conditional_asm.proofs.RepeatingLaws.{once_behind}
 use Rattle.conditional_asm.proofs.repeating.once.Given as goal
 
 -- what is left so far, and of the rest, is what is left of all

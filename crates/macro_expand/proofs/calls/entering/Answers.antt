@@ -14,7 +14,7 @@ returns-in-Wants c =
     let notes = c.args.notes in
     ap Some (sym (
     calling-led told known s.label s.operands notes content
-    ∙ shown-wants told content notes (entries told known s.label s.operands notes content) c.in-Wants.key (sym c.in-Wants.is ∙ c.in_ok-key.ensures.call)))
+    ∙ shown-wants told content notes (entries told known s.label s.operands notes content) c.in-Wants.key (sym c.in-Wants.is ∙ c.in_ok-key.ensures)))
 
 pub returns-in-Made : goal.returns-in-Made
 returns-in-Made c =
@@ -29,7 +29,7 @@ returns-in-Made c =
     ∙ ap Some (sym (
     calling-led told known s.label s.operands notes content
     ∙ shown-made told content notes (entries told known s.label s.operands notes content) c.in-Made.values c.in-Made.more
-    (sym c.in-Made.is ∙ c.in_ok-key.ensures.call))))
+    (sym c.in-Made.is ∙ c.in_ok-key.ensures))))
     c.labelling.ensures
 
 pub returns-in-Unreadable : goal.returns-in-Unreadable
@@ -45,5 +45,5 @@ returns-in-Unreadable c =
     ∙ ap Some (sym (
     calling-led told known s.label s.operands notes content
     ∙ shown-unreadable told content notes (entries told known s.label s.operands notes content) c.in-Unreadable.more
-    (sym c.in-Unreadable.is ∙ c.in_ok-key.ensures.call))))
+    (sym c.in-Unreadable.is ∙ c.in_ok-key.ensures))))
     c.not_entered.ensures

@@ -1,7 +1,7 @@
 use Rattle.std.proofs.Common.{◌≡◌, ◌∷◌, [], ◌++◌, ◌∙◌, ap, sym, subst, true, false}
 use Rattle.session_core.specs.Diagnostics.{diagnostics_of}
-use Rattle.session_core.specs.Inside.{IsSound, around_of}
-use Rattle.session_core.specs.State.{State, document_at, is_queued, last_list, with_list}
+use Rattle.session_core.specs.Inside.{IsSound}
+use Rattle.session_core.specs.State.{State, around_of, document_at, is_queued, last_list, with_list}
 use Rattle.session_core.specs.Step.{IsEffect}
 use Rattle.session_core.specs.Turn.{turn_at, is_published}
 use Rattle.session_core.proofs.EventLaws.{with_bodies}
