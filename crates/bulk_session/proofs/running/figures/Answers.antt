@@ -7,14 +7,14 @@ use Rattle.bulk_session.proofs.running.figures.Goals as goal
 
 pub unreachable-requires : goal.unreachable-requires
 unreachable-requires g c =
-    let told = figures_told c.args.session.old.state (chars (codes "file:///bulk/BULK.hlasm")) c.in_ok-figures.field-0 c.args.count c.args.edits uri_is c.requires.listed
+    let told = figures_told c.args.session.now.state (chars (codes "file:///bulk/BULK.hlasm")) c.in_ok-figures.field-0 c.args.count c.args.edits uri_is c.requires.listed
     c.in_ok-figures.ensures.figures in
     let bad : ◌≡◌ {A = Option Figures} None (Some (figures_behind c.args.count c.args.edits)) = sym c.in-None.is ∙ told in
     cc
 
 pub returns-clause-figures : goal.returns-clause-figures
 returns-clause-figures g c =
-    let told = figures_told c.args.session.old.state (chars (codes "file:///bulk/BULK.hlasm")) c.in_ok-figures.field-0 c.args.count c.args.edits uri_is c.requires.listed
+    let told = figures_told c.args.session.now.state (chars (codes "file:///bulk/BULK.hlasm")) c.in_ok-figures.field-0 c.args.count c.args.edits uri_is c.requires.listed
     c.in_ok-figures.ensures.figures in
     let same : ◌≡◌ {A = Option Figures} (Some c.in-Some.figures) (Some (figures_behind c.args.count c.args.edits)) = sym c.in-Some.is ∙ told in
     cc

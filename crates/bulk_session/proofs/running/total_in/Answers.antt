@@ -7,7 +7,7 @@ use Rattle.session_core.specs.Globals.{number_of}
 use Rattle.bulk_session.proofs.running.total_in.Goals as goal
 
 pub returns : goal.returns
-returns g c =
+returns c =
     let fits : SFits w32 c.unwrap_or.result = search rules in
     let read : ◌≡◌ {A = Option (List ℕ)} (Some c.in-Some.name) (Some (codes "TOT")) = sym c.in-Some.is ∙ c.read.ensures in
     let called : c.in-Some.name ≡ codes "TOT" = cc in
