@@ -1,9 +1,10 @@
 #!/usr/bin/env python3
 """Lists the functions of crates that took the prover longest, in processor seconds: checks each crate by one job, in its folder, and
-looks at the prover's processor time as it says that it is done with a function. What is kept of the crate is set aside first, so all of
+looks at the prover's processor time as it says that it is done with a function; parts of a function that it checks ahead are in the
+time of another (bench/slowest.py takes the files of each, by the clock). What is kept of the crate is set aside first, so all of
 it is checked; the libraries below are those that are kept, and built where they are not. The first function of a check has the crate's
-own definitions in its time, and a lemma is in the time of the first function that cites it (bench/slowest.py has lemmas by themselves,
-by the clock). Usage: bench/functions.py [--kept] CRATE.. (with --kept only what changed since the last check is checked, and timed)"""
+own definitions in its time, and a lemma is in the time of the first function that cites it. Usage:
+bench/functions.py [--kept] CRATE.. (with --kept only what changed since the last check is checked, and timed)"""
 import os
 import shutil
 import subprocess

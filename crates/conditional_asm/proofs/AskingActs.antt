@@ -56,25 +56,25 @@ value-asks frame A tree = then-asks (λ answers. values.number tree (told_by fra
 value-asks frame B tree = then-asks (λ answers. values.number tree (told_by frame answers)) (λ answers n. gives (set.B (values.is_true n))) (number-asks frame tree) (λ n. gives-asks (set.B (values.is_true n)) [])
 value-asks frame C tree = then-asks (λ answers. values.text tree (told_by frame answers)) (λ answers characters. gives (set.C characters)) (text-asks frame tree) (λ characters. gives-asks (set.C characters) [])
 
-put-asks : (frame : Frame) (kind : SetKind) (target operand : Tree) → IsAsking (λ answers. settings.put kind target operand (told_by frame answers))
-put-asks frame kind (Variable asked symbol subscripts) operand =
+put-asks : (frame : Frame) (kind : SetKind) (target value : Tree) → IsAsking (λ answers. settings.put kind target value (told_by frame answers))
+put-asks frame kind (Variable asked symbol subscripts) value =
     then-asks (λ answers. values.numbers subscripts (told_by frame answers))
-    (λ answers at. and_then (settings.value_as kind operand (told_by frame answers)) (λ v. gives (act.Set symbol.name (settings.element at) v))) (numbers-asks frame subscripts)
-    (λ at. then-asks (λ answers. settings.value_as kind operand (told_by frame answers)) (λ answers v. gives (act.Set symbol.name (settings.element at) v)) (value-asks frame kind operand)
+    (λ answers at. and_then (settings.value_as kind value (told_by frame answers)) (λ v. gives (act.Set symbol.name (settings.element at) v))) (numbers-asks frame subscripts)
+    (λ at. then-asks (λ answers. settings.value_as kind value (told_by frame answers)) (λ answers v. gives (act.Set symbol.name (settings.element at) v)) (value-asks frame kind value)
     (λ v. gives-asks (act.Set symbol.name (settings.element at) v) []))
-put-asks frame kind (Number form bits) operand = gives-asks act.Next []
-put-asks frame kind Here operand = gives-asks act.Next []
-put-asks frame kind (Ordinary asked symbol) operand = gives-asks act.Next []
-put-asks frame kind (Signed sign operand) operand = gives-asks act.Next []
-put-asks frame kind (Pair operator left right) operand = gives-asks act.Next []
-put-asks frame kind (Paren inner) operand = gives-asks act.Next []
-put-asks frame kind (Not operand) operand = gives-asks act.Next []
-put-asks frame kind (Compared comparison left right) operand = gives-asks act.Next []
-put-asks frame kind (Quoted items) operand = gives-asks act.Next []
-put-asks frame kind (Duplicated factor whole) operand = gives-asks act.Next []
-put-asks frame kind (Substring whole start count) operand = gives-asks act.Next []
-put-asks frame kind (SubstringToEnd whole start) operand = gives-asks act.Next []
-put-asks frame kind (Joined left right) operand = gives-asks act.Next []
+put-asks frame kind (Number form bits) value = gives-asks act.Next []
+put-asks frame kind Here value = gives-asks act.Next []
+put-asks frame kind (Ordinary asked symbol) value = gives-asks act.Next []
+put-asks frame kind (Signed sign operand) value = gives-asks act.Next []
+put-asks frame kind (Pair operator left right) value = gives-asks act.Next []
+put-asks frame kind (Paren inner) value = gives-asks act.Next []
+put-asks frame kind (Not operand) value = gives-asks act.Next []
+put-asks frame kind (Compared comparison left right) value = gives-asks act.Next []
+put-asks frame kind (Quoted items) value = gives-asks act.Next []
+put-asks frame kind (Duplicated factor whole) value = gives-asks act.Next []
+put-asks frame kind (Substring whole start count) value = gives-asks act.Next []
+put-asks frame kind (SubstringToEnd whole start) value = gives-asks act.Next []
+put-asks frame kind (Joined left right) value = gives-asks act.Next []
 
 weight-asks : (frame : Frame) (severity : Option Tree) → IsAsking (λ answers. messages.weight_of severity (told_by frame answers))
 weight-asks frame None = gives-asks Information []

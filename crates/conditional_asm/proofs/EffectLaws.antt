@@ -1,17 +1,30 @@
--- An operation that a macro definition may replace, and how an effect is shown.
-use Rattle.std.proofs.Common.{◌≡◌, ◌∙◌, Bool, true, false, List, [], ◌++◌, Result, Ok, Err, ap}
-use Rattle.std.specs.Prelude.{if◌then◌else◌}
+-- Want of memory, an operation that is no name, one that a macro definition may replace, and how an effect is shown.
+use Rattle.std.proofs.Common.{◌≡◌, ◌∙◌, refl, ℕ, Bool, true, false, List, [], ◌∷◌, ◌++◌, length, Result, Ok, Err, sym, ap, subst}
+use Rattle.std.specs.Prelude.{◌==◌, if◌then◌else◌}
+use Rattle.std.specs.Result.{IsErrAnd}
 use Rattle.hl_base.specs.declared.note.Note.{Note}
 use Rattle.hl_base.specs.declared.set.Key.{Key}
 use Rattle.cond_expr.specs.declared.stop.Stop.{Stop}
-use Rattle.cond_expr.specs.declared.stop.Stop.TheVariants.{Asked}
+use Rattle.cond_expr.specs.declared.stop.Stop.TheVariants.{Asked, OutOfMemory}
 use Rattle.cond_expr.specs.Outcome.{Outcome, Gives, Asks, and_then, Tells}
-use Rattle.cond_expr.proofs.OutcomeLemmas.{Tells-known, Tells-stop}
+use Rattle.cond_expr.proofs.OutcomeLemmas.{Tells-known, Tells-stop, out_of_memory}
 use Rattle.conditional_asm.specs.declared.act.Act.{Act}
 use Rattle.conditional_asm.specs.declared.act.Act.TheVariants as act
 use Rattle.conditional_asm.specs.declared.act.Effect.{Effect}
-use Rattle.conditional_asm.specs.Effects.{shown}
+use Rattle.conditional_asm.specs.Effects.{shown, nameless}
+use Rattle.conditional_asm.specs.Generating.{open_quote}
 use Rattle.conditional_asm.specs.Repeating.{once}
+use Rattle.conditional_asm.specs.Troubles.{undefined}
+
+-- want of memory at the exit of a `?`
+pub wants_memory : {V : Type 0} (o : Outcome V) (before after : List Note) (r : Result V Stop) → IsErrAnd r (λ x. x ≡ OutOfMemory) → Tells o before after r
+wants_memory o before after (Ok v) failed = absurd failed
+wants_memory o before after (Err stop) failed = subst (λ (s : Stop). Tells o before after (Err s)) (sym failed) (out_of_memory o before after)
+
+-- an operation that is no name, and has a character
+pub undefined_op : (op text : List ℕ) (open_end : Bool) → text ≡ op → (length text == 0) ≡ false → nameless op open_end ≡ Gives act.Next (open_quote open_end ++ undefined op ∷ [])
+undefined_op [] text open_end is some = let none : (length text == 0) ≡ true = ap (λ (t : List ℕ). length t == 0) is in cc
+undefined_op (c ∷ op) text open_end is some = refl
 
 -- an operation that may be replaced, where it is known whether it is defined
 pub replaced : (lasting is found : Bool) (defined : Outcome Bool) (x y z : Outcome Act) (before after : List Note) (r : Result Act Stop) → lasting ≡ false → found ≡ is →

@@ -1,5 +1,5 @@
 -- Notes that are left of some, one after the other.
-use Rattle.std.proofs.Common.{◌≡◌, ◌∙◌, ◌+◌, ◌<◌, ◌≤◌, ℕ, suc, Bool, true, false, List, [], ◌∷◌, ◌++◌, length, get_or, drop, drop-cons, add-one, sym, ap, refl, append_assoc, append-nil, if◌then◌else◌}
+use Rattle.std.proofs.Common.{◌≡◌, ◌∙◌, ◌+◌, ◌<◌, ◌≤◌, ℕ, suc, Bool, true, false, List, [], ◌∷◌, ◌++◌, length, get_or, drop, drop-cons, add-one, sym, ap, subst, refl, append_assoc, append-nil, if◌then◌else◌}
 use Rattle.std.specs.Prelude.{◌==◌, ◌&&◌, ◌||◌, not, cond, encode_utf8_all}
 use Rattle.std.specs.List.{filter, list_any}
 use Rattle.std.specs.Str.{bytes_eq}
@@ -118,7 +118,7 @@ all_fresh [] = refl
 all_fresh (note ∷ notes) = ap (λ rest. note ∷ rest) (all_fresh notes)
 
 -- behind none, what is left of some notes is what is left of them
-pub behind_nothing : (notes : List Note) → once_behind [] notes ≡ once notes
+behind_nothing : (notes : List Note) → once_behind [] notes ≡ once notes
 behind_nothing notes = behind_once notes [] ∙ all_fresh (once notes)
 
 -- ---- one note after the other
@@ -134,17 +134,34 @@ at_note given notes i note h is =
     ∙ ap (λ k. one_of given note (is_given given note) (drop k notes)) (sym (add-one i))
 
 -- a note that was given already is left out
-pub left_out : (given notes whole : List Note) (i : ℕ) (note : Note) → i < length notes → note ≡ get_or notes i note → is_given given note ≡ true →
+left_out : (given notes whole : List Note) (i : ℕ) (note : Note) → i < length notes → note ≡ get_or notes i note → is_given given note ≡ true →
     given ++ once_behind given (drop i notes) ≡ whole → given ++ once_behind given (drop (i + 1) notes) ≡ whole
 left_out given notes whole i note h is given_is so_far =
     ap (λ rest. given ++ rest) (sym (at_note given notes i note h is ∙ ap (λ b. one_of given note b (drop (i + 1) notes)) given_is)) ∙ so_far
 
 -- another is kept
-pub kept : (given notes whole : List Note) (i : ℕ) (note : Note) → i < length notes → note ≡ get_or notes i note → is_given given note ≡ false →
+kept : (given notes whole : List Note) (i : ℕ) (note : Note) → i < length notes → note ≡ get_or notes i note → is_given given note ≡ false →
     given ++ once_behind given (drop i notes) ≡ whole → (given ++ note ∷ []) ++ once_behind (given ++ note ∷ []) (drop (i + 1) notes) ≡ whole
 kept given notes whole i note h is given_is so_far =
     append_assoc given (note ∷ []) (once_behind (given ++ note ∷ []) (drop (i + 1) notes))
     ∙ ap (λ rest. given ++ rest) (sym (at_note given notes i note h is ∙ ap (λ b. one_of given note b (drop (i + 1) notes)) given_is)) ∙ so_far
+
+next_by : (b : Bool) (given notes whole : List Note) (i : ℕ) (note : Note) → is_given given note ≡ b → i < length notes → note ≡ get_or notes i note →
+    given ++ once_behind given (drop i notes) ≡ whole →
+    (if b then given else given ++ note ∷ []) ++ once_behind (if b then given else given ++ note ∷ []) (drop (i + 1) notes) ≡ whole
+next_by true given notes whole i note b h is so_far = left_out given notes whole i note h is b so_far
+next_by false given notes whole i note b h is so_far = kept given notes whole i note h is b so_far
+
+-- so each note is kept or left out
+pub next : (given grown notes whole : List Note) (i : ℕ) (note : Note) → i < length notes → note ≡ get_or notes i note →
+    grown ≡ (if is_given given note then given else given ++ note ∷ []) → given ++ once_behind given (drop i notes) ≡ whole →
+    grown ++ once_behind grown (drop (i + 1) notes) ≡ whole
+next given grown notes whole i note h is grown_is so_far =
+    subst (λ (g : List Note). g ++ once_behind g (drop (i + 1) notes) ≡ whole) (sym grown_is) (next_by (is_given given note) given notes whole i note refl h is so_far)
+
+-- before the first all are left
+pub none_yet : (given notes : List Note) → given ≡ [] → given ++ once_behind given (drop 0 notes) ≡ once notes
+none_yet given notes is = subst (λ (g : List Note). g ++ once_behind g notes ≡ once notes) (sym is) (behind_nothing notes)
 
 -- and none is left
 pub all_told : (given notes whole : List Note) (i : ℕ) → length notes ≤ i → given ++ once_behind given (drop i notes) ≡ whole → given ≡ whole

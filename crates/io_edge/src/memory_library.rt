@@ -1,9 +1,11 @@
 //! A library that holds its folders and files.
-ghost use Rattle.std.specs.Prelude.{◌≡◌, ◌↔◌, List, [], Some, map, find, length, string_bytes, IfOk, IsErr, IsErrOf, IsTrue};
+ghost use Rattle.std.specs.Prelude.{◌≡◌, ◌↔◌, ◌≤◌, ◌++◌, List, [], ◌∷◌, Some, Ok, map, find, length, string_bytes};
+ghost use Rattle.std.specs.Prelude.{IfOk, OnOk, OnErr, IsErr, IsErrOf, IsTrue};
 ghost use Rattle.std.specs.Option.{option_map, option_copied};
 ghost use Rattle.std.specs.Str.{bytes_eq};
-ghost use Rattle.io_edge.specs.Counts.{IsToFail};
-ghost use Rattle.io_edge.specs.Told.{Gains};
+ghost use Rattle.io_edge.specs.Counts.{IsToFail, one_more};
+ghost use Rattle.io_edge.specs.LibraryCall.{listing, reading, lists, reads, refused};
+ghost use Rattle.io_edge.specs.Told.{Gains, HasRisen};
 ghost use Rattle.io_edge.specs.MemoryLibrary.{names_at, bytes_at};
 ghost use Rattle.io_edge.specs.MemoryLibraryParts.{folder_of, file_of};
 
@@ -175,6 +177,102 @@ impl MemoryLibrary {
     {
         self.refusals
     }
+
+    /// Notes a call that was answered. An `Err` changes nothing.
+    fn note(&mut self, call: MemoryCall) -> Result<(), OutOfMemory>
+        ensures ok { OnOk result (self.new ≡ record self.old { calls = self.old.calls ++ call_of call ∷ [] }) }
+        ensures err { OnErr result (self.new ≡ self.old) }
+    {
+        self.calls.push(call)?;
+        Ok(())
+    }
+
+    /// Notes a call that fails, and counts it. An `Err` changes nothing.
+    fn refuse(&mut self, call: MemoryCall) -> Result<(), OutOfMemory>
+        ensures ok { OnOk result (self.new ≡ record self.old {
+          calls = self.old.calls ++ call_of call ∷ [];
+          refusals = one_more self.old.refusals;
+        }) }
+        ensures later { OnOk result (self.old.refusals ≤ self.new.refusals) }
+        ensures risen { OnOk result (HasRisen self.old.refusals self.new.refusals) }
+        ensures err { OnErr result (self.new ≡ self.old) }
+    {
+        self.calls.push(call)?;
+        self.refusals = self.refusals.saturating_add(1);
+        Ok(())
+    }
+
+    /// Notes a listing that fails, and counts it. An `Err` changes nothing.
+    fn refuse_listing(&mut self, alloc: Global, folder: &str) -> Result<(), OutOfMemory>
+        ensures ok { OnOk result (self.new ≡ record self.old {
+          calls = self.old.calls ++ lists folder.now refused ∷ [];
+          refusals = one_more self.old.refusals;
+        }) }
+        ensures later { OnOk result (self.old.refusals ≤ self.new.refusals) }
+        ensures risen { OnOk result (HasRisen self.old.refusals self.new.refusals) }
+        ensures err { OnErr result (self.new ≡ self.old) }
+    {
+        let folder = String::from_str(alloc, folder)?;
+        self.refuse(MemoryCall::List {
+            folder,
+            answer: Err(Failed),
+        })
+    }
+
+    /// Notes a reading that fails, and counts it. An `Err` changes nothing.
+    fn refuse_reading(&mut self, alloc: Global, path: &str) -> Result<(), OutOfMemory>
+        ensures ok { OnOk result (self.new ≡ record self.old {
+          calls = self.old.calls ++ reads path.now refused ∷ [];
+          refusals = one_more self.old.refusals;
+        }) }
+        ensures later { OnOk result (self.old.refusals ≤ self.new.refusals) }
+        ensures risen { OnOk result (HasRisen self.old.refusals self.new.refusals) }
+        ensures err { OnErr result (self.new ≡ self.old) }
+    {
+        let path = String::from_str(alloc, path)?;
+        self.refuse(MemoryCall::Read {
+            path,
+            answer: Err(Failed),
+        })
+    }
+
+    /// Answers a listing, and notes it. An `Err` changes nothing.
+    fn answer_listing(
+        &mut self,
+        alloc: Global,
+        folder: &str,
+    ) -> Result<Option<Vec<String>>, OutOfMemory>
+        ensures names { IfOk result (λ names. option_map (λ names. map string_bytes names.items) names
+            ≡ names_at self.old.folders folder.now) }
+        ensures ok { IfOk result (λ names. self.new ≡ record self.old { calls = self.old.calls ++ listing folder.now (Ok names) }) }
+        ensures err { OnErr result (self.new ≡ self.old) }
+    {
+        let path = String::from_str(alloc, folder)?;
+        let noted = copy_names_at(alloc, &self.folders, folder)?;
+        let names = copy_names_at(alloc, &self.folders, folder)?;
+        self.note(MemoryCall::List {
+            folder: path,
+            answer: Ok(noted),
+        })?;
+        Ok(names)
+    }
+
+    /// Answers a reading, and notes it. An `Err` changes nothing.
+    fn answer_reading(&mut self, alloc: Global, path: &str) -> Result<Option<Vec<u8>>, OutOfMemory>
+        ensures bytes { IfOk result (λ bytes. option_map (λ bytes. bytes.items) bytes
+            ≡ bytes_at self.old.files path.now) }
+        ensures ok { IfOk result (λ bytes. self.new ≡ record self.old { calls = self.old.calls ++ reading path.now (Ok bytes) }) }
+        ensures err { OnErr result (self.new ≡ self.old) }
+    {
+        let asked = String::from_str(alloc, path)?;
+        let noted = copy_bytes_at(alloc, &self.files, path)?;
+        let bytes = copy_bytes_at(alloc, &self.files, path)?;
+        self.note(MemoryCall::Read {
+            path: asked,
+            answer: Ok(noted),
+        })?;
+        Ok(bytes)
+    }
 }
 
 /// Whether the next call is to fail, where so many were made.
@@ -185,7 +283,7 @@ fn is_to_fail(failing: &[u64], calls: usize) -> bool
 }
 
 impl Library for MemoryLibrary {
-    ghost use Rattle.io_edge.specs.LibraryCall.{listing, reading, HasLibraryCause};
+    ghost use Rattle.io_edge.specs.LibraryCall.{HasLibraryCause};
     ghost use Rattle.io_edge.specs.MemoryLibrary.{Shelf, after_call, names_at, bytes_at};
 
     ghost calls = { λ l. Some l.calls };
@@ -203,22 +301,11 @@ impl Library for MemoryLibrary {
         ensures after { self.new ≡ after_call self.old (listing folder.now result) result }
         ensures kept { IsErrOf result LibraryFault.OutOfMemory → self.new ≡ self.old }
     {
-        let path = String::from_str(alloc, folder)?;
         if is_to_fail(&self.failing, self.calls.len()) {
-            self.calls.push(MemoryCall::List {
-                folder: path,
-                answer: Err(Failed),
-            })?;
-            self.refusals = self.refusals.saturating_add(1);
+            self.refuse_listing(alloc, folder)?;
             return Err(LibraryFault::Failed);
         }
-        let noted = copy_names_at(alloc, &self.folders, folder)?;
-        let names = copy_names_at(alloc, &self.folders, folder)?;
-        self.calls.push(MemoryCall::List {
-            folder: path,
-            answer: Ok(noted),
-        })?;
-        Ok(names)
+        Ok(self.answer_listing(alloc, folder)?)
     }
 
     fn read(&mut self, alloc: Global, path: &str) -> Result<Option<Vec<u8>>, LibraryFault>
@@ -232,21 +319,10 @@ impl Library for MemoryLibrary {
         ensures after { self.new ≡ after_call self.old (reading path.now result) result }
         ensures kept { IsErrOf result LibraryFault.OutOfMemory → self.new ≡ self.old }
     {
-        let asked = String::from_str(alloc, path)?;
         if is_to_fail(&self.failing, self.calls.len()) {
-            self.calls.push(MemoryCall::Read {
-                path: asked,
-                answer: Err(Failed),
-            })?;
-            self.refusals = self.refusals.saturating_add(1);
+            self.refuse_reading(alloc, path)?;
             return Err(LibraryFault::Failed);
         }
-        let noted = copy_bytes_at(alloc, &self.files, path)?;
-        let bytes = copy_bytes_at(alloc, &self.files, path)?;
-        self.calls.push(MemoryCall::Read {
-            path: asked,
-            answer: Ok(noted),
-        })?;
-        Ok(bytes)
+        Ok(self.answer_reading(alloc, path)?)
     }
 }

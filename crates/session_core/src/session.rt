@@ -163,7 +163,10 @@ impl Session {
         ensures { IfOk result (λ summary. summary ≡ summary_named self.now.state (chars uri.now)) }
     {
         let mut nothing = KeptExpansions::new(alloc);
-        match self.standing.figures_named(alloc, uri, &mut nothing, steps)? {
+        match self
+            .standing
+            .figures_named(alloc, uri, &mut nothing, steps)?
+        {
             Some(figures) => Ok(Some(figures.summary)),
             None => Ok(None),
         }
@@ -181,7 +184,10 @@ impl Session {
         ensures { IfOk result (λ number. number ≡ global_named self.now.state (chars uri.now) name.now) }
     {
         let mut nothing = KeptExpansions::new(alloc);
-        match self.standing.figures_named(alloc, uri, &mut nothing, steps)? {
+        match self
+            .standing
+            .figures_named(alloc, uri, &mut nothing, steps)?
+        {
             Some(figures) => Ok(figures.global(name)),
             None => Ok(None),
         }

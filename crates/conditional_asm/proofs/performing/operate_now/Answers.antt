@@ -1,4 +1,4 @@
-use Rattle.std.proofs.Common.{◌≡◌, List, ℕ, Option, Some, sym, subst, cc}
+use Rattle.std.proofs.Common.{◌≡◌, List, ℕ, Option, Some, sym, subst}
 use Rattle.std.specs.Option.{option_map_or}
 use Rattle.cond_expr.specs.Outcome.{Tells}
 use Rattle.statement_reading.specs.Readings.{Instruction, name_of}

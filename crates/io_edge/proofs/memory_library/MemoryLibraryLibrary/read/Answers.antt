@@ -11,3 +11,7 @@ returns-then-is_to_fail-clause-failed c = λ _.
     let calls : c.len.result ≡ length c.args.self.now.calls =
     omega (arith, length-map c.self.inside.calls.items call_of, ap (λ l. length l.calls) c.self.view_is) in
     IsToFail-same _ _ _ _ failing calls (c.if-is_to_fail.ensures.0 refl)
+
+pub returns-then-is_to_fail-clause-cause : goal.returns-then-is_to_fail-clause-cause
+returns-then-is_to_fail-clause-cause c =
+    record { later = c.in_ok-refuse_reading.ensures.later; failed = λ _. c.in_ok-refuse_reading.ensures.risen }
