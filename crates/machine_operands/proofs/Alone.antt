@@ -1,5 +1,5 @@
 -- Operands that are a term alone.
-use Rattle.std.proofs.Common.{◌≡◌, ◌∙◌, ℕ, ◌&&◌, Bool, true, false, cond, List, [], Some, None, refl, sym, ap, ◌≤◌, length, arith}
+use Rattle.std.proofs.Common.{◌≡◌, ◌∙◌, ℕ, ◌&&◌, Bool, true, false, cond, List, Some, None, refl, sym, ap, ◌≤◌, length, arith}
 use Rattle.std.specs.Prelude.{Ok, chars, Option, IfSome}
 use Rattle.expression_grammar.specs.declared.character.Grammar.TheVariants.{Ordinary}
 use Rattle.expression_grammar.specs.Readings.{read}

@@ -1,6 +1,6 @@
 -- What is read of a text that is a self-defining term between apostrophes.
-use Rattle.std.proofs.Common.{◌≡◌, ℕ, zero, suc, ◌+◌, ◌-◌, ◌*◌, ◌<◌, ◌≤◌, ◌==◌, ◌&&◌, Bool, true, false, List, [], ◌∷◌, ◌++◌, length, get_or, take, drop, refl, sym, ap, subst, ◌∙◌, arith, zero-add}
-use Rattle.std.specs.Prelude.{Ok, Option, Some, None, IfSome, not, nat_lt}
+use Rattle.std.proofs.Common.{◌≡◌, ℕ, zero, suc, ◌+◌, ◌-◌, ◌<◌, ◌≤◌, ◌&&◌, true, List, [], ◌∷◌, ◌++◌, length, get_or, take, drop, refl, sym, ap, subst, ◌∙◌, arith, zero-add}
+use Rattle.std.specs.Prelude.{Ok, Option, Some, None, IfSome}
 use Rattle.std.specs.Char.{digit_value, to_ascii_uppercase}
 use Rattle.std.specs.List.{list_all}
 use Rattle.std.specs.Str.{chars, IsAscii}
@@ -9,12 +9,12 @@ use Rattle.std.proofs.lemmas.Str.{chars-IsAscii, IsAscii-append}
 use Rattle.std.proofs.lemmas.Str.Ascii.{IsAscii-nil}
 use Rattle.constant_grammar.proofs.ExpressionLaws.{reads_ordinary}
 use Rattle.expression_grammar.specs.declared.character.Grammar.TheVariants.{Ordinary}
-use Rattle.expression_grammar.specs.declared.character.Kind.TheVariants.{Quote, Ampersand}
+use Rattle.expression_grammar.specs.declared.character.Kind.TheVariants.{Quote}
 use Rattle.expression_grammar.specs.declared.tree.Expr.{Expr}
 use Rattle.expression_grammar.specs.declared.tree.Form.TheVariants.{Hexadecimal, Character}
 use Rattle.expression_grammar.specs.Characters.{kind_of}
 use Rattle.expression_grammar.specs.Readings.{read}
-use Rattle.expression_grammar.specs.Spelling.{Placed, Piece, Gap, One, Capital, Digits, Characters, IsPiece, Reads, Spells, codes, placed, figures, is_figure, base_of, doubled, bytes_of, most_parts}
+use Rattle.expression_grammar.specs.Spelling.{Placed, Piece, Gap, One, Capital, Digits, Characters, IsPiece, Reads, codes, placed, figures, is_figure, doubled, most_parts}
 use Rattle.expression_grammar.specs.Trees.{Tree, Number, size}
 use Rattle.expression_grammar.specs.Views.{tree_of}
 use Rattle.expression_grammar.proofs.Completions.{placed-append}
