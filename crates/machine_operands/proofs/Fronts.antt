@@ -234,13 +234,16 @@ all_small p [] small all (suc i) = omega arith
 all_small p (x ∷ xs) small all zero = small x (and-left (p x) (list_all p xs) all)
 all_small p (x ∷ xs) small all (suc i) = all_small p xs small (and-right (p x) (list_all p xs) all) i
 
-symbol_small : (text name : List ℕ) → symbol_of text ≡ Some name → (i : ℕ) → get_or text i 0 < 128
+pub symbol_small : (text name : List ℕ) → symbol_of text ≡ Some name → (i : ℕ) → get_or text i 0 < 128
 symbol_small [] name is i = absurd cc
 symbol_small (c ∷ cs) name is zero = let parts = name-parts c cs name is in ascii_symbol c (letter-symbol c parts.letter)
 symbol_small (c ∷ cs) name is (suc i) = let parts = name-parts c cs name is in all_small is_symbol_character cs ascii_symbol parts.all i
 
+pub decimal_small : (text : List ℕ) (bits : ℕ) → IsDecimal text bits → (i : ℕ) → get_or text i 0 < 128
+decimal_small text bits is = all_small (is_figure Decimal) text ascii_digit is.all
+
 term_characters : (text : List ℕ) (tree : Tree) → IsTerm text tree → chars text ≡ text
-term_characters text tree (decimal bits is same) = chars-IsAscii text (all_small (is_figure Decimal) text ascii_digit is.all)
+term_characters text tree (decimal bits is same) = chars-IsAscii text (decimal_small text bits is)
 term_characters text tree (named name is same) = chars-IsAscii text (symbol_small text name is)
 
 -- a text that begins with a term, cut behind it

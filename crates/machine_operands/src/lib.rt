@@ -13,7 +13,9 @@ mod address;
 mod form;
 mod operand;
 mod parts;
+mod quoted;
 mod reading;
+mod sums;
 mod term;
 mod text;
 

@@ -12,6 +12,7 @@ ghost use Rattle.expression_grammar.specs.Views.{tree_of};
 ghost use Rattle.machine_operands.specs.Terms.{front_behind, whole_behind};
 ghost use Rattle.machine_operands.specs.Views.{front_reading_of, reading_of};
 
+use crate::sums::place_sum;
 use crate::term::term_front;
 use constant_grammar::{Formula, read_formula};
 use expression_grammar::{Expr, Grammar, SyntaxFault, parse_front};
@@ -63,13 +64,24 @@ fn read_any(alloc: Global, text: &str) -> Result<Reading, OutOfMemory>
     }
 }
 
+/// Reads an expression that is no term: a sum of a place and a number in one pass.
+#[tactic(auto, using(crate::proofs::SumLaws::sum_reads, crate::proofs::SumLaws::sum_small))]
+fn read_other(alloc: Global, text: &str) -> Result<Reading, OutOfMemory>
+    ensures { IfOk result (λ reading. reading_of reading ≡ read Ordinary (chars text.now)) }
+{
+    match place_sum(alloc, text)? {
+        Some(tree) => Ok(Reading::Tree(formula(alloc, tree)?)),
+        None => read_any(alloc, text),
+    }
+}
+
 /// Reads an expression: a term in one pass.
 pub(crate) fn read_whole(alloc: Global, text: &str) -> Result<Reading, OutOfMemory>
     ensures { IfOk result (λ reading. reading_of reading ≡ read Ordinary (chars text.now)) }
 {
     match term_front(text) {
         Some(front) => whole_term(alloc, front.tree, front.count, front.behind),
-        None => read_any(alloc, text),
+        None => read_other(alloc, text),
     }
 }
 

@@ -21,7 +21,7 @@ pub(crate) struct TermFront<'a> {
 
 /// The number that digits write, if it is one with few of them.
 #[tactic(auto, using(crate::proofs::Fronts::digits_next, crate::proofs::Fronts::digits_end))]
-fn decimal(mut digits: &[u8]) -> Option<u32>
+pub(crate) fn decimal(mut digits: &[u8]) -> Option<u32>
     ensures { IfSome result (λ bits. spec.IsDecimal digits.entry.now bits) }
 {
     if digits.is_empty() || digits.len() > 10 {
