@@ -45,3 +45,23 @@ def run(command, path):
     if child.returncode:
         sys.exit(f"{command[0]} ended with {child.returncode}: {output[-200:]}")
     return bytes(output), seen, whole, usage.ru_maxrss
+
+
+def run_in_turn(command, opening, lists, messages):
+    """Runs a command over a session whose client sends its next message once the list of the one before has come; `opening` is sent
+    first, and comes to so many lists. The seconds of each message."""
+    child = subprocess.Popen(command, stdin=subprocess.PIPE, stdout=subprocess.PIPE)
+    output, spent = bytearray(), []
+    for message in [frame({"id": 1, "method": "initialize", "params": {}}) + opening, *messages]:
+        start = time.perf_counter()
+        child.stdin.write(message)
+        child.stdin.flush()
+        while output.count(b"publishDiagnostics") < lists + len(spent):
+            output += os.read(child.stdout.fileno(), 1 << 20) or sys.exit(f"{command[0]} ended")
+        spent.append(time.perf_counter() - start)
+    child.stdin.write(frame({"id": 2, "method": "shutdown"}) + frame({"method": "exit"}))
+    child.stdin.close()
+    child.stdout.read()
+    if child.wait():
+        sys.exit(f"{command[0]} ended with {child.returncode}")
+    return spent[1:]

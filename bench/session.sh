@@ -19,7 +19,7 @@ import os, re, subprocess, sys, time
 server, work, bench = sys.argv[1:]
 sys.path.insert(0, bench)
 sys.dont_write_bytecode = True
-from replay import frame, opened, run, write_session
+from replay import frame, opened, run, run_in_turn, write_session
 uri = "file:///w/a.hlasm"
 
 # A program of which nothing is to be said, and which is laid out and checked whole.
@@ -49,9 +49,19 @@ def one_message(name, message):
     words = "".join(f"L{n:05}   MVC   TARGET,SOURCE".ljust(71) + f"{n % 10**8:>8}\n" for n in range(10000))
     return write_session(f"{work}/{name}", [opened(uri, words), message])
 
-def session(name, lines, keystrokes, others=0):
-    messages = [opened(f"file:///w/other{number}.hlasm", text(lines)) for number in range(others)] + [opened(uri, text(lines))]
-    return write_session(f"{work}/{name}", messages + [keystroke(number, lines // 2 // 3 * 3) for number in range(keystrokes)])
+def begun(lines, others):
+    return [opened(f"file:///w/other{number}.hlasm", text(lines)) for number in range(others)] + [opened(uri, text(lines))]
+
+def keystrokes(lines, count):
+    return [keystroke(number, lines // 2 // 3 * 3) for number in range(count)]
+
+# All at once: a message that is there already holds a Turn back, so most of the keystrokes have no list of their own.
+def session(name, lines, count):
+    return write_session(f"{work}/{name}", begun(lines, 0) + keystrokes(lines, count))
+
+# One after the other, each behind the list of the one before. What is open otherwise is opened at once, and has one list each.
+def in_turn(command, lines, count, others=0):
+    return run_in_turn(command, b"".join(begun(lines, others)), others + 1, keystrokes(lines, count))
 
 def last_list(output, seen):
     end = [found.end() for found in re.finditer(rb'publishDiagnostics.*?"version":\d+\}\}', output)][-1]
@@ -64,25 +74,25 @@ best, lists, plain = 1e9, 1e9, 1e9
 for _ in range(5):
     output, seen, whole, _ = run(served, path)
     best, lists = min(best, whole), min(lists, last_list(output, seen))
-    if output.count(b"publishDiagnostics") != keys + 1:
-        sys.exit("not a list for each keystroke")
+    if b'"version":%d}}' % (keys + 1) not in output:
+        sys.exit("not the list of the last keystroke")
     plain = min(plain, run([sys.executable, f"{work}/plain.py"], path)[2])
 print(f"{keys} keystrokes in 10000 lines, {os.path.getsize(path)} bytes:")
 print(f"  served in {best * 1000:.0f} ms, {(keys + 4) / best:.0f} messages a second; the last list after {lists * 1000:.0f} ms")
 print(f"  frames split and JSON read by Python, its start included, in {plain * 1000:.0f} ms")
 counts = []
-for few in (10, 30):
-    tool = ["valgrind", "--tool=callgrind", "--callgrind-out-file=/dev/null", *served]
-    with open(session("few", 10000, few), "rb") as source:
-        told = subprocess.run(tool, stdin=source, stdout=subprocess.DEVNULL, stderr=subprocess.PIPE, text=True).stderr
-    counts.append(int(re.findall(r"Collected : (\d+)", told)[0]))
-print(f"  {(counts[1] - counts[0]) // 20} instructions a keystroke, with its list")
+for few in (5, 15):
+    tool = ["valgrind", "--tool=callgrind", "--callgrind-out-file=/dev/null", f"--log-file={work}/told", *served]
+    in_turn(tool, 10000, few)
+    with open(f"{work}/told", encoding="utf-8") as told:
+        counts.append(int(re.findall(r"Collected : (\d+)", told.read())[0]))
+print(f"  {(counts[1] - counts[0]) // 10} instructions a keystroke, with its list")
 for edits in (10, 1000):
     _, _, _, peak = run(served, session("edits", 1000, edits))
     print(f"{edits} edits in 1000 lines: at most {peak} kB")
 for others in (0, 19):
-    few, many = (min(run(served, session("open", 10000, count, others))[2] for _ in range(3)) for count in (10, 110))
-    print(f"a keystroke in one of {others + 1} open programs of 10000 lines: {(many - few) * 10:.1f} ms")
+    middle = sorted(in_turn(served, 10000, 100, others))[50]
+    print(f"a keystroke in one of {others + 1} open programs of 10000 lines: {middle * 1000:.1f} ms")
 words = b"x" * 800_000
 start = time.perf_counter()
 for _ in range(1000):
