@@ -1,5 +1,7 @@
 //! What a statement does with SET symbols.
-ghost use Rattle.std.specs.Prelude.{◌≡◌, [], IfOk};
+ghost use Rattle.std.specs.Prelude.{◌≡◌, ◌++◌, List, [], ◌∷◌, IfOk, OnOk};
+ghost use Rattle.hl_base.specs.declared.set.Declaration.{Declaration};
+ghost use Rattle.call_knowledge.specs.declared.change.Change.TheVariants.{Nothing, Declare};
 ghost use Rattle.call_knowledge.specs.Deeds as deeds;
 ghost use Rattle.note_rows.specs.Table.{noted};
 ghost use Rattle.note_rows.specs.declared.row.Row.TheVariants.{DeclaredTwice};
@@ -7,7 +9,9 @@ ghost use Rattle.note_rows.specs.declared.row.Row.TheVariants.{DeclaredTwice};
 use crate::aim::kind_of;
 use crate::knowledge::declare_in;
 use crate::{Aim, Change, Knowledge};
-use hl_base::{Answer, Declarations, Frames, Key, Name, Note, Notes, OutOfMemory, SetValue};
+use hl_base::{
+    Answer, Declaration, Declarations, Frames, Key, Name, Note, Notes, OutOfMemory, SetValue,
+};
 use note_rows::{Row, note};
 use set_symbols::SetTable;
 use std::alloc::Global;
@@ -46,13 +50,46 @@ fn only(alloc: Global, change: Change) -> Deed
     }
 }
 
+/// What the declarations of a statement come to: the symbols that are declared, which make up a table too, and the notes of the others.
+#[derive(Drop)]
+struct Declaring {
+    declared: Declarations,
+    notes: Notes,
+    earlier: SetTable,
+}
+
+/// What declarations do that come to this.
+fn declared_by(alloc: Global, all: Declaring) -> Result<Deed, OutOfMemory>
+    ensures { IfOk result (λ d. d ≡ record (deeds.only (Declare all.declared)) { declared = all.declared; notes = all.notes }) }
+{
+    let mut deed = only(alloc, Change::Declare(all.declared.copy(alloc)?));
+    let Declaring {
+        declared,
+        notes,
+        ..
+    } = all;
+    deed.declared = declared;
+    deed.notes = notes;
+    Ok(deed)
+}
+
 /// Nothing changes, and this is said.
 fn refused(alloc: Global, row: Row) -> Result<Deed, OutOfMemory>
     ensures { IfOk result (λ d. d ≡ deeds.refused row) }
 {
+    let note = note(alloc, &row, Frames::new(alloc))?;
+    let mut notes = Notes::new(alloc);
+    notes.push(note)?;
+    Ok(noted_only(alloc, notes))
+}
+
+/// Nothing changes, and these notes are made.
+fn noted_only(alloc: Global, notes: Notes) -> Deed
+    ensures { result ≡ record (deeds.only Nothing) { notes = notes } }
+{
     let mut deed = only(alloc, Change::Nothing);
-    deed.notes.push(note(alloc, &row, Frames::new(alloc))?)?;
-    Ok(deed)
+    deed.notes = notes;
+    deed
 }
 
 /// The note of a name that is declared already.
@@ -148,25 +185,42 @@ impl Knowledge {
         self.is_known(name) || earlier.declared(name).is_some()
     }
 
+    /// One declaration more of a statement: its symbol is declared, or it is noted where its name is taken.
+    fn declare_next(
+        &self,
+        alloc: Global,
+        d: &Declaration,
+        all: &mut Declaring,
+    ) -> Result<(), OutOfMemory>
+        ensures declared { OnOk result ((rest : List Declaration)
+            → all.old.declared ++ deeds.new_ones self.now (deeds.names_of all.old.earlier) (d.now ∷ rest)
+            ≡ all.new.declared ++ deeds.new_ones self.now (deeds.names_of all.new.earlier) rest) }
+        ensures notes { OnOk result ((rest : List Declaration)
+            → all.old.notes ++ deeds.repeated self.now (deeds.names_of all.old.earlier) (d.now ∷ rest)
+            ≡ all.new.notes ++ deeds.repeated self.now (deeds.names_of all.new.earlier) rest) }
+    {
+        if self.is_taken(&all.earlier, &d.name) {
+            let note = repeated(alloc, &d.name)?;
+            all.notes.push(note)?;
+            return Ok(());
+        }
+        declare_in(&mut all.earlier, alloc, d)?;
+        all.declared.push(d.copy())?;
+        Ok(())
+    }
+
     /// A declaration of SET symbols: those of names that mean nothing yet, each name once, and a note for each other one.
     pub fn declaring(&self, alloc: Global, list: &Declarations) -> Result<Deed, OutOfMemory>
         ensures { IfOk result (λ d. d ≡ deeds.declaring self.now list.now) }
     {
-        let mut declared = Declarations::new(alloc);
-        let mut notes = Notes::new(alloc);
-        let mut earlier = SetTable::new(alloc);
+        let mut all = Declaring {
+            declared: Declarations::new(alloc),
+            notes: Notes::new(alloc),
+            earlier: SetTable::new(alloc),
+        };
         for d in list.as_slice() {
-            if self.is_taken(&earlier, &d.name) {
-                let note = repeated(alloc, &d.name)?;
-                notes.push(note)?;
-                continue;
-            }
-            declare_in(&mut earlier, alloc, d)?;
-            declared.push(d.copy())?;
+            self.declare_next(alloc, d, &mut all)?;
         }
-        let mut deed = only(alloc, Change::Declare(declared.copy(alloc)?));
-        deed.declared = declared;
-        deed.notes = notes;
-        Ok(deed)
+        declared_by(alloc, all)
     }
 }

@@ -9,12 +9,12 @@ use lib.Utf8.{scalars, scalar}
 use Rattle.std.proofs.Math.Nat.{suc-add}
 use Rattle.std.proofs.lemmas.Bool.Decides.{nat_tests}
 use Rattle.document_store.proofs.LineLemmas.{whole_lines-some, without_end, lines-whole, concat-whole_lines}
-use Rattle.std.specs.Prelude.{◌==◌, nat_lt, min, encode_utf8, encode_utf8_all, chars, IsUtf8, IsCharBoundary}
+use Rattle.std.specs.Prelude.{◌==◌, nat_lt, min, encode_utf8, encode_utf8_all, chars, IsUtf8, IsCharBoundary, slice_get, Some}
 use Rattle.std.specs.List.{concat}
 use Rattle.std.specs.Char.{len_utf8}
 use Rattle.std.proofs.lemmas.Str.{encodes-chars, encodes-append, IsCharBoundary-at_seam, scalars-chars, chars-encodes, length-encode, length-le-encodes}
 use Rattle.hl_base.specs.Texts.{lines, unit_width, units}
-use Rattle.std.proofs.lemmas.Option.{slice_get-get_or, slice_get_past}
+use Rattle.std.proofs.lemmas.Option.{slice_get-get_or, slice_get_past, get_or_from_slice_get}
 use Rattle.hl_base.specs.declared.edit.Position.{Position}
 use Rattle.document_store.specs.Positions.{whole_lines, characters_before, line_of, line_start, last_line, end_of, spot_of, place_of, position_of}
 use Rattle.document_store.proofs.FromLemmas.{IsFrom, IsFrom-within, line_of-from, split_at_line, begins_with_line, end_place, length-lines_whole, BeginsWith-without_end}
@@ -306,3 +306,10 @@ before_is_within line unit false = omega arith
 pub units_are_within : (line : List ℕ) (n : ℕ) (b : Bool) → cond b (units (take n line)) (units line) ≤ 2 * length line
 units_are_within line n true = omega (arith, units-take_le line n, units-le_double line)
 units_are_within line n false = units-le_double line
+
+-- a line that was found has no more characters before a unit than its text has bytes
+pub before-le_bytes : (bs line : List ℕ) (at : Position) → IsUtf8 bs → slice_get (lines (chars bs)) at.line ≡ Some line →
+    characters_before at.character line ≤ length bs
+before-le_bytes bs line at u is =
+    let found = get_or_from_slice_get (lines (chars bs)) at.line line [] is in
+    omega (arith, before_is_within line at.character true, ap length found, length-line_bytes bs at.line u)

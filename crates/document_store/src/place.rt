@@ -1,5 +1,5 @@
 //! Places in a text: in bytes, in characters and in UTF-16 units.
-ghost use Rattle.std.specs.Prelude.{◌≡◌, ◌+◌, ◌-◌, ◌≤◌, ℕ, ◌==◌, if◌then◌else◌, length, take, drop, false};
+ghost use Rattle.std.specs.Prelude.{◌≡◌, ◌+◌, ◌-◌, ◌≤◌, ℕ, ◌==◌, if◌then◌else◌, length, take, drop, slice_get, option_map, false};
 ghost use Rattle.std.specs.Str.{chars};
 ghost use Rattle.hl_base.specs.Texts as texts;
 ghost use Rattle.document_store.specs.Positions.{whole_lines, characters_before, place_of, column_of, position_of};
@@ -170,6 +170,22 @@ pub fn column(text: &str, at: Position) -> (u32, u32)
 {
     let line = line_or_last(text, at.line);
     (line.number, characters_in(&line, at) as u32 + 1)
+}
+
+/// The same, where this is the line of the position; nothing where the text has no such line.
+pub(crate) fn column_in(text: &str, line: Option<&str>, at: Position) -> (u32, u32)
+    requires short { length text.now ≤ LONGEST_TEXT }
+    requires line { option_map (λ found. chars found.now) line ≡ slice_get (texts.lines (chars text.now)) at.line }
+    ensures line { result.0 ≡ (column_of (chars text.now) at).0 }
+    ensures column { result.1 ≡ (column_of (chars text.now) at).1 }
+{
+    match line {
+        Some(found) => (
+            at.line,
+            before_unit(found, at.character).characters as u32 + 1,
+        ),
+        None => column(text, at),
+    }
 }
 
 /// The position of a column in a text of at most 4 MiB.

@@ -152,7 +152,13 @@ impl DocumentStore {
         ensures line { IfSome (holdings.present_text self.now.store path.0) (λ text. result.0 ≡ (positions.column_of text at).0) }
         ensures column { IfSome (holdings.present_text self.now.store path.0) (λ text. result.1 ≡ (positions.column_of text at).1) }
     {
-        place::column(self.present_text(path), at)
+        match self.present(path) {
+            Some(MemberText::File(text)) => {
+                place::column_in(self.pool.text(text), self.pool.line(text, at.line), at)
+            }
+            Some(MemberText::Unreadable) => unreachable!(),
+            None => unreachable!(),
+        }
     }
 
     /// The position of a column, counted from 1 in characters, of a line, counted from 0, of the text that is present at a

@@ -14,6 +14,7 @@ use Rattle.std.proofs.lemmas.Slice.Eq.{bytes_eq-Decides}
 use Rattle.std.proofs.lemmas.Map.Text.{is_eq-slice_cmp}
 use Rattle.slab.specs.Slab.{Slab, get, Updates}
 use Rattle.text_pool.specs.Marks.{mark_of}
+use Rattle.text_pool.specs.Starts.{AreStarts}
 use Rattle.text_pool.specs.Entries.{stamp, number_of, IsIndexed}
 use Rattle.text_pool.specs.declared.entry.Entry.{Entry}
 use Rattle.text_pool.specs.declared.entry.Key.{Key}
@@ -97,11 +98,18 @@ after_update old new id slot updates other entry found =
       | inr differ ↦ inr (differ, sym (updates.others other differ) ∙ found)
     ]
 
+-- where lines begin is known of one text, whatever it is called
+pub started_as : (entry written : Entry) → written.key ≡ entry.key → written.starts ≡ entry.starts →
+    AreStarts (rc_str_bytes entry.key.text) entry.starts.items → AreStarts (rc_str_bytes written.key.text) written.starts.items
+started_as entry written same kept started =
+    subst (λ bytes. AreStarts bytes written.starts.items) (ap (λ (k : Key). rc_str_bytes k.text) (sym same))
+    (subst (AreStarts (rc_str_bytes entry.key.text)) (ap (λ s. s.items) (sym kept)) started)
+
 -- another count of owners moves no text
 pub IsIndexed-recounted : (old new : Slab Entry) (numbers : BTreeMap Key ℕ) (id : ℕ) (entry written : Entry) →
     IsIndexed old numbers → get old id ≡ Some entry → Updates old new id (Some written) → written.key ≡ entry.key →
-    0 < written.owners → IsIndexed new numbers
-IsIndexed-recounted old new numbers id entry written indexed was updates same owned = record {
+    written.starts ≡ entry.starts → 0 < written.owners → IsIndexed new numbers
+IsIndexed-recounted old new numbers id entry written indexed was updates same kept owned = record {
   listed = λ other now found. elim (after_update old new id _ updates other now found) [
     | inl here ↦
         let is : written ≡ now = same_Some _ _ here.1 in
@@ -134,6 +142,12 @@ IsIndexed-recounted old new numbers id entry written indexed was updates same ow
         subst (λ (k : Key). length (rc_str_bytes k.text) ≤ LONGEST_TEXT) (sym same ∙ ap (λ e. e.key) is) (indexed.short id entry was)
     | inr there ↦ indexed.short other now there.1
   ];
+  started = λ other now found. elim (after_update old new id _ updates other now found) [
+    | inl here ↦
+        subst (λ (e : Entry). AreStarts (rc_str_bytes e.key.text) e.starts.items) (same_Some _ _ here.1)
+        (started_as entry written same kept (indexed.started id entry was))
+    | inr there ↦ indexed.started other now there.1
+  ];
   owned = λ other now found. elim (after_update old new id _ updates other now found) [
     | inl here ↦ subst (λ (e : Entry). 0 < e.owners) (same_Some _ _ here.1) owned
     | inr there ↦ indexed.owned other now there.1
@@ -164,8 +178,9 @@ pub IsIndexed-admitted : (old new : Slab Entry) (numbers later : BTreeMap Key �
     IsIndexed old numbers → Updates old new id (Some entry) → get old id ≡ None → stamp entry.key ≡ bytes →
     number_at numbers bytes ≡ None → ChangesAt numbers later bytes (Some id) →
     entry.key.mark ≡ mark_of (rc_str_bytes entry.key.text) → IsUtf8 (rc_str_bytes entry.key.text) →
-    length (rc_str_bytes entry.key.text) ≤ LONGEST_TEXT → 0 < entry.owners → IsIndexed new later
-IsIndexed-admitted old new numbers later id entry bytes indexed updates free is absent changes marked utf8 short owned = record {
+    length (rc_str_bytes entry.key.text) ≤ LONGEST_TEXT → AreStarts (rc_str_bytes entry.key.text) entry.starts.items →
+    0 < entry.owners → IsIndexed new later
+IsIndexed-admitted old new numbers later id entry bytes indexed updates free is absent changes marked utf8 short started owned = record {
   listed = λ other now found. elim (after_update old new id _ updates other now found) [
     | inl here ↦
         let same : bytes ≡ stamp now.key = sym is ∙ ap (λ e. stamp e.key) (same_Some _ _ here.1) in
@@ -195,6 +210,10 @@ IsIndexed-admitted old new numbers later id entry bytes indexed updates free is 
   short = λ other now found. elim (after_update old new id _ updates other now found) [
     | inl here ↦ subst (λ (e : Entry). length (rc_str_bytes e.key.text) ≤ LONGEST_TEXT) (same_Some _ _ here.1) short
     | inr there ↦ indexed.short other now there.1
+  ];
+  started = λ other now found. elim (after_update old new id _ updates other now found) [
+    | inl here ↦ subst (λ (e : Entry). AreStarts (rc_str_bytes e.key.text) e.starts.items) (same_Some _ _ here.1) started
+    | inr there ↦ indexed.started other now there.1
   ];
   owned = λ other now found. elim (after_update old new id _ updates other now found) [
     | inl here ↦ subst (λ (e : Entry). 0 < e.owners) (same_Some _ _ here.1) owned
@@ -235,6 +254,10 @@ IsIndexed-removed old new numbers later id entry indexed was updates changes = r
     | inl here ↦ absurd (none_is_some None now refl here.1)
     | inr there ↦ indexed.short other now there.1
   ];
+  started = λ other now found. elim (after_update old new id _ updates other now found) [
+    | inl here ↦ absurd (none_is_some None now refl here.1)
+    | inr there ↦ indexed.started other now there.1
+  ];
   owned = λ other now found. elim (after_update old new id _ updates other now found) [
     | inl here ↦ absurd (none_is_some None now refl here.1)
     | inr there ↦ indexed.owned other now there.1
@@ -256,5 +279,6 @@ IsIndexed-kept old new numbers later slots listed indexed =
       marked = λ id entry found. indexed.marked id entry (there id ∙ found);
       utf8 = λ id entry found. indexed.utf8 id entry (there id ∙ found);
       short = λ id entry found. indexed.short id entry (there id ∙ found);
+      started = λ id entry found. indexed.started id entry (there id ∙ found);
       owned = λ id entry found. indexed.owned id entry (there id ∙ found);
     }

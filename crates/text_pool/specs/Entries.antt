@@ -10,6 +10,7 @@ use Rattle.std.specs.BTreeMap.{BTreeMap}
 use Rattle.slab.specs.Slab.{Slab, get, entries_from}
 use Rattle.text_pool.specs.Marks.{mark_of}
 use Rattle.text_pool.specs.Pool.{Held, Pool}
+use Rattle.text_pool.specs.Starts.{AreStarts}
 use Rattle.text_pool.specs.declared.entry.Entry.{Entry}
 use Rattle.text_pool.specs.declared.entry.Key.{Key}
 use Rattle.text_pool.specs.declared.pool.TheConstants.{LONGEST_TEXT}
@@ -35,7 +36,7 @@ abbrev pub number_of : BTreeMap Key ℕ → Key → Option ℕ
 number_of numbers key = tree.get (λ x y. slice_cmp nat_cmp (stamp x) (stamp y)) numbers key
 
 -- each entry is found by its key under its number, and nothing else is found; each is a text of at most 4 MiB, has its
--- mark, and has an owner
+-- mark and where its lines begin, and has an owner
 pub record IsIndexed (slab : Slab Entry) (numbers : BTreeMap Key ℕ) : Type 0 where
   pub listed : (id : ℕ) (entry : Entry) → get slab id ≡ Some entry → number_of numbers entry.key ≡ Some id
   pub found : (key : Key) (id : ℕ) → number_of numbers key ≡ Some id →
@@ -43,4 +44,5 @@ pub record IsIndexed (slab : Slab Entry) (numbers : BTreeMap Key ℕ) : Type 0 w
   pub marked : (id : ℕ) (entry : Entry) → get slab id ≡ Some entry → entry.key.mark ≡ mark_of (rc_str_bytes entry.key.text)
   pub utf8 : (id : ℕ) (entry : Entry) → get slab id ≡ Some entry → IsUtf8 (rc_str_bytes entry.key.text)
   pub short : (id : ℕ) (entry : Entry) → get slab id ≡ Some entry → length (rc_str_bytes entry.key.text) ≤ LONGEST_TEXT
+  pub started : (id : ℕ) (entry : Entry) → get slab id ≡ Some entry → AreStarts (rc_str_bytes entry.key.text) entry.starts.items
   pub owned : (id : ℕ) (entry : Entry) → get slab id ≡ Some entry → 0 < entry.owners

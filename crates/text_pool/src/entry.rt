@@ -40,9 +40,10 @@ impl Key {
     }
 }
 
-/// A live text and how many own it.
+/// A live text, where its lines begin, and how many own it.
 #[derive(Drop)]
 pub(crate) struct Entry {
     pub(crate) key: Key,
+    pub(crate) starts: Vec<u32>,
     pub(crate) owners: u64,
 }

@@ -32,3 +32,11 @@ impl<T: Drop> From<AllocFailed<T>> for PoolFault {
         PoolFault::OutOfMemory
     }
 }
+
+impl From<hl_base::OutOfMemory> for PoolFault {
+    ghost from_gives = { λ _ fault. fault ≡ OutOfMemory };
+
+    fn from(_refused: hl_base::OutOfMemory) -> PoolFault {
+        PoolFault::OutOfMemory
+    }
+}

@@ -16,6 +16,7 @@ mod fault;
 mod laws;
 mod pool;
 mod present;
+mod starts;
 
 pub use fault::PoolFault;
 pub use laws::{freed_numbers_are_free, interned_texts_stand};

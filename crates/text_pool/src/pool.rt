@@ -12,7 +12,8 @@ ghost use Rattle.text_pool.specs.declared.fault.PoolFault.TheVariants.{TooLong};
 
 use crate::PoolFault;
 use crate::entry::{Entry, Key};
-use hl_base::{OutOfMemory, TextId, lines};
+use crate::starts::{line_at, line_starts};
+use hl_base::{OutOfMemory, TextId};
 use slab::Slab;
 use std::alloc::Global;
 use std::collections::BTreeMap;
@@ -28,6 +29,7 @@ pub struct TextPool {
     entries: Slab<Entry>,
     // The numbers of the entries by their texts, which share their memory.
     numbers: BTreeMap<Key, u32>,
+    alloc: Global,
 }
 
 impl Model for TextPool {
@@ -53,6 +55,7 @@ impl TextPool {
         TextPool {
             entries: Slab::new(alloc),
             numbers: BTreeMap::new(alloc),
+            alloc,
         }
     }
 
@@ -93,12 +96,14 @@ impl TextPool {
         self.entries[id.0 as usize].key.text.as_str()
     }
 
-    /// A line of a live text, counted from 0, without its end (Language Server Protocol 3.17, "Text Documents").
+    /// A line of a live text, counted from 0, without its end (Language Server Protocol 3.17, "Text Documents"). The lines
+    /// before it are not gone through.
     pub fn line(&self, id: TextId, n: u32) -> Option<&str>
         requires live { IsLive self.now id.0 }
         ensures { option_map (λ line. chars line.now) result ≡ slice_get (texts.lines (text_of self.now id.0)) n }
     {
-        lines(self.text(id)).nth(n as usize)
+        let entry = &self.entries[id.0 as usize];
+        line_at(entry.key.text.as_str(), entry.starts.as_slice(), n)
     }
 
     /// The text of a live number for an owner that outlives the pool's. It is the pool's own copy, shared.
@@ -191,13 +196,19 @@ impl TextPool {
         let Ok(number) = u32::try_from(self.entries.vacant_key()) else {
             return Err(PoolFault::OutOfMemory);
         };
+        let starts = line_starts(self.alloc, key.text.as_str())?;
         let sought = Key {
             mark: key.mark,
             text: key.text.clone()?,
         };
         self.entries.reserve(1)?;
         self.numbers.insert(sought, number)?;
-        self.entries.insert_reserved(Entry { key, owners: 1 });
+        let entry = Entry {
+            key,
+            starts,
+            owners: 1,
+        };
+        self.entries.insert_reserved(entry);
         Ok(TextId(number))
     }
 }

@@ -1,7 +1,9 @@
 use Rattle.std.proofs.Common.{◌∷◌, ◌≡◌, ◌∙◌, ℕ, ap, sym, subst, refl, Some, None, List, Result, Ok, Err, OnErr, arith}
 use Rattle.slab.specs.Slab.{get, Updates}
 use Rattle.text_pool.specs.declared.entry.Entry.{Entry}
+use Rattle.std.specs.Rc.{rc_str_bytes}
 use Rattle.text_pool.specs.Entries.{stamp}
+use Rattle.text_pool.specs.Starts.{AreStarts}
 use Rattle.text_pool.proofs.PoolLemmas.{pool_of-kept}
 use Rattle.text_pool.proofs.IndexLemmas.{ChangesAt, IsIndexed-kept, IsIndexed-admitted}
 use Rattle.text_pool.proofs.InternLemmas.{number_from_absent, IsInterned-admitted}
@@ -38,16 +40,20 @@ stood : (c : goal.After-insert_reserved) → get c.reserve.new.self c.in-Ok.numb
 stood c = ap (get c.reserve.new.self) (sym (number_is c)) ∙ c.insert_reserved.ensures.was_vacant
 
 stands : (c : goal.After-insert_reserved) →
-    let entry : Entry = record { key = c.args.key; owners = 1 } in
+    let entry : Entry = record { key = c.args.key; starts = c.in_ok-starts.starts; owners = 1 } in
     Updates c.reserve.new.self c.insert_reserved.new.self c.in-Ok.number (Some entry)
 stands c =
-    let entry : Entry = record { key = c.args.key; owners = 1 } in
+    let entry : Entry = record { key = c.args.key; starts = c.in_ok-starts.starts; owners = 1 } in
     subst (λ (k : ℕ). Updates c.reserve.new.self c.insert_reserved.new.self k (Some entry)) (number_is c)
     c.insert_reserved.ensures.updates
 
+-- where its lines begin
+started : (c : goal.After-insert_reserved) → AreStarts (rc_str_bytes c.args.key.text) c.in_ok-starts.starts.items
+started c = subst (λ bytes. AreStarts bytes c.in_ok-starts.starts.items) c.as_str.ensures.value c.in_ok-starts.ensures
+
 pub invariant_of-self-2 : goal.invariant_of-self-2
 invariant_of-self-2 c =
-    let entry : Entry = record { key = c.args.key; owners = 1 } in
+    let entry : Entry = record { key = c.args.key; starts = c.in_ok-starts.starts; owners = 1 } in
     let sought = ap (λ bytes. c.args.key.mark ∷ bytes) c.in_ok-clone.ensures.cases in
     IsIndexed-admitted c.reserve.new.self _ c.self.inside.numbers c.insert.new.self c.in-Ok.number entry (stamp c.args.key)
     (IsIndexed-kept _ _ _ _ (ap (λ s. s.slots) c.reserve.ensures.rest_kept) refl c.self.invariant)
@@ -55,11 +61,11 @@ invariant_of-self-2 c =
     (number_from_absent _ _ _ c.args.key c.requires.marked c.self.view_is c.self.invariant c.requires.absent)
     (subst (λ (bytes : List ℕ). ChangesAt c.self.inside.numbers c.insert.new.self bytes (Some c.in-Ok.number)) sought
     (λ text. c.in_ok-insert.ensures.updates.0 text))
-    c.requires.marked c.requires.utf8 c.requires.short (omega arith)
+    c.requires.marked c.requires.utf8 c.requires.short (started c) (omega arith)
 
 pub returns-clause-ok : goal.returns-clause-ok
 returns-clause-ok c =
-    let entry : Entry = record { key = c.args.key; owners = 1 } in
+    let entry : Entry = record { key = c.args.key; starts = c.in_ok-starts.starts; owners = 1 } in
     IsInterned-admitted c.reserve.new.self _ _ c.in-Ok.number entry _
     (pool_of-kept _ _ _ (ap (λ s. s.slots) c.reserve.ensures.rest_kept) c.self.view_is)
     (stood c) (stands c) refl refl c.requires.absent

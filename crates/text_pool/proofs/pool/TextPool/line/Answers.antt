@@ -1,11 +1,15 @@
-use Rattle.std.proofs.Common.{◌∙◌, ap}
+use Rattle.std.proofs.Common.{◌∙◌, sym, ap}
+use Rattle.std.specs.Prelude.{slice_get}
 use Rattle.std.specs.Str.{chars}
-use Rattle.std.proofs.lemmas.Iterator.Consumers.{nth_from_yields_List, YieldsList-from_first}
 use Rattle.hl_base.specs.Texts as texts
+use Rattle.text_pool.proofs.PoolLemmas.{live_contains, text_of-entry}
 use Rattle.text_pool.proofs.pool.TextPool.line.Goals as goal
+
+pub index-entry-requires : goal.index-entry-requires
+index-entry-requires c = live_contains _ _ _ c.self.view_is c.requires.live
 
 pub returns : goal.returns
 returns c =
-    nth_from_yields_List c.nth.result c.nth.new.self c.args.n c.nth.ensures.ran
-    (YieldsList-from_first (λ line. chars line.now) (λ left. left) _
-    (c.lines.ensures ∙ ap texts.lines c.text.ensures.characters))
+    c.line_at.ensures
+    ∙ ap (λ text. slice_get (texts.lines text) c.args.n)
+    (ap chars c.as_str.ensures.value ∙ sym (text_of-entry _ _ _ _ c.self.view_is c.index-entry.ensures))

@@ -12,7 +12,7 @@ pub invariant_of-self : goal.invariant_of-self
 invariant_of-self c =
     let owners = owners_of-entry _ _ _ _ c.self.view_is c.index_mut.ensures.value in
     IsIndexed-recounted _ _ _ _ _ _ c.self.invariant c.index_mut.ensures.value
-    (Updates-with_value _ _ _ (live_contains _ _ _ c.self.view_is c.requires.live)) refl
+    (Updates-with_value _ _ _ (live_contains _ _ _ c.self.view_is c.requires.live)) refl refl
     (omega (arith, owners, c.owners.ensures, c.if-owners-gt1.true))
 
 pub returns-then-owners-gt1-clause-others : goal.returns-then-owners-gt1-clause-others

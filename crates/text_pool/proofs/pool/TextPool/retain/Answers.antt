@@ -14,7 +14,7 @@ overflow_add-index_mut c =
 pub invariant_of-self : goal.invariant_of-self
 invariant_of-self c =
     IsIndexed-recounted _ _ _ _ _ _ c.self.invariant c.index_mut.ensures.value
-    (Updates-with_value _ _ _ (live_contains _ _ _ c.self.view_is c.requires.live)) refl (omega arith)
+    (Updates-with_value _ _ _ (live_contains _ _ _ c.self.view_is c.requires.live)) refl refl (omega arith)
 
 pub returns : goal.returns
 returns c =
