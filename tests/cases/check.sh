@@ -32,8 +32,8 @@ program_of() {
         expansions | footprints | held_footprints) echo expansion_cases ;;
         symbol_answers | related_places | same_lists | group_members) echo answer_cases ;;
         occurrences | figures) echo occurrence_cases ;;
-        prototypes | bindings | parameter_values) echo definition_cases ;;
-        definitions | defining_members | comparisons) echo definition_cases ;;
+        prototypes | bindings | parameter_values) echo statement_cases ;;
+        definitions | defining_members | comparisons) echo statement_cases ;;
     esac
 }
 

@@ -1,4 +1,5 @@
 //! The tables by their words.
+use crate::definition_tables::{self, DefinitionTable};
 use crate::{calls, evaluations, fields, statements, trees};
 use case_lines::CaseTable;
 use case_words::Surroundings;
@@ -41,10 +42,13 @@ pub enum Table {
 
     /// What a statement comes to as a macro call.
     Calls,
+
+    /// What is told of macro definitions.
+    OfDefinitions(DefinitionTable),
 }
 
 /// What is answered where the fields are not those of the table.
-fn other_fields(alloc: Global) -> Result<String, OutOfMemory> {
+pub fn other_fields(alloc: Global) -> Result<String, OutOfMemory> {
     Ok(String::from_str(alloc, "of other fields than the table's")?)
 }
 
@@ -126,12 +130,18 @@ impl CaseTable for Table {
             "operations" => Some(Table::Operations),
             "effects" => Some(Table::Effects),
             "calls" => Some(Table::Calls),
-            _ => None,
+            _ => match definition_tables::named(word) {
+                Some(table) => Some(Table::OfDefinitions(table)),
+                None => None,
+            },
         }
     }
 
     fn answer(&self, alloc: Global, fields: &[String]) -> Result<String, OutOfMemory> {
         match (*self, fields) {
+            (Table::OfDefinitions(table), fields) => definition_tables::answer(
+                alloc, table, fields,
+            ),
             (Table::Operations, [words, operation, label, field]) => answer_of_operation(
                 alloc,
                 words.as_str(),
