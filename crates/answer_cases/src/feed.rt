@@ -3,7 +3,7 @@ use crate::asking::span_worded;
 use crate::naming::number_of;
 use crate::scene::store_of;
 use crate::words::{add_part, cut, number};
-use answers_feed::{is_same_list, published};
+use answers_feed::published;
 use document_store::DocumentStore;
 use hl_base::{
     Frame, FrameKind, Frames, Name, Note, Notes, Origin, OutOfMemory, PathId, Severity, Text,
@@ -147,5 +147,5 @@ pub fn is_same(
     let program = number_of(&store, program);
     let one = list(alloc, &store, folder, program, one)?;
     let other = list(alloc, &store, folder, program, other)?;
-    Ok(format!(in alloc; "{}", is_same_list(one.as_slice(), other.as_slice()))?)
+    Ok(format!(in alloc; "{}", one == other)?)
 }

@@ -1,12 +1,6 @@
--- Lists from an index on, and their fronts.
-use Rattle.std.proofs.Common.{◌≡◌, ℕ, ◌+◌, ◌<◌, ◌≤◌, ◌&&◌, Bool, List, [], ◌∷◌, ◌++◌, length, drop, take, get_or, map, min, refl, sym, ap, ◌∙◌}
-use Rattle.std.specs.Cmp.Lexicographic.{pointwise}
-use Rattle.std.proofs.lemmas.List.{drop_more, map-append, take_all, take_min, take_more}
-
--- two lists from an index on are alike where their next elements are, and the others are
-pub pointwise_next : {X : Type 0} (E : X → X → Bool) (xs ys : List X) (i : ℕ) (d e : X) → i < length xs → i < length ys
-    → pointwise E (drop i xs) (drop i ys) ≡ (E (get_or xs i d) (get_or ys i e) && pointwise E (drop (i + 1) xs) (drop (i + 1) ys))
-pointwise_next E xs ys i d e within within_other = rw (drop_more xs i d within, drop_more ys i e within_other) refl
+-- Fronts of lists.
+use Rattle.std.proofs.Common.{◌≡◌, ℕ, ◌+◌, ◌<◌, ◌≤◌, List, [], ◌∷◌, ◌++◌, length, take, get_or, map, min, sym, ap, ◌∙◌}
+use Rattle.std.proofs.lemmas.List.{map-append, take_all, take_min, take_more}
 
 -- what was done for the first so many of some items, up to their end, is done for all of these
 pub map_all_shown : {A B : Type 0} (f : A → B) (xs : List A) (done : List B) (most shown i : ℕ) → done ≡ map f (take i (take shown xs)) → length (take shown xs) ≤ i → shown ≡ min most (length xs)

@@ -2,5 +2,4 @@ pub mod Diagnostics
 pub mod Inside
 pub mod Kept
 pub mod Laws
-pub mod Same
 pub mod Sites

@@ -2,16 +2,14 @@
 //!
 //! `published` makes the list of the notes of a program: where each note is shown, its code and severity, and as related
 //! places the macros and members in which it arose. It asks the document store for the texts that are present, and knows
-//! nothing of the assembly that made the notes. `is_same_list` tells whether two lists say the same.
+//! nothing of the assembly that made the notes.
 #![tactic(auto)]
 
 mod diagnostics;
 pub mod laws;
 mod measured;
-mod same;
 mod shelf;
 mod sites;
 mod wording;
 
 pub use diagnostics::published;
-pub use same::is_same_list;

@@ -1,6 +1,6 @@
 -- The arguments of debug requests (Debug Adapter Protocol, "Requests"): each as the kind that its request wants. A member
 -- that is not named here is ignored; null is of no wanted kind.
-use Rattle.std.specs.Prelude.{◌≡◌, ℕ, List, [], ◌∷◌, Bool, false, nat_lt, codes, Option, option_and_then, unwrap_or, Result, Ok, Err, chars}
+use Rattle.std.specs.Prelude.{ℕ, List, [], ◌∷◌, Bool, false, nat_lt, codes, Option, Some, None, option_and_then, unwrap_or, Result, Ok, Err, chars}
 use Rattle.serde_json.specs.Data.{Data, no_items, object, no_members}
 use Rattle.serde_json.specs.Find.{as_bool, as_str, as_array}
 use Rattle.json_view.specs.declared.members.MemberFault.{MemberFault}
@@ -21,11 +21,10 @@ abbrev pub each : {A B : Type 0} → (A → Result B MemberFault) → List A →
 each read [] = Ok []
 each read (x ∷ xs) = read x >>= (λ y. each read xs >>= (λ ys. Ok (y ∷ ys)))
 
--- what a call answered is what was wanted, but for want of memory
-abbrev pub Answers : {A : Type 0} → Result A ArgumentFault → Result A MemberFault → Type 0
-Answers (Ok value) wanted = wanted ≡ Ok value
-Answers (Err (Bad fault)) wanted = wanted ≡ Err fault
-Answers (Err OutOfMemory) wanted = Unit {0}
+-- what a fault says of a member, which want of memory does not
+abbrev pub named_by : ArgumentFault → Option MemberFault
+named_by (Bad fault) = Some fault
+named_by OutOfMemory = None
 
 -- the arguments of a request; where there are none, an object without members
 abbrev pub arguments_of : Data → Result Data MemberFault

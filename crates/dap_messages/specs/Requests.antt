@@ -1,5 +1,5 @@
 -- The debug request that a JSON value is, or why it is none (Debug Adapter Protocol, "Base Protocol", `Request`).
-use Rattle.std.specs.Prelude.{◌≡◌, ℕ, ℤ, List, Bool, false, codes, unwrap_or, if◌then◌else◌, Option, Some, None, option_map, option_and_then, ok_or, Result, Ok, Err, chars}
+use Rattle.std.specs.Prelude.{ℕ, ℤ, List, Bool, false, codes, unwrap_or, if◌then◌else◌, Option, Some, None, option_map, option_and_then, ok_or, Result, Ok, Err, chars}
 use Rattle.std.specs.Str.{bytes_eq}
 use Rattle.serde_json.specs.Data.{Data}
 use Rattle.serde_json.specs.Find.{get, as_str}
@@ -100,7 +100,7 @@ request_told message = do
 unfoldable pub request_of : Data → Result DapIn DapRefusal
 request_of value = if is_request value then request_told value else Err NotDap
 
--- what a call answered is the request or the refusal that was wanted, but for want of memory
-abbrev pub IsReading : {A : Type 0} → Result A DapRefusal → Result A DapRefusal → Type 0
-IsReading (Err OutOfMemory) wanted = Unit {0}
-IsReading answer wanted = wanted ≡ answer
+-- what a refusal says of a request, which want of memory does not
+abbrev pub said_by : DapRefusal → Option DapRefusal
+said_by OutOfMemory = None
+said_by refusal = Some refusal

@@ -2,8 +2,9 @@
 ghost use Rattle.std.specs.Prelude.{◌≡◌, map};
 ghost use Rattle.serde_json.specs.Data.{object, no_members};
 ghost use Rattle.serde_json.specs.View.{view};
+ghost use Rattle.json_view.specs.Answers.{Answers};
 ghost use Rattle.json_view.specs.Members.{member_of, unless_missing, shown};
-ghost use Rattle.dap_messages.specs.Arguments.{Answers, each, arguments_of, as_true, initialization, launching, line_in, lines_in, setting, scopes_asked, variables_asked};
+ghost use Rattle.dap_messages.specs.Arguments.{named_by, each, arguments_of, as_true, initialization, launching, line_in, lines_in, setting, scopes_asked, variables_asked};
 
 use crate::requests::{BreakLines, DapCommand};
 use hl_base::{OutOfMemory, Text};
@@ -61,7 +62,7 @@ fn true_if(arguments: &Value, member: &str) -> Result<Option<bool>, MemberFault>
 /// A client that makes itself known.
 #[tactic(auto, unfolding(crate::specs::Arguments::initialization))]
 pub fn initialization(alloc: Global, message: &Value) -> Result<DapCommand, ArgumentFault>
-    ensures { Answers result (initialization (view message.now)) }
+    ensures { Answers named_by result (initialization (view message.now)) }
 {
     let none = Value::Object(Map::new(alloc));
     let arguments = arguments(message, &none)?;
@@ -73,7 +74,7 @@ pub fn initialization(alloc: Global, message: &Value) -> Result<DapCommand, Argu
 /// A program that is to be launched.
 #[tactic(auto, unfolding(crate::specs::Arguments::launching))]
 pub fn launching(alloc: Global, message: &Value) -> Result<DapCommand, ArgumentFault>
-    ensures { Answers result (launching (view message.now)) }
+    ensures { Answers named_by result (launching (view message.now)) }
 {
     let none = Value::Object(Map::new(alloc));
     let arguments = arguments(message, &none)?;
@@ -88,7 +89,7 @@ pub fn launching(alloc: Global, message: &Value) -> Result<DapCommand, ArgumentF
 /// The breakpoints of a path.
 #[tactic(auto, unfolding(crate::specs::Arguments::setting))]
 pub fn setting(alloc: Global, message: &Value) -> Result<DapCommand, ArgumentFault>
-    ensures { Answers result (setting (view message.now)) }
+    ensures { Answers named_by result (setting (view message.now)) }
 {
     let none = Value::Object(Map::new(alloc));
     let arguments = arguments(message, &none)?;
@@ -103,7 +104,7 @@ pub fn setting(alloc: Global, message: &Value) -> Result<DapCommand, ArgumentFau
 
 /// The lines of breakpoints.
 fn lines(alloc: Global, arguments: &Value) -> Result<BreakLines, ArgumentFault>
-    ensures { Answers result (lines_in (view arguments.now)) }
+    ensures { Answers named_by result (lines_in (view arguments.now)) }
 {
     match opt_list(arguments, "breakpoints")? {
         Some(breakpoints) => lines_of(alloc, breakpoints),
@@ -112,7 +113,7 @@ fn lines(alloc: Global, arguments: &Value) -> Result<BreakLines, ArgumentFault>
 }
 
 fn lines_of(alloc: Global, breakpoints: &[Value]) -> Result<BreakLines, ArgumentFault>
-    ensures { Answers result (each line_in (map view breakpoints.now)) }
+    ensures { Answers named_by result (each line_in (map view breakpoints.now)) }
 {
     let mut lines = BreakLines::new(alloc);
     for breakpoint in breakpoints {
@@ -136,7 +137,7 @@ fn line(breakpoint: &Value) -> Result<u32, MemberFault>
 /// The frame whose scopes are asked for.
 #[tactic(auto, unfolding(crate::specs::Arguments::scopes_asked))]
 pub fn scopes_asked(alloc: Global, message: &Value) -> Result<DapCommand, ArgumentFault>
-    ensures { Answers result (scopes_asked (view message.now)) }
+    ensures { Answers named_by result (scopes_asked (view message.now)) }
 {
     let none = Value::Object(Map::new(alloc));
     let frame = need_int(arguments(message, &none)?, "frameId")?;
@@ -146,7 +147,7 @@ pub fn scopes_asked(alloc: Global, message: &Value) -> Result<DapCommand, Argume
 /// The reference whose variables are asked for.
 #[tactic(auto, unfolding(crate::specs::Arguments::variables_asked))]
 pub fn variables_asked(alloc: Global, message: &Value) -> Result<DapCommand, ArgumentFault>
-    ensures { Answers result (variables_asked (view message.now)) }
+    ensures { Answers named_by result (variables_asked (view message.now)) }
 {
     let none = Value::Object(Map::new(alloc));
     let reference = need_int(arguments(message, &none)?, "variablesReference")?;

@@ -2,10 +2,11 @@
 ghost use Rattle.std.specs.Prelude.{◌≡◌, codes, Result, IfOk, Ok, Err};
 ghost use Rattle.serde_json.specs.Find.{as_str};
 ghost use Rattle.serde_json.specs.View.{view};
+ghost use Rattle.json_view.specs.Answers.{Answers};
 ghost use Rattle.json_view.specs.Members.{member_of, shown};
 ghost use Rattle.json_view.specs.declared.members.MemberFault.{MemberFault};
-ghost use Rattle.dap_messages.specs.Arguments.{Answers};
-ghost use Rattle.dap_messages.specs.Requests.{name_of, is_request, seq_of, name_in, head_with, unless_bad, command_of, request_of, bare_command, IsReading};
+ghost use Rattle.dap_messages.specs.Arguments.{named_by};
+ghost use Rattle.dap_messages.specs.Requests.{name_of, is_request, seq_of, name_in, head_with, unless_bad, command_of, request_of, bare_command, said_by};
 ghost use Rattle.dap_messages.specs.declared.requests.DapCommand.{DapCommand};
 
 use crate::arguments::{
@@ -22,7 +23,7 @@ use std::alloc::Global;
 /// came.
 #[tactic(auto, unfolding(crate::specs::Requests::request_of))]
 pub fn read_dap(alloc: Global, v: &Value) -> Result<DapIn, DapRefusal>
-    ensures read { IsReading result (request_of (view v.now)) }
+    ensures read { Answers said_by result (request_of (view v.now)) }
     ensures named { IfOk result (λ read. member_of as_str (codes "command") (view v.now)
         ≡ Ok (name_of read.command)) }
 {
@@ -65,7 +66,7 @@ fn name(v: &Value) -> Result<&str, DapRefusal>
 }
 
 fn command(alloc: Global, seq: i32, name: &str, v: &Value) -> Result<DapCommand, DapRefusal>
-    ensures { IsReading result (command_of seq name.now (view v.now)) }
+    ensures { Answers said_by result (command_of seq name.now (view v.now)) }
 {
     match name {
         "initialize" => unless_bad(alloc, seq, name, initialization(alloc, v)),
@@ -79,7 +80,7 @@ fn command(alloc: Global, seq: i32, name: &str, v: &Value) -> Result<DapCommand,
 
 /// A command that reads no arguments.
 fn bare_command(alloc: Global, seq: i32, name: &str) -> Result<DapCommand, DapRefusal>
-    ensures { IsReading result (bare_command seq name.now) }
+    ensures { Answers said_by result (bare_command seq name.now) }
 {
     match bare(name) {
         Some(command) => Ok(command),
@@ -94,8 +95,8 @@ fn unless_bad(
     name: &str,
     read: Result<DapCommand, ArgumentFault>,
 ) -> Result<DapCommand, DapRefusal>
-    ensures { (wanted : Result DapCommand MemberFault) → Answers read wanted
-        → IsReading result (unless_bad (head_with seq name.now) wanted) }
+    ensures { (wanted : Result DapCommand MemberFault) → Answers named_by read wanted
+        → Answers said_by result (unless_bad (head_with seq name.now) wanted) }
 {
     match read {
         Ok(command) => Ok(command),

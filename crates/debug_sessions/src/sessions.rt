@@ -3,7 +3,8 @@ ghost use Rattle.std.specs.Prelude.{◌≡◌, ℕ, List, [], Some, Result, map,
 ghost use Rattle.std.specs.Vec.{vec_len};
 ghost use Rattle.std.specs.List.{remove};
 ghost use Rattle.std.specs.Borrow.{Bor};
-ghost use Rattle.dap_messages.specs.Requests.{IsReading};
+ghost use Rattle.json_view.specs.Answers.{Answers};
+ghost use Rattle.dap_messages.specs.Requests.{said_by};
 ghost use Rattle.dap_messages.specs.declared.requests.DapIn.{DapIn};
 ghost use Rattle.dap_messages.specs.declared.requests.DapRefusal.{DapRefusal};
 ghost use Rattle.dap_messages.specs.Written.{value_of};
@@ -251,7 +252,7 @@ impl DebugSessions {
         store: &DocumentStore,
         launched: Option<Launched>,
     ) -> Result<Answer, OutOfMemory>
-        ensures answer { IfOk result (λ said. (wanted : Result DapIn DapRefusal) → IsReading read wanted
+        ensures answer { IfOk result (λ said. (wanted : Result DapIn DapRefusal) → Answers said_by read wanted
             → answers.answer store.now.store.paths self.old number wanted launched ≡ outcome_of said self.new) }
         ensures whole { IfOk result IsWholeAnswer }
     {

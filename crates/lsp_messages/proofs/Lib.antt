@@ -1,4 +1,5 @@
 pub mod ListLaws
 pub mod MessageLaws
+pub mod SameLaws
 pub mod TokenLaws
 pub mod WrittenLaws

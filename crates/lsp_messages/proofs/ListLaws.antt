@@ -2,10 +2,11 @@
 use Rattle.std.proofs.Common.{◌≡◌, ℕ, ◌+◌, ◌<◌, List, [], ◌∷◌, ◌++◌, length, map, take, drop, get_or, Result, Ok, Err, suc, refl, ap, sym, ◌∙◌, add-one, append_assoc, drop-cons}
 use Rattle.std.proofs.lemmas.List.{map_more}
 use Rattle.serde_json.specs.Data.{Data}
+use Rattle.json_view.specs.Answers.{Answers}
 use Rattle.lsp_messages.specs.declared.parameters.Parameter.{Parameter}
 use Rattle.lsp_messages.specs.declared.parameters.ParameterFault.{ParameterFault}
 use Rattle.lsp_messages.specs.declared.parameters.ParameterFault.TheVariants.{Bad, OutOfMemory}
-use Rattle.lsp_messages.specs.Parameters.{◌>>=◌, all, each, Answers}
+use Rattle.lsp_messages.specs.Parameters.{◌>>=◌, all, each, named_by}
 
 -- what is left is the next element and what is left behind it
 pub drop-next : {A : Type 0} (xs : List A) (i : ℕ) (x : A) → i < length xs → x ≡ get_or xs i x → drop i xs ≡ x ∷ drop (i + 1) xs
@@ -59,8 +60,8 @@ behind-drop-ok read f before xs i x y more is_next is_read =
 
 -- an element cannot be read, or there was no memory for it
 pub Answers-behind-drop : {V A B : Type 0} (read : A → Result B Parameter) (f : V → A) (before : List B) (xs : List V) (i : ℕ) (x : V) (fault : ParameterFault)
-    → i < length xs → x ≡ get_or xs i x → Answers (Err fault) (read (f x))
-    → Answers {A = List B} (Err fault) (behind before (each read (map f (drop i xs))))
+    → i < length xs → x ≡ get_or xs i x → Answers named_by (Err fault) (read (f x))
+    → Answers {A = List B} named_by (Err fault) (behind before (each read (map f (drop i xs))))
 Answers-behind-drop read f before xs i x (Bad parameter) more is_next is_bad =
     ap (λ rest. behind before (each read (map f rest))) (drop-next xs i x more is_next)
     ∙ ap (λ r. behind before (r >>= (λ z. each read (map f (drop (i + 1) xs)) >>= (λ ys. Ok (z ∷ ys))))) is_bad

@@ -1,5 +1,5 @@
 -- The message that a JSON value is, or why it is none (JSON-RPC 2.0, "Request object"; LSP 3.17, "Base Protocol").
-use Rattle.std.specs.Prelude.{◌≡◌, ℕ, List, Bool, false, ◌&&◌, ◌||◌, codes, is_none, is_some, unwrap_or, if◌then◌else◌, Option, Some, None, option_map, option_and_then, Result, Ok, Err, chars}
+use Rattle.std.specs.Prelude.{ℕ, List, Bool, false, ◌&&◌, ◌||◌, codes, is_none, is_some, unwrap_or, if◌then◌else◌, Option, Some, None, option_map, option_and_then, Result, Ok, Err, chars}
 use Rattle.std.specs.Str.{bytes_eq}
 use Rattle.serde_json.specs.Data.{Data}
 use Rattle.serde_json.specs.Find.{get, as_str}
@@ -126,7 +126,7 @@ message_told message = do
 unfoldable pub message_of : Data → Result LspIn Refusal
 message_of value = if is_version_2 value then message_told value else Err NotRequest
 
--- what a call answered is the message or the refusal that was wanted, but for want of memory
-abbrev pub IsReading : {A : Type 0} → Result A Refusal → Result A Refusal → Type 0
-IsReading (Err OutOfMemory) wanted = Unit {0}
-IsReading answer wanted = wanted ≡ answer
+-- what a refusal says of a message, which want of memory does not
+abbrev pub said_by : Refusal → Option Refusal
+said_by OutOfMemory = None
+said_by refusal = Some refusal

@@ -1,6 +1,6 @@
 -- The members of the parameters of messages (LSP 3.17), by name and kind. A member that is missing or of another kind
 -- is what a refusal names.
-use Rattle.std.specs.Prelude.{◌≡◌, ℕ, ◌^◌, ◌&&◌, List, [], ◌∷◌, nat_eq, nat_lt, codes, if◌then◌else◌, Option, Some, None, option_map, option_and_then, ok_or, Result, Ok, Err, chars, ⊤}
+use Rattle.std.specs.Prelude.{ℕ, ◌^◌, ◌&&◌, List, [], ◌∷◌, nat_eq, nat_lt, codes, if◌then◌else◌, Option, Some, None, option_map, option_and_then, ok_or, Result, Ok, Err, chars, ⊤}
 use Rattle.std.specs.Option.{option_or}
 use Rattle.serde_json.specs.Data.{Data}
 use Rattle.serde_json.specs.Find.{as_str}
@@ -96,8 +96,7 @@ abbrev pub each : {A B : Type 0} → (A → Result B Parameter) → List A → R
 each read [] = Ok []
 each read (x ∷ xs) = read x >>= (λ y. each read xs >>= (λ ys. Ok (y ∷ ys)))
 
--- what a call answered is what was wanted, but for want of memory
-abbrev pub Answers : {A : Type 0} → Result A ParameterFault → Result A Parameter → Type 0
-Answers (Ok value) wanted = wanted ≡ Ok value
-Answers (Err (Bad parameter)) wanted = wanted ≡ Err parameter
-Answers (Err OutOfMemory) wanted = Unit {0}
+-- the parameter that a fault names, which want of memory does not
+abbrev pub named_by : ParameterFault → Option Parameter
+named_by (Bad parameter) = Some parameter
+named_by OutOfMemory = None

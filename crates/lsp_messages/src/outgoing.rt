@@ -22,6 +22,21 @@ pub struct Relation {
     pub message: Text,
 }
 
+impl PartialEq for Relation {
+    ghost use Rattle.std.specs.Cmp.{partial_equiv_from_equiv};
+    ghost use Rattle.lsp_messages.specs.Same.{is_same_relation, is_same_relation-laws};
+
+    ghost eq = { is_same_relation };
+
+    ghost laws = { partial_equiv_from_equiv is_same_relation-laws };
+
+    fn eq(&self, other: &Relation) -> bool {
+        self.uri.as_str() == other.uri.as_str()
+            && self.range == other.range
+            && self.message.as_str() == other.message.as_str()
+    }
+}
+
 /// One report of a document, as the editor shows it (LSP 3.17, `Diagnostic`); its severity is 1 for an error, 2 for a
 /// warning, 3 for information.
 #[derive(Debug, Drop)]
@@ -31,6 +46,23 @@ pub struct Diagnostic {
     pub range: Span,
     pub severity: u8,
     pub related: Relations,
+}
+
+impl PartialEq for Diagnostic {
+    ghost use Rattle.std.specs.Cmp.{partial_equiv_from_equiv};
+    ghost use Rattle.lsp_messages.specs.Same.{is_same_diagnostic, is_same_diagnostic-laws};
+
+    ghost eq = { is_same_diagnostic };
+
+    ghost laws = { partial_equiv_from_equiv is_same_diagnostic-laws };
+
+    fn eq(&self, other: &Diagnostic) -> bool {
+        self.code.as_str() == other.code.as_str()
+            && self.message.as_str() == other.message.as_str()
+            && self.range == other.range
+            && self.severity == other.severity
+            && self.related == other.related
+    }
 }
 
 /// A place in a document (LSP 3.17, `Location`).
@@ -116,6 +148,19 @@ impl Model for Relations {
     ghost view = { λ s. s.relations.items };
 }
 
+impl PartialEq for Relations {
+    ghost use Rattle.std.specs.Cmp.{partial_equiv_from_equiv};
+    ghost use Rattle.lsp_messages.specs.Same.{are_same_relations, are_same_relations-laws};
+
+    ghost eq = { are_same_relations };
+
+    ghost laws = { partial_equiv_from_equiv are_same_relations-laws };
+
+    fn eq(&self, other: &Relations) -> bool {
+        self.as_slice() == other.as_slice()
+    }
+}
+
 impl Relations {
     /// No place.
     pub fn new(alloc: Global) -> Relations
@@ -156,6 +201,19 @@ impl Model for Diagnostics {
     ghost Value = { List Diagnostic };
 
     ghost view = { λ s. s.diagnostics.items };
+}
+
+impl PartialEq for Diagnostics {
+    ghost use Rattle.std.specs.Cmp.{partial_equiv_from_equiv};
+    ghost use Rattle.lsp_messages.specs.Same.{is_same_list, is_same_list-laws};
+
+    ghost eq = { is_same_list };
+
+    ghost laws = { partial_equiv_from_equiv is_same_list-laws };
+
+    fn eq(&self, other: &Diagnostics) -> bool {
+        self.as_slice() == other.as_slice()
+    }
 }
 
 impl Diagnostics {

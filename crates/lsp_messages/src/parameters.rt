@@ -2,8 +2,9 @@
 ghost use Rattle.std.specs.Prelude.{◌≡◌, option_map};
 ghost use Rattle.serde_json.specs.Find.{as_str, as_array, as_bool};
 ghost use Rattle.serde_json.specs.View.{view, items_view};
+ghost use Rattle.json_view.specs.Answers.{Answers};
 ghost use Rattle.json_view.specs.Members.{shown, as_i32, as_object_value};
-ghost use Rattle.lsp_messages.specs.Parameters.{name_of, needed, optional, object_in, coordinate, session_number, as_id, as_change_kind, Answers};
+ghost use Rattle.lsp_messages.specs.Parameters.{name_of, needed, optional, object_in, coordinate, session_number, as_id, as_change_kind, named_by};
 
 use crate::incoming::{ChangeKind, Id};
 use hl_base::{OutOfMemory, Text};
@@ -147,7 +148,7 @@ pub fn truth(value: &Value, parameter: Parameter) -> Result<bool, Parameter>
 
 /// The id of a request: a text, or a whole number of 32 bits.
 pub fn request_id(alloc: Global, value: &Value, parameter: Parameter) -> Result<Id, ParameterFault>
-    ensures { Answers result (needed as_id parameter (view value.now)) }
+    ensures { Answers named_by result (needed as_id parameter (view value.now)) }
 {
     match need_text(value, parameter.name()) {
         Ok(words) => Ok(Id::Words(Text::of(alloc, words)?)),

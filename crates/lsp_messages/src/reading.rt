@@ -1,9 +1,10 @@
 //! Which message a value is.
 ghost use Rattle.std.specs.Prelude.{◌≡◌, Result, IfOk, IsTrue, Some, None, Err};
 ghost use Rattle.serde_json.specs.View.{view};
-ghost use Rattle.lsp_messages.specs.Messages.{is_response, is_version_2, method_of, id_of, head_with, unless_bad, refusal_for, initialized_at, definition_at, references_at, hover_at, symbols_of, request_of, notification_of, message_named, message_of, IsReading};
+ghost use Rattle.lsp_messages.specs.Messages.{is_response, is_version_2, method_of, id_of, head_with, unless_bad, refusal_for, initialized_at, definition_at, references_at, hover_at, symbols_of, request_of, notification_of, message_named, message_of, said_by};
+ghost use Rattle.json_view.specs.Answers.{Answers};
 ghost use Rattle.json_view.specs.Members.{shown};
-ghost use Rattle.lsp_messages.specs.Parameters.{Answers};
+ghost use Rattle.lsp_messages.specs.Parameters.{named_by};
 ghost use Rattle.lsp_messages.specs.Shapes.{root_of, place_asked, references_asked, document_asked};
 ghost use Rattle.lsp_messages.specs.declared.incoming.LspIn.{LspIn};
 ghost use Rattle.lsp_messages.specs.declared.parameters.Parameter.{Parameter};
@@ -32,7 +33,7 @@ pub fn is_response(v: &Value) -> bool
 /// notification, and the other way round; the refusal's head has the id and the method as they came.
 #[tactic(auto, unfolding(crate::specs::Messages::message_of))]
 pub fn read_lsp(alloc: Global, v: &Value) -> Result<LspIn, Refusal>
-    ensures { IsReading result (message_of (view v.now)) }
+    ensures { Answers said_by result (message_of (view v.now)) }
 {
     if !is_version_2(v) {
         return Err(Refusal::NotRequest);
@@ -52,7 +53,7 @@ fn is_version_2(v: &Value) -> bool
 }
 
 fn method(v: &Value) -> Result<&str, Refusal>
-    ensures { IsReading (shown (λ s. s.now) result) (method_of (view v.now)) }
+    ensures { Answers said_by (shown (λ s. s.now) result) (method_of (view v.now)) }
 {
     match need_text(v, "method") {
         Ok(method) => Ok(method),
@@ -62,7 +63,7 @@ fn method(v: &Value) -> Result<&str, Refusal>
 
 /// The id, if there is one.
 fn id(alloc: Global, v: &Value) -> Result<Option<Id>, Refusal>
-    ensures { IsReading result (id_of (view v.now)) }
+    ensures { Answers said_by result (id_of (view v.now)) }
 {
     match need_text(v, "id") {
         Ok(words) => Ok(Some(Id::Words(Text::of(alloc, words)?))),
@@ -75,7 +76,7 @@ fn id(alloc: Global, v: &Value) -> Result<Option<Id>, Refusal>
 }
 
 fn message_named(alloc: Global, method: &str, id: Option<Id>, v: &Value) -> Result<LspIn, Refusal>
-    ensures { IsReading result (message_named method.now id (view v.now)) }
+    ensures { Answers said_by result (message_named method.now id (view v.now)) }
 {
     match id {
         Some(id) => request(alloc, method, id, v),
@@ -84,7 +85,7 @@ fn message_named(alloc: Global, method: &str, id: Option<Id>, v: &Value) -> Resu
 }
 
 fn request(alloc: Global, method: &str, id: Id, v: &Value) -> Result<LspIn, Refusal>
-    ensures { IsReading result (request_of method.now id (view v.now)) }
+    ensures { Answers said_by result (request_of method.now id (view v.now)) }
 {
     match method {
         "initialize" => initialize(alloc, method, id, v),
@@ -98,7 +99,7 @@ fn request(alloc: Global, method: &str, id: Id, v: &Value) -> Result<LspIn, Refu
 }
 
 fn initialize(alloc: Global, method: &str, id: Id, v: &Value) -> Result<LspIn, Refusal>
-    ensures { IsReading result (unless_bad (head_with method.now (Some id))
+    ensures { Answers said_by result (unless_bad (head_with method.now (Some id))
         (initialized_at id (root_of (view v.now)))) }
 {
     match root(alloc, v) {
@@ -108,7 +109,7 @@ fn initialize(alloc: Global, method: &str, id: Id, v: &Value) -> Result<LspIn, R
 }
 
 fn definition(alloc: Global, method: &str, id: Id, v: &Value) -> Result<LspIn, Refusal>
-    ensures { IsReading result (unless_bad (head_with method.now (Some id))
+    ensures { Answers said_by result (unless_bad (head_with method.now (Some id))
         (definition_at id (place_asked (view v.now)))) }
 {
     match place_asked(alloc, v) {
@@ -122,7 +123,7 @@ fn definition(alloc: Global, method: &str, id: Id, v: &Value) -> Result<LspIn, R
 }
 
 fn references(alloc: Global, method: &str, id: Id, v: &Value) -> Result<LspIn, Refusal>
-    ensures { IsReading result (unless_bad (head_with method.now (Some id))
+    ensures { Answers said_by result (unless_bad (head_with method.now (Some id))
         (references_at id (references_asked (view v.now)))) }
 {
     match references_asked(alloc, v) {
@@ -137,7 +138,7 @@ fn references(alloc: Global, method: &str, id: Id, v: &Value) -> Result<LspIn, R
 }
 
 fn hover(alloc: Global, method: &str, id: Id, v: &Value) -> Result<LspIn, Refusal>
-    ensures { IsReading result (unless_bad (head_with method.now (Some id))
+    ensures { Answers said_by result (unless_bad (head_with method.now (Some id))
         (hover_at id (place_asked (view v.now)))) }
 {
     match place_asked(alloc, v) {
@@ -151,7 +152,7 @@ fn hover(alloc: Global, method: &str, id: Id, v: &Value) -> Result<LspIn, Refusa
 }
 
 fn document_symbol(alloc: Global, method: &str, id: Id, v: &Value) -> Result<LspIn, Refusal>
-    ensures { IsReading result (unless_bad (head_with method.now (Some id))
+    ensures { Answers said_by result (unless_bad (head_with method.now (Some id))
         (symbols_of id (document_asked (view v.now)))) }
 {
     match document_asked(alloc, v) {
@@ -161,7 +162,7 @@ fn document_symbol(alloc: Global, method: &str, id: Id, v: &Value) -> Result<Lsp
 }
 
 fn notification(alloc: Global, method: &str, v: &Value) -> Result<LspIn, Refusal>
-    ensures { IsReading result (notification_of method.now (view v.now)) }
+    ensures { Answers said_by result (notification_of method.now (view v.now)) }
 {
     match method {
         "initialized" => Ok(LspIn::Initialized),
@@ -184,8 +185,8 @@ fn unless_bad(
     method: &str,
     read: Result<LspIn, ParameterFault>,
 ) -> Result<LspIn, Refusal>
-    ensures { (wanted : Result LspIn Parameter) → Answers read wanted
-        → IsReading result (unless_bad (head_with method.now None) wanted) }
+    ensures { (wanted : Result LspIn Parameter) → Answers named_by read wanted
+        → Answers said_by result (unless_bad (head_with method.now None) wanted) }
 {
     match read {
         Ok(message) => Ok(message),
@@ -199,7 +200,7 @@ fn bad_params(
     id: Option<Id>,
     fault: ParameterFault,
 ) -> Result<LspIn, Refusal>
-    ensures { IsReading result (Err (refusal_for (head_with method.now id) fault)) }
+    ensures { Answers said_by result (Err (refusal_for (head_with method.now id) fault)) }
 {
     match fault {
         ParameterFault::Bad(parameter) => {
@@ -211,7 +212,7 @@ fn bad_params(
 }
 
 fn unknown_method(alloc: Global, method: &str, id: Option<Id>) -> Result<LspIn, Refusal>
-    ensures { IsReading result (Err (Refusal.UnknownMethod (head_with method.now id))) }
+    ensures { Answers said_by result (Err (Refusal.UnknownMethod (head_with method.now id))) }
 {
     Err(Refusal::UnknownMethod(head(alloc, method, id)?))
 }

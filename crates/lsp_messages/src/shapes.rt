@@ -3,8 +3,9 @@ ghost use Rattle.std.specs.Prelude.{◌≡◌, map, option_map};
 ghost use Rattle.serde_json.specs.Data.{object, no_members};
 ghost use Rattle.serde_json.specs.Find.{as_str, as_array};
 ghost use Rattle.serde_json.specs.View.{view, items_view};
+ghost use Rattle.json_view.specs.Answers.{Answers};
 ghost use Rattle.json_view.specs.Members.{shown};
-ghost use Rattle.lsp_messages.specs.Parameters.{Answers, all, each};
+ghost use Rattle.lsp_messages.specs.Parameters.{named_by, all, each};
 ghost use Rattle.lsp_messages.specs.Shapes.{params_of, document_in, is_null_at, given, checked_uri, folder_in, first_folder, root_among, own_root, folders_in, root_of, opened, place_in, place_at, edit_within, edit_in, edits_in, changed, closed, file_change_in, file_changes_in, watched, asked_uri, place_asked, references_asked, document_asked, cancelled, debugged};
 
 use crate::incoming::{DebugMessage, FileChange, FileChanges, LspIn};
@@ -44,7 +45,7 @@ fn params<'a>(message: &'a Value, none: &'a Value) -> Result<&'a Value, Paramete
 /// The URI of the folder that the client works in.
 #[tactic(auto, unfolding(crate::specs::Shapes::root_of))]
 pub fn root(alloc: Global, message: &Value) -> Result<Option<Text>, ParameterFault>
-    ensures { Answers result (root_of (view message.now)) }
+    ensures { Answers named_by result (root_of (view message.now)) }
 {
     let none = Value::Object(Map::new(alloc));
     let params = params(message, &none)?;
@@ -83,7 +84,7 @@ fn given_list<'a>(value: &'a Value, parameter: Parameter) -> Result<Option<&'a [
 
 /// The client's own root.
 fn own_root<'a>(alloc: Global, params: &'a Value) -> Result<Option<&'a str>, ParameterFault>
-    ensures { Answers (shown (option_map (λ s. s.now)) result) (own_root (view params.now)) }
+    ensures { Answers named_by (shown (option_map (λ s. s.now)) result) (own_root (view params.now)) }
 {
     let own = given_text(params, Parameter::RootUri)?;
     if let Some(uri) = own {
@@ -106,7 +107,7 @@ fn root_among(
     own: Option<&str>,
     folders: &[Value],
 ) -> Result<Option<Text>, ParameterFault>
-    ensures { Answers result (root_among (option_map (λ s. s.now) own.entry) (map view folders.now)) }
+    ensures { Answers named_by result (root_among (option_map (λ s. s.now) own.entry) (map view folders.now)) }
 {
     match own {
         Some(uri) => {
@@ -118,7 +119,7 @@ fn root_among(
 }
 
 fn first_folder(alloc: Global, folders: &[Value]) -> Result<Option<Text>, ParameterFault>
-    ensures { Answers result (first_folder (map view folders.now)) }
+    ensures { Answers named_by result (first_folder (map view folders.now)) }
 {
     let Some((first, others)) = folders.split_first() else {
         return Ok(None);
@@ -146,7 +147,7 @@ fn folder(value: &Value) -> Result<&str, Parameter>
 }
 
 fn check_uri(alloc: Global, uri: &str, parameter: Parameter) -> Result<(), ParameterFault>
-    ensures { Answers result (checked_uri parameter uri.now) }
+    ensures { Answers named_by result (checked_uri parameter uri.now) }
 {
     match file_path(alloc, uri) {
         Ok(_) => Ok(()),
@@ -158,7 +159,7 @@ fn check_uri(alloc: Global, uri: &str, parameter: Parameter) -> Result<(), Param
 /// A document that is opened.
 #[tactic(auto, unfolding(crate::specs::Shapes::opened))]
 pub fn opened(alloc: Global, message: &Value) -> Result<LspIn, ParameterFault>
-    ensures { Answers result (opened (view message.now)) }
+    ensures { Answers named_by result (opened (view message.now)) }
 {
     let none = Value::Object(Map::new(alloc));
     let document = document(message, &none)?;
@@ -177,7 +178,7 @@ pub fn opened(alloc: Global, message: &Value) -> Result<LspIn, ParameterFault>
 /// A document that is closed.
 #[tactic(auto, unfolding(crate::specs::Shapes::closed))]
 pub fn closed(alloc: Global, message: &Value) -> Result<LspIn, ParameterFault>
-    ensures { Answers result (closed (view message.now)) }
+    ensures { Answers named_by result (closed (view message.now)) }
 {
     let none = Value::Object(Map::new(alloc));
     let uri = text(document(message, &none)?, Parameter::Uri)?;
@@ -189,7 +190,7 @@ pub fn closed(alloc: Global, message: &Value) -> Result<LspIn, ParameterFault>
 /// A document that is changed.
 #[tactic(auto, unfolding(crate::specs::Shapes::changed))]
 pub fn changed(alloc: Global, message: &Value) -> Result<LspIn, ParameterFault>
-    ensures { Answers result (changed (view message.now)) }
+    ensures { Answers named_by result (changed (view message.now)) }
 {
     let none = Value::Object(Map::new(alloc));
     let params = params(message, &none)?;
@@ -213,13 +214,13 @@ fn document<'a>(message: &'a Value, none: &'a Value) -> Result<&'a Value, Parame
 }
 
 fn edits(alloc: Global, params: &Value) -> Result<Edits, ParameterFault>
-    ensures { Answers result (edits_in (view params.now)) }
+    ensures { Answers named_by result (edits_in (view params.now)) }
 {
     edits_of(alloc, list(params, Parameter::ContentChanges)?)
 }
 
 fn edits_of(alloc: Global, changes: &[Value]) -> Result<Edits, ParameterFault>
-    ensures { Answers result (each edit_in (map view changes.now)) }
+    ensures { Answers named_by result (each edit_in (map view changes.now)) }
 {
     let mut edits = Edits::new(alloc);
     for change in changes {
@@ -229,7 +230,7 @@ fn edits_of(alloc: Global, changes: &[Value]) -> Result<Edits, ParameterFault>
 }
 
 fn edit(alloc: Global, value: &Value) -> Result<Edit, ParameterFault>
-    ensures { Answers result (edit_in (view value.now)) }
+    ensures { Answers named_by result (edit_in (view value.now)) }
 {
     let change = element(value, Parameter::ContentChanges)?;
     let replacement = text(change, Parameter::Text)?;
@@ -242,7 +243,7 @@ fn edit_within(
     replacement: &str,
     range: Option<&Value>,
 ) -> Result<Edit, ParameterFault>
-    ensures { Answers result (edit_within replacement.now (option_map (λ o. view o.now) range.entry)) }
+    ensures { Answers named_by result (edit_within replacement.now (option_map (λ o. view o.now) range.entry)) }
 {
     let (from, to) = match range {
         None => (None, None),
@@ -276,7 +277,7 @@ fn place(value: &Value) -> Result<Position, Parameter>
 /// Files that changed outside the editor.
 #[tactic(auto, unfolding(crate::specs::Shapes::watched))]
 pub fn watched(alloc: Global, message: &Value) -> Result<LspIn, ParameterFault>
-    ensures { Answers result (watched (view message.now)) }
+    ensures { Answers named_by result (watched (view message.now)) }
 {
     let none = Value::Object(Map::new(alloc));
     let changes = file_changes(alloc, params(message, &none)?)?;
@@ -284,13 +285,13 @@ pub fn watched(alloc: Global, message: &Value) -> Result<LspIn, ParameterFault>
 }
 
 fn file_changes(alloc: Global, params: &Value) -> Result<FileChanges, ParameterFault>
-    ensures { Answers result (file_changes_in (view params.now)) }
+    ensures { Answers named_by result (file_changes_in (view params.now)) }
 {
     file_changes_of(alloc, list(params, Parameter::Changes)?)
 }
 
 fn file_changes_of(alloc: Global, elements: &[Value]) -> Result<FileChanges, ParameterFault>
-    ensures { Answers result (each file_change_in (map view elements.now)) }
+    ensures { Answers named_by result (each file_change_in (map view elements.now)) }
 {
     let mut changes = FileChanges::new(alloc);
     for element in elements {
@@ -300,7 +301,7 @@ fn file_changes_of(alloc: Global, elements: &[Value]) -> Result<FileChanges, Par
 }
 
 fn file_change(alloc: Global, value: &Value) -> Result<FileChange, ParameterFault>
-    ensures { Answers result (file_change_in (view value.now)) }
+    ensures { Answers named_by result (file_change_in (view value.now)) }
 {
     let change = element(value, Parameter::Changes)?;
     let uri = text(change, Parameter::Uri)?;
@@ -313,7 +314,7 @@ fn file_change(alloc: Global, value: &Value) -> Result<FileChange, ParameterFaul
 
 /// The URI of the document that is asked for.
 fn asked_uri(alloc: Global, params: &Value) -> Result<Text, ParameterFault>
-    ensures { Answers result (asked_uri (view params.now)) }
+    ensures { Answers named_by result (asked_uri (view params.now)) }
 {
     let uri = text(object(params, Parameter::TextDocument)?, Parameter::Uri)?;
     check_uri(alloc, uri, Parameter::Uri)?;
@@ -323,7 +324,7 @@ fn asked_uri(alloc: Global, params: &Value) -> Result<Text, ParameterFault>
 /// The place of which a definition or a hover is asked for.
 #[tactic(auto, unfolding(crate::specs::Shapes::place_asked))]
 pub fn place_asked(alloc: Global, message: &Value) -> Result<AskedPlace, ParameterFault>
-    ensures { Answers result (place_asked (view message.now)) }
+    ensures { Answers named_by result (place_asked (view message.now)) }
 {
     let none = Value::Object(Map::new(alloc));
     let params = params(message, &none)?;
@@ -335,7 +336,7 @@ pub fn place_asked(alloc: Global, message: &Value) -> Result<AskedPlace, Paramet
 /// The place of which references are asked for.
 #[tactic(auto, unfolding(crate::specs::Shapes::references_asked))]
 pub fn references_asked(alloc: Global, message: &Value) -> Result<AskedReferences, ParameterFault>
-    ensures { Answers result (references_asked (view message.now)) }
+    ensures { Answers named_by result (references_asked (view message.now)) }
 {
     let none = Value::Object(Map::new(alloc));
     let params = params(message, &none)?;
@@ -353,7 +354,7 @@ pub fn references_asked(alloc: Global, message: &Value) -> Result<AskedReference
 /// The document of which the symbols are asked for.
 #[tactic(auto, unfolding(crate::specs::Shapes::document_asked))]
 pub fn document_asked(alloc: Global, message: &Value) -> Result<Text, ParameterFault>
-    ensures { Answers result (document_asked (view message.now)) }
+    ensures { Answers named_by result (document_asked (view message.now)) }
 {
     let none = Value::Object(Map::new(alloc));
     asked_uri(alloc, params(message, &none)?)
@@ -362,7 +363,7 @@ pub fn document_asked(alloc: Global, message: &Value) -> Result<Text, ParameterF
 /// A request that is cancelled.
 #[tactic(auto, unfolding(crate::specs::Shapes::cancelled))]
 pub fn cancelled(alloc: Global, message: &Value) -> Result<LspIn, ParameterFault>
-    ensures { Answers result (cancelled (view message.now)) }
+    ensures { Answers named_by result (cancelled (view message.now)) }
 {
     let none = Value::Object(Map::new(alloc));
     let params = params(message, &none)?;
@@ -373,7 +374,7 @@ pub fn cancelled(alloc: Global, message: &Value) -> Result<LspIn, ParameterFault
 /// A message of a debugger's client.
 #[tactic(auto, unfolding(crate::specs::Shapes::debugged))]
 pub fn debugged(alloc: Global, message: &Value) -> Result<LspIn, ParameterFault>
-    ensures { Answers result (debugged (view message.now)) }
+    ensures { Answers named_by result (debugged (view message.now)) }
 {
     let none = Value::Object(Map::new(alloc));
     let params = params(message, &none)?;

@@ -1,9 +1,10 @@
 -- Elements read one after the other.
 use Rattle.std.proofs.Common.{◌≡◌, ℕ, ◌+◌, ◌<◌, List, [], ◌∷◌, ◌++◌, length, map, drop, get_or, Result, Ok, Err, suc, refl, ap, sym, ◌∙◌, add-one, append_assoc, drop-cons}
+use Rattle.json_view.specs.Answers.{Answers}
 use Rattle.program_config.specs.declared.members.Member.{Member}
 use Rattle.program_config.specs.declared.members.MemberError.{MemberError}
 use Rattle.program_config.specs.declared.members.MemberError.TheVariants.{Bad, OutOfMemory}
-use Rattle.program_config.specs.Members.{◌>>=◌, each, Answers}
+use Rattle.program_config.specs.Members.{◌>>=◌, each, named_by}
 
 -- what is left is the next element and what is left behind it
 pub drop-next : {A : Type 0} (xs : List A) (i : ℕ) (x : A) → i < length xs → x ≡ get_or xs i x → drop i xs ≡ x ∷ drop (i + 1) xs
@@ -39,8 +40,8 @@ behind-drop-ok read f before xs i x y more is_next is_read =
 
 -- an element cannot be read, or there was no memory for it
 pub Answers-behind-drop : {V A B : Type 0} (read : A → Result B Member) (f : V → A) (before : List B) (xs : List V) (i : ℕ) (x : V) (fault : MemberError)
-    → i < length xs → x ≡ get_or xs i x → Answers (Err fault) (read (f x))
-    → Answers {A = List B} (Err fault) (behind before (each read (map f (drop i xs))))
+    → i < length xs → x ≡ get_or xs i x → Answers named_by (Err fault) (read (f x))
+    → Answers {A = List B} named_by (Err fault) (behind before (each read (map f (drop i xs))))
 Answers-behind-drop read f before xs i x (Bad member) more is_next is_bad =
     ap (λ rest. behind before (each read (map f rest))) (drop-next xs i x more is_next)
     ∙ ap (λ r. behind before (r >>= (λ z. each read (map f (drop (i + 1) xs)) >>= (λ ys. Ok (z ∷ ys))))) is_bad

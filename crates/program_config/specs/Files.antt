@@ -1,7 +1,7 @@
 -- The groups and the programs that the configuration files say (the Che4z HLASM plug-in, `proc_grps.json` and
 -- `pgm_conf.json`): members in the order in which they are tried. This project chooses the order; every member that is not
 -- named here is ignored.
-use Rattle.std.specs.Prelude.{◌≡◌, ℕ, List, [], false, nat_le, length, Option, Some, None, unwrap_or, if◌then◌else◌, Result, Ok, Err, chars}
+use Rattle.std.specs.Prelude.{ℕ, List, [], false, nat_le, length, Option, Some, None, unwrap_or, if◌then◌else◌, Result, Ok, Err, chars}
 use Rattle.serde_json.specs.Data.{Data}
 use Rattle.serde_json.specs.Find.{as_str, as_bool, as_array}
 use Rattle.json_view.specs.Members.{as_object_value, list_of}
@@ -113,7 +113,7 @@ groups_of bytes = of_value groups_in (reading bytes)
 abbrev pub programs_of : List ℕ → Result (List Entry) ConfigFault
 programs_of bytes = of_value programs_in (reading bytes)
 
--- what a call answered is what was wanted, but for want of memory
-abbrev pub IsReading : {A : Type 0} → Result A ConfigFault → Result A ConfigFault → Type 0
-IsReading (Err OutOfMemory) wanted = Unit {0}
-IsReading answer wanted = wanted ≡ answer
+-- what a fault says of a file, which want of memory does not
+abbrev pub said_by : ConfigFault → Option ConfigFault
+said_by OutOfMemory = None
+said_by fault = Some fault

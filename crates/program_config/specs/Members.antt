@@ -1,6 +1,6 @@
 -- The members of the configuration files (the Che4z HLASM plug-in), by name and kind. A member that is missing or of another
 -- kind is what a fault names.
-use Rattle.std.specs.Prelude.{◌≡◌, ℕ, List, [], ◌∷◌, codes, Option, ok_or, Result, Ok, Err}
+use Rattle.std.specs.Prelude.{ℕ, List, [], ◌∷◌, codes, Option, Some, None, ok_or, Result, Ok, Err}
 use Rattle.serde_json.specs.Data.{Data}
 use Rattle.json_view.specs.Members.{member_of, unless_missing, as_object_value}
 use Rattle.program_config.specs.declared.members.Member.{Member}
@@ -49,8 +49,7 @@ abbrev pub each : {A B : Type 0} → (A → Result B Member) → List A → Resu
 each read [] = Ok []
 each read (x ∷ xs) = read x >>= (λ y. each read xs >>= (λ ys. Ok (y ∷ ys)))
 
--- what a call answered is what was wanted, but for want of memory
-abbrev pub Answers : {A : Type 0} → Result A MemberError → Result A Member → Type 0
-Answers (Ok value) wanted = wanted ≡ Ok value
-Answers (Err (Bad member)) wanted = wanted ≡ Err member
-Answers (Err OutOfMemory) wanted = Unit {0}
+-- the member that a fault names, which want of memory does not
+abbrev pub named_by : MemberError → Option Member
+named_by (Bad member) = Some member
+named_by OutOfMemory = None

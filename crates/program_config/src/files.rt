@@ -1,11 +1,12 @@
 //! The two files.
 ghost use Rattle.std.specs.Prelude.{◌≡◌, List, Some, IfOk, Result, chars, length, map};
 ghost use Rattle.serde_json.specs.View.{view};
+ghost use Rattle.json_view.specs.Answers.{Answers};
 ghost use Rattle.program_config.specs.declared.members.Member.{Member as MemberName};
 ghost use Rattle.program_config.specs.declared.groups.Group.{Group as GroupRow};
 ghost use Rattle.program_config.specs.declared.programs.Entry.{Entry as EntryRow};
-ghost use Rattle.program_config.specs.Members.{name_of, Answers, each};
-ghost use Rattle.program_config.specs.Files.{described, library_in, fitting, sysparm_of, sysparm_in, libraries_in, group_in, groups_in, entry_in, programs_in, unless_bad, groups_of, programs_of, IsReading};
+ghost use Rattle.program_config.specs.Members.{name_of, named_by, each};
+ghost use Rattle.program_config.specs.Files.{described, library_in, fitting, sysparm_of, sysparm_in, libraries_in, group_in, groups_in, entry_in, programs_in, unless_bad, groups_of, programs_of, said_by};
 
 use crate::groups::{Group, Groups, Libraries, Library};
 use crate::members::{Member, MemberError, element, list, object_if, text, text_if, truth_if};
@@ -44,7 +45,7 @@ impl From<OutOfMemory> for ConfigFault {
 
 /// The groups that the bytes of `proc_grps.json` say, or the first reason why they say none.
 pub fn read_groups(alloc: Global, bytes: &[u8]) -> Result<Groups, ConfigFault>
-    ensures { IsReading result (groups_of bytes.now) }
+    ensures { Answers said_by result (groups_of bytes.now) }
 {
     match parse(alloc, bytes) {
         Ok(file) => groups_told(alloc, groups(alloc, &file)),
@@ -55,7 +56,7 @@ pub fn read_groups(alloc: Global, bytes: &[u8]) -> Result<Groups, ConfigFault>
 
 /// The entries that the bytes of `pgm_conf.json` say, or the first reason why they say none.
 pub fn read_programs(alloc: Global, bytes: &[u8]) -> Result<Programs, ConfigFault>
-    ensures { IsReading result (programs_of bytes.now) }
+    ensures { Answers said_by result (programs_of bytes.now) }
 {
     match parse(alloc, bytes) {
         Ok(file) => programs_told(alloc, programs(alloc, &file)),
@@ -65,8 +66,8 @@ pub fn read_programs(alloc: Global, bytes: &[u8]) -> Result<Programs, ConfigFaul
 }
 
 fn groups_told(alloc: Global, read: Result<Groups, MemberError>) -> Result<Groups, ConfigFault>
-    ensures { (wanted : Result (List GroupRow) MemberName) → Answers read wanted
-        → IsReading result (unless_bad wanted) }
+    ensures { (wanted : Result (List GroupRow) MemberName) → Answers named_by read wanted
+        → Answers said_by result (unless_bad wanted) }
 {
     match read {
         Ok(groups) => Ok(groups),
@@ -79,8 +80,8 @@ fn programs_told(
     alloc: Global,
     read: Result<Programs, MemberError>,
 ) -> Result<Programs, ConfigFault>
-    ensures { (wanted : Result (List EntryRow) MemberName) → Answers read wanted
-        → IsReading result (unless_bad wanted) }
+    ensures { (wanted : Result (List EntryRow) MemberName) → Answers named_by read wanted
+        → Answers said_by result (unless_bad wanted) }
 {
     match read {
         Ok(programs) => Ok(programs),
@@ -97,13 +98,13 @@ fn name(alloc: Global, member: Member) -> Result<Text, OutOfMemory>
 }
 
 fn groups(alloc: Global, file: &Value) -> Result<Groups, MemberError>
-    ensures { Answers result (groups_in (view file.now)) }
+    ensures { Answers named_by result (groups_in (view file.now)) }
 {
     groups_among(alloc, list(file, Member::Groups)?)
 }
 
 fn groups_among(alloc: Global, elements: &[Value]) -> Result<Groups, MemberError>
-    ensures { Answers result (each group_in (map view elements.now)) }
+    ensures { Answers named_by result (each group_in (map view elements.now)) }
 {
     let mut groups = Groups::new(alloc);
     for element in elements {
@@ -114,7 +115,7 @@ fn groups_among(alloc: Global, elements: &[Value]) -> Result<Groups, MemberError
 
 #[tactic(auto, unfolding(crate::specs::Files::group_in))]
 fn group(alloc: Global, value: &Value) -> Result<Group, MemberError>
-    ensures { Answers result (group_in (view value.now)) }
+    ensures { Answers named_by result (group_in (view value.now)) }
 {
     let group = element(value, Member::Groups)?;
     let name = text(group, Member::Name)?;
@@ -128,13 +129,13 @@ fn group(alloc: Global, value: &Value) -> Result<Group, MemberError>
 }
 
 fn libraries(alloc: Global, group: &Value) -> Result<Libraries, MemberError>
-    ensures { Answers result (libraries_in (view group.now)) }
+    ensures { Answers named_by result (libraries_in (view group.now)) }
 {
     libraries_among(alloc, list(group, Member::Libs)?)
 }
 
 fn libraries_among(alloc: Global, elements: &[Value]) -> Result<Libraries, MemberError>
-    ensures { Answers result (each library_in (map view elements.now)) }
+    ensures { Answers named_by result (each library_in (map view elements.now)) }
 {
     let mut libraries = Libraries::new(alloc);
     for element in elements {
@@ -144,7 +145,7 @@ fn libraries_among(alloc: Global, elements: &[Value]) -> Result<Libraries, Membe
 }
 
 fn library(alloc: Global, value: &Value) -> Result<Library, MemberError>
-    ensures { Answers result (library_in (view value.now)) }
+    ensures { Answers named_by result (library_in (view value.now)) }
 {
     match value.as_str() {
         Some(path) => Ok(Library {
@@ -157,7 +158,7 @@ fn library(alloc: Global, value: &Value) -> Result<Library, MemberError>
 
 /// A library that is an object.
 fn described(alloc: Global, value: &Value) -> Result<Library, MemberError>
-    ensures { Answers result (described (view value.now)) }
+    ensures { Answers named_by result (described (view value.now)) }
 {
     let library = element(value, Member::Libs)?;
     let path = text(library, Member::Path)?;
@@ -170,7 +171,7 @@ fn described(alloc: Global, value: &Value) -> Result<Library, MemberError>
 
 /// The value of SYSPARM.
 fn sysparm(alloc: Global, group: &Value) -> Result<Text, MemberError>
-    ensures { Answers result (sysparm_in (view group.now)) }
+    ensures { Answers named_by result (sysparm_in (view group.now)) }
 {
     match object_if(group, Member::AsmOptions)? {
         Some(options) => sysparm_among(alloc, options),
@@ -179,7 +180,7 @@ fn sysparm(alloc: Global, group: &Value) -> Result<Text, MemberError>
 }
 
 fn sysparm_among(alloc: Global, options: &Value) -> Result<Text, MemberError>
-    ensures { Answers result (sysparm_of (Some (view options.now))) }
+    ensures { Answers named_by result (sysparm_of (Some (view options.now))) }
 {
     match text_if(options, Member::Sysparm)? {
         Some(text) => fitting(alloc, text),
@@ -189,7 +190,7 @@ fn sysparm_among(alloc: Global, options: &Value) -> Result<Text, MemberError>
 
 /// A value of at most 255 characters.
 fn fitting(alloc: Global, text: &str) -> Result<Text, MemberError>
-    ensures { Answers result (fitting text.now) }
+    ensures { Answers named_by result (fitting text.now) }
 {
     if character_count(text) <= 255 {
         Ok(Text::of(alloc, text)?)
@@ -206,13 +207,13 @@ fn character_count(text: &str) -> usize
 }
 
 fn programs(alloc: Global, file: &Value) -> Result<Programs, MemberError>
-    ensures { Answers result (programs_in (view file.now)) }
+    ensures { Answers named_by result (programs_in (view file.now)) }
 {
     programs_among(alloc, list(file, Member::Programs)?)
 }
 
 fn programs_among(alloc: Global, elements: &[Value]) -> Result<Programs, MemberError>
-    ensures { Answers result (each entry_in (map view elements.now)) }
+    ensures { Answers named_by result (each entry_in (map view elements.now)) }
 {
     let mut programs = Programs::new(alloc);
     for element in elements {
@@ -222,7 +223,7 @@ fn programs_among(alloc: Global, elements: &[Value]) -> Result<Programs, MemberE
 }
 
 fn entry(alloc: Global, value: &Value) -> Result<Entry, MemberError>
-    ensures { Answers result (entry_in (view value.now)) }
+    ensures { Answers named_by result (entry_in (view value.now)) }
 {
     let entry = element(value, Member::Programs)?;
     let program = text(entry, Member::Program)?;

@@ -2,18 +2,14 @@
 use Rattle.std.proofs.Common.{◌≡◌, ℕ, ℤ, Bool, true, false, not, cond, ◌&&◌, ◌||◌, ◌==◌, List, [], ◌∷◌, ◌++◌, map, filter, find, length, drop, Option, Some, None, Result, Ok, Err, zero, suc, ◌⊎◌, inl, inr, slice_get, refl, sym, ap, ◌∙◌, subst}
 use Rattle.std.specs.List.{list_any}
 use Rattle.std.specs.Ordering.{int_eq}
-use Rattle.std.specs.Cmp.Lexicographic.{pointwise}
-use Rattle.std.specs.Str.{bytes_eq}
 use Rattle.std.proofs.lemmas.Bool.Decides.{Decides-eqb, Decides-int_eq}
-use Rattle.std.proofs.lemmas.Slice.Eq.{bytes_eq-Decides}
 use Rattle.io_edge.specs.LibraryCall.{LibraryCall}
-use Rattle.hl_base.specs.declared.edit.Position.{Position}
 use Rattle.hl_base.specs.declared.place.PathId.{PathId}
 use Rattle.lsp_messages.specs.declared.incoming.LspIn.{LspIn}
 use Rattle.lsp_messages.specs.declared.incoming.LspIn.TheVariants.{Initialize, Shutdown, Definition, References, Hover, DocumentSymbol, Initialized, Exit, DidOpen, DidChange, DidClose, DidSave, DidChangeConfiguration, DidChangeWatchedFiles, Cancel, Dap}
 use Rattle.lsp_messages.specs.declared.outgoing.Diagnostic.{Diagnostic}
-use Rattle.lsp_messages.specs.declared.outgoing.Relation.{Relation}
-use Rattle.lsp_messages.specs.declared.outgoing.Span.{Span}
+use Rattle.lsp_messages.specs.Same.{is_same_list}
+use Rattle.lsp_messages.proofs.SameLaws.{is_same_list-Decides}
 use Rattle.document_store.specs.Store.{Store, OpenDocument}
 use Rattle.document_store.specs.Changes.{opened, changed, closed}
 use Rattle.document_store.specs.declared.fault.StoreFault.{StoreFault}
@@ -30,7 +26,6 @@ use Rattle.session_core.specs.Laws.{is_listed, AreFresh, AllQueued, LeavesFresh,
 use Rattle.session_core.specs.Message.{message, event, effect, concluded, after_change, after_closing, farewell_at, queue_all, root_of}
 use Rattle.session_core.specs.Refusals.{is_ended}
 use Rattle.session_core.specs.Replies.{initialize_reply, list_body}
-use Rattle.answers_feed.specs.Same.{is_same_position, is_same_span, is_same_relation, is_same_diagnostic, is_same_list}
 use Rattle.session_core.specs.State.{State, around_of, start, libraries, number_at, number_named, is_number, is_program, is_queued, document_at, programs, with_programs, last_list, without_list, with_list, without, published_without}
 use Rattle.session_core.specs.Step.{Effect, quiet, says, step_of}
 use Rattle.session_core.proofs.AnswerLaws.{so_behind}
@@ -149,37 +144,17 @@ fresh_queued s all n document found program free = absurd (not_both (is_queued s
 
 -- ---- the same list
 
-pointwise_itself : {X : Type 0} (E : X → X → Bool) (xs : List X) → ((x : X) → E x x ≡ true) → pointwise E xs xs ≡ true
-pointwise_itself E [] same = refl
-pointwise_itself E (x ∷ xs) same = and_true (E x x) (pointwise E xs xs) (same x) (pointwise_itself E xs same)
-
-bytes_itself : (text : List ℕ) → bytes_eq text text ≡ true
-bytes_itself text = (bytes_eq-Decides text text).1 refl
-
-position_itself : (p : Position) → is_same_position p p ≡ true
-position_itself p = and_true (p.line == p.line) (p.character == p.character) ((Decides-eqb p.line p.line).1 refl) ((Decides-eqb p.character p.character).1 refl)
-
-span_itself : (s : Span) → is_same_span s s ≡ true
-span_itself s = and_true (is_same_position s.start s.start) (is_same_position s.end s.end) (position_itself s.start) (position_itself s.end)
-
-relation_itself : (r : Relation) → is_same_relation r r ≡ true
-relation_itself r = and_true (bytes_eq r.uri r.uri) _ (bytes_itself r.uri) (and_true (is_same_span r.range r.range) _ (span_itself r.range) (bytes_itself r.message))
-
-diagnostic_itself : (d : Diagnostic) → is_same_diagnostic d d ≡ true
-diagnostic_itself d =
-    and_true (bytes_eq d.code d.code) _ (bytes_itself d.code)
-    (and_true (bytes_eq d.message d.message) _ (bytes_itself d.message)
-    (and_true (is_same_span d.range d.range) _ (span_itself d.range)
-    (and_true (d.severity == d.severity) _ ((Decides-eqb d.severity d.severity).1 refl) (pointwise_itself is_same_relation d.related relation_itself))))
+list_itself : (list : List Diagnostic) → is_same_list list list ≡ true
+list_itself list = (is_same_list-Decides list list).1 refl
 
 pub published_itself : (n : PathId) (version : ℤ) (list : List Diagnostic) → is_published (Some (record { path = n; version = version; list = list })) version list ≡ true
-published_itself n version list = and_true (int_eq version version) (is_same_list list list) ((Decides-int_eq version version).1 refl) (pointwise_itself is_same_diagnostic list diagnostic_itself)
+published_itself n version list = and_true (int_eq version version) (is_same_list list list) ((Decides-int_eq version version).1 refl) (list_itself list)
 
 -- the same list of the same version was published
 pub published_same : (last : LastList) (version : ℤ) (list : List Diagnostic) → int_eq last.version version ≡ true → last.list ≡ list → is_published (Some last) version list ≡ true
 published_same last version list same is =
     and_true (int_eq last.version version) (is_same_list last.list list) same
-    (subst (λ l. is_same_list last.list l ≡ true) is (pointwise_itself is_same_diagnostic last.list diagnostic_itself))
+    (subst (λ l. is_same_list last.list l ≡ true) is (list_itself last.list))
 
 -- what was last published of a number is of that number
 pub listed_path : (published : List LastList) (n : PathId) (last : LastList) → last_list published n ≡ Some last → last.path ≡ n

@@ -6,7 +6,8 @@ use Rattle.trace_arena.specs.Points.{Point}
 use Rattle.dap_messages.specs.declared.requests.DapIn.{DapIn}
 use Rattle.dap_messages.specs.declared.requests.DapRefusal.{DapRefusal}
 use Rattle.dap_messages.specs.declared.requests.DapRefusal.TheVariants.{NotDap, UnknownCommand, BadArguments, OutOfMemory}
-use Rattle.dap_messages.specs.Requests.{request_of, IsReading}
+use Rattle.json_view.specs.Answers.{Answers}
+use Rattle.dap_messages.specs.Requests.{request_of, said_by}
 use Rattle.dap_messages.specs.Written.{has_fraction}
 use Rattle.dap_messages.specs.declared.outgoing.DapOut.{DapOut}
 use Rattle.serde_json.specs.Data.{Data}
@@ -36,7 +37,7 @@ use Rattle.session_core.specs.Inside.{TellsTrace}
 use Rattle.session_core.proofs.TextLaws.{numbered, present_is}
 
 -- what was read is what was wanted, but for want of memory
-pub reads_itself : (read : Result DapIn DapRefusal) → IsReading read read
+pub reads_itself : (read : Result DapIn DapRefusal) → Answers said_by read read
 reads_itself (Ok request) = refl
 reads_itself (Err NotDap) = refl
 reads_itself (Err (UnknownCommand head)) = refl

@@ -8,7 +8,8 @@ use Rattle.library_reading.proofs.AskedLaws.{AreShort, asks_nothing, asks_stoppe
 use Rattle.lsp_messages.specs.declared.incoming.LspIn.{LspIn}
 use Rattle.lsp_messages.specs.declared.incoming.Refusal.{Refusal}
 use Rattle.lsp_messages.specs.declared.incoming.Refusal.TheVariants as refusals
-use Rattle.lsp_messages.specs.Messages.{IsReading}
+use Rattle.json_view.specs.Answers.{Answers}
+use Rattle.lsp_messages.specs.Messages.{said_by}
 use Rattle.session_core.specs.Held.{Held}
 use Rattle.session_core.specs.Inside.{HearsOver}
 use Rattle.json_view.specs.Texts.{reading}
@@ -41,7 +42,7 @@ over_message s now wanted read result told many same acts =
     (subst (λ z. IfOk result (λ bodies. Acts (asked s z) now bodies)) (sym same) acts)
 
 -- so does what was read in place of a message
-reading_is : (refusal : Refusal) (wanted : Result LspIn Refusal) → IsReading {A = LspIn} (Err refusal) wanted
+reading_is : (refusal : Refusal) (wanted : Result LspIn Refusal) → Answers {A = LspIn} said_by (Err refusal) wanted
     → refusal ≢ refusals.OutOfMemory → wanted ≡ Err refusal
 reading_is refusals.NotRequest wanted read other = read
 reading_is (refusals.UnknownMethod head) wanted read other = read
@@ -50,12 +51,12 @@ reading_is refusals.OutOfMemory wanted read other = absurd (other refl)
 
 pub over_refused : (s now : State) (refusal : Refusal) (read wanted : Result LspIn Refusal)
     (result : Result (List (List ℕ)) OutOfMemory) (told : Option (List LibraryCall)) (many : ℕ)
-    → read ≡ Err refusal → IsReading read wanted
+    → read ≡ Err refusal → Answers said_by read wanted
     → IfOk result (λ bodies. (refusal ≢ refusals.OutOfMemory) × Acts (asked s (Err refusal)) now bodies)
     → AsksOver (asked s wanted) (acting now) result told told many many
 over_refused s now refusal read wanted (Ok bodies) told many is reads acts =
     over_message s now wanted (Err refusal) (Ok bodies) told many
-    (reading_is refusal wanted (subst (λ (z : Result LspIn Refusal). IsReading z wanted) is reads) acts.0) acts.1
+    (reading_is refusal wanted (subst (λ (z : Result LspIn Refusal). Answers said_by z wanted) is reads) acts.0) acts.1
 over_refused s now refusal read wanted (Err lost) told many is reads acts =
     over_none (asked s wanted) now (Err lost) told many (short_asked s wanted) tt
 

@@ -6,9 +6,9 @@ use Rattle.std.specs.Ordering.{int_eq}
 use Rattle.hl_base.specs.declared.place.PathId.{PathId}
 use Rattle.document_store.specs.Store.{OpenDocument}
 use Rattle.lsp_messages.specs.declared.outgoing.Diagnostic.{Diagnostic}
+use Rattle.lsp_messages.specs.Same.{is_same_list}
 use Rattle.session_core.specs.declared.state.LastList.{LastList}
 use Rattle.session_core.specs.Diagnostics.{list_of}
-use Rattle.answers_feed.specs.Same.{is_same_list}
 use Rattle.waiting_requests.specs.Bodies.{replies_to}
 use Rattle.session_core.specs.Names.{program_names}
 use Rattle.session_core.specs.State.{State, is_idle, document_at, last_list, with_list}

@@ -2,8 +2,9 @@
 //! to be used.
 ghost use Rattle.std.specs.Prelude.{◌≡◌, ◌≢◌, IfOk, Result, Ok, Err};
 ghost use Rattle.serde_json.specs.View.{view};
+ghost use Rattle.json_view.specs.Answers.{Answers};
 ghost use Rattle.json_view.specs.Texts.{reading};
-ghost use Rattle.lsp_messages.specs.Messages.{IsReading};
+ghost use Rattle.lsp_messages.specs.Messages.{said_by};
 ghost use Rattle.lsp_messages.specs.declared.incoming.LspIn.{LspIn};
 ghost use Rattle.lsp_messages.specs.declared.incoming.Refusal.{Refusal};
 ghost use Rattle.session_core.specs.Message as messages;
@@ -101,7 +102,7 @@ impl Standing {
         library: &mut B,
         steps: &mut Steps<L>,
     ) -> Result<Bodies, OutOfMemory>
-        ensures { (wanted : Result LspIn Refusal) → IsReading told wanted
+        ensures { (wanted : Result LspIn Refusal) → Answers said_by told wanted
             → AsksOver (messages.asked self.old wanted)
             (λ bodies. record { state = self.new; bodies = bodies }) result
             (B.calls library.old) (B.calls library.new) (B.faults library.old) (B.faults library.new) }

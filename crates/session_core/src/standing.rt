@@ -12,7 +12,6 @@ use crate::lists::{Surroundings, taken_index};
 use crate::programs::{document_at, is_queued, keep_list, last_list};
 use crate::replies;
 use crate::state::{LastList, Stage};
-use answers_feed::is_same_list;
 use debug_sessions::DebugSessions;
 use document_store::{Document, DocumentStore};
 use group_members::MemberIndex;
@@ -82,14 +81,12 @@ fn is_published(
     published: &[LastList],
     path: PathId,
     document: &Document<'_>,
-    list: &[Diagnostic],
+    list: &Diagnostics,
 ) -> bool
     ensures { result ≡ is_published (last_list published.now path) document.now.version list.now }
 {
     match last_list(published, path) {
-        Some(last) => {
-            last.version == document.version && is_same_list(last.list.as_slice(), list)
-        }
+        Some(last) => last.version == document.version && last.list == *list,
         None => false,
     }
 }
@@ -210,7 +207,7 @@ impl Standing {
         let list = around.list_of(alloc, path, &document, &mut self.expansions, steps)?;
         self.index = Some(index);
         self.listed.reserve(1)?;
-        if is_published(&self.published, path, &document, list.as_slice()) {
+        if is_published(&self.published, path, &document, &list) {
             self.listed.push_reserved(path);
             return Ok(Bodies::none(alloc));
         }

@@ -1,3 +1,3 @@
-pub mod Lines
+pub mod Kept
 pub mod Sites
 pub mod Spans

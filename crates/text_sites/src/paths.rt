@@ -50,8 +50,7 @@ fn path_site<'a>(
     match store.present(path) {
         Some(MemberText::File(id)) => {
             let uri = uri_at(alloc, store, path, text)?;
-            let site = TextSite::of(alloc, uri, store.pool().text(id))?;
-            Ok(Some(site))
+            Ok(Some(TextSite::of(uri, store.pool(), id)))
         }
         Some(MemberText::Unreadable) => Ok(None),
         None => Ok(None),
@@ -82,6 +81,6 @@ pub fn site_at<'a>(
 {
     match site_of(alloc, store, path)? {
         Some(site) => Ok(site),
-        None => TextSite::none(alloc),
+        None => Ok(TextSite::none(alloc)),
     }
 }

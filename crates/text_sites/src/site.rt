@@ -1,52 +1,46 @@
-//! Texts whose lines are found.
-ghost use Rattle.std.specs.Prelude.{◌≡◌, IfOk, map};
+//! Texts of the pool, as an editor is shown places in them.
+ghost use Rattle.std.specs.Prelude.{◌≡◌};
 ghost use Rattle.std.specs.Str.{chars};
-ghost use Rattle.hl_base.specs.Texts as texts;
 ghost use Rattle.document_store.specs.Positions.{line_of};
+ghost use Rattle.text_pool.specs.Pool.{IsLive, text_of};
 ghost use Rattle.text_sites.specs.Sites.{no_site};
 ghost use Rattle.text_sites.specs.Spans as spans;
-ghost use Rattle.text_sites.specs.Lines.{characters_of};
 
-use hl_base::{OutOfMemory, Position, Text, lines, units};
+use hl_base::{Position, Text, TextId, units};
 use hlasm_statements::split_columns;
 use lsp_messages::Span;
 use std::alloc::Global;
 use std::marker::Model;
+use text_pool::TextPool;
 
 /// The columns of a line that are shown: those of statements.
 const SHOWN_COLUMNS: u32 = 71;
 
-/// A text and the URI under which the client knows it. The text is gone through once, for its lines. Contracts see the site.
+/// A live text of the pool.
+#[derive(Clone, Copy)]
+struct PoolText<'a> {
+    pool: &'a TextPool,
+    id: TextId,
+}
+
+/// A text and the URI under which the client knows it. The pool keeps where its lines begin, so that the text is not gone
+/// through. Contracts see the site.
 #[derive(Drop)]
 pub struct TextSite<'a> {
     uri: Text,
-    text: &'a str,
-    found: Vec<&'a str>,
+    // None stands for a text that is not there: it is empty.
+    text: Option<PoolText<'a>>,
 }
 
 impl<'a> Model for TextSite<'a> {
-    ghost use Rattle.std.specs.Prelude.{◌≡◌, map};
-    ghost use Rattle.std.specs.Str.{chars};
-    ghost use Rattle.hl_base.specs.Texts.{lines};
-    ghost use Rattle.text_sites.specs.Lines.{characters_of};
+    ghost use Rattle.text_sites.specs.Kept.{text_in, IsThere};
     ghost use Rattle.text_sites.specs.Sites.{Site};
 
     ghost Value = { Site };
 
-    ghost view = { λ s. record { uri = s.uri; text = chars s.text.now } };
+    ghost view = { λ s. record { uri = s.uri; text = text_in s.text } };
 
-    ghost invariant = { λ s. map characters_of s.found.items ≡ lines (chars s.text.now) };
-}
-
-/// The lines of a text.
-fn lines_of<'a>(alloc: Global, text: &'a str) -> Result<Vec<&'a str>, OutOfMemory>
-    ensures { IfOk result (λ found. map characters_of found.items ≡ texts.lines (chars text.now)) }
-{
-    let mut found = Vec::new(alloc);
-    for line in lines(text) {
-        found.push(line)?;
-    }
-    Ok(found)
+    ghost invariant = { λ s. IsThere s.text };
 }
 
 /// How wide what stands before a column of a line is in UTF-16 units, of the columns that are shown.
@@ -57,20 +51,39 @@ fn width_before(line: &str, column: u32) -> u32
     units(split_columns(line, before as usize).0) as u32
 }
 
-impl<'a> TextSite<'a> {
-    /// A text that has this URI.
-    pub fn of(alloc: Global, uri: Text, text: &'a str) -> Result<TextSite<'a>, OutOfMemory>
-        ensures { IfOk result (λ site. site ≡ record { uri = uri; text = chars text.now }) }
+impl<'a> PoolText<'a> {
+    /// A line, counted from 0; empty past the last.
+    fn line(&self, line: u32) -> &str
+        requires live { IsLive self.now.pool.now self.now.id.0 }
+        ensures { chars result.now ≡ line_of (text_of self.now.pool.now self.now.id.0) line }
     {
-        let found = lines_of(alloc, text)?;
-        Ok(TextSite { uri, text, found })
+        match self.pool.line(self.id, line) {
+            Some(found) => found,
+            None => "",
+        }
+    }
+}
+
+impl<'a> TextSite<'a> {
+    /// A live text of the pool that has this URI.
+    pub fn of(uri: Text, pool: &'a TextPool, id: TextId) -> TextSite<'a>
+        requires live { IsLive pool.now id.0 }
+        ensures { result ≡ record { uri = uri; text = text_of pool.now id.0 } }
+    {
+        TextSite {
+            uri,
+            text: Some(PoolText { pool, id }),
+        }
     }
 
     /// The empty text, without a URI: what stands for a text that is not there.
-    pub fn none(alloc: Global) -> Result<TextSite<'a>, OutOfMemory>
-        ensures { IfOk result (λ site. site ≡ no_site) }
+    pub fn none(alloc: Global) -> TextSite<'a>
+        ensures { result ≡ no_site }
     {
-        TextSite::of(alloc, Text::new(alloc), "")
+        TextSite {
+            uri: Text::new(alloc),
+            text: None,
+        }
     }
 
     /// The URI.
@@ -84,8 +97,8 @@ impl<'a> TextSite<'a> {
     fn line(&self, line: u32) -> &str
         ensures { chars result.now ≡ line_of self.now.text line }
     {
-        match self.found.get(line as usize) {
-            Some(text) => text,
+        match &self.text {
+            Some(kept) => kept.line(line),
             None => "",
         }
     }

@@ -4,7 +4,8 @@ use Rattle.std.proofs.Math.ListN.{drop_of_length-le}
 use Rattle.serde_json.specs.View.{view}
 use Rattle.lsp_messages.specs.declared.incoming.FileChange.{FileChange}
 use Rattle.lsp_messages.specs.declared.parameters.Parameter.{Parameter}
-use Rattle.lsp_messages.specs.Parameters.{each, Answers}
+use Rattle.json_view.specs.Answers.{Answers}
+use Rattle.lsp_messages.specs.Parameters.{each, named_by}
 use Rattle.lsp_messages.specs.Shapes.{file_change_in}
 use Rattle.lsp_messages.proofs.ListLaws.{behind, behind-nil, behind-drop-ok, Answers-behind-drop}
 use Rattle.lsp_messages.proofs.shapes.file_changes_of.Goals as goal
@@ -15,7 +16,7 @@ loop-element-init c = rw c.new-changes.ensures (sym (behind-nil (each file_chang
 pub returns-in_err-file_change : goal.returns-in_err-file_change
 returns-in_err-file_change c =
     let p = err_from_is_err_and c.from_residual.result c.from_residual.ensures.1 in
-    let refused : Result (List FileChange) Parameter → Type 0 = λ wanted. Answers {A = List FileChange} (Err c.in_err-file_change.field-0.0) wanted in
+    let refused : Result (List FileChange) Parameter → Type 0 = λ wanted. Answers {A = List FileChange} named_by (Err c.in_err-file_change.field-0.0) wanted in
     rw (p.1, p.2)
     (subst refused (sym c.loop-element.invariant)
     (Answers-behind-drop file_change_in view _ _ _ _ c.in_err-file_change.field-0.0 c.loop-element-test.true c.element-item.is c.in_err-file_change.ensures))

@@ -4,7 +4,8 @@ use Rattle.std.proofs.Math.ListN.{drop_of_length-le}
 use Rattle.serde_json.specs.View.{view}
 use Rattle.program_config.specs.declared.groups.Library.{Library}
 use Rattle.program_config.specs.declared.members.Member.{Member}
-use Rattle.program_config.specs.Members.{each, Answers}
+use Rattle.json_view.specs.Answers.{Answers}
+use Rattle.program_config.specs.Members.{each, named_by}
 use Rattle.program_config.specs.Files.{library_in}
 use Rattle.program_config.proofs.ListLaws.{behind, behind-nil, behind-drop-ok, Answers-behind-drop}
 use Rattle.program_config.proofs.files.libraries_among.Goals as goal
@@ -15,7 +16,7 @@ loop-element-init c = rw c.new-libraries.ensures (sym (behind-nil (each library_
 pub returns-in_err-library : goal.returns-in_err-library
 returns-in_err-library c =
     let p = err_from_is_err_and c.from_residual.result c.from_residual.ensures.1 in
-    let refused : Result (List Library) Member → Type 0 = λ wanted. Answers {A = List Library} (Err c.in_err-library.field-0.0) wanted in
+    let refused : Result (List Library) Member → Type 0 = λ wanted. Answers {A = List Library} named_by (Err c.in_err-library.field-0.0) wanted in
     rw (p.1, p.2)
     (subst refused (sym c.loop-element.invariant)
     (Answers-behind-drop library_in view _ _ _ _ c.in_err-library.field-0.0 c.loop-element-test.true c.element-item.is c.in_err-library.ensures))

@@ -34,7 +34,7 @@ returns-then-is_published g c =
     let is = listed s n shown list c.in-Some.ensures told in
     let old : is_published (last_list fields.published.items n) shown.version list ≡ true =
     ap (λ p. is_published (last_list p n) shown.version list) (sym c.deref-3.ensures.value)
-    ∙ ap (λ l. is_published (last_list c.deref-3.result.now n) shown.version l) (sym c.as_slice.ensures) ∙ sym c.is_published.ensures ∙ c.if-is_published.true in
+    ∙ sym c.is_published.ensures ∙ c.if-is_published.true in
     with_bodies _ _ _ _ c.none-then-is_published.ensures
     (subst (λ z. IsEffect (turn_at z n (document_at z.store n)) s []) c.self.view_is (publish_again s n shown list is old))
 
@@ -51,7 +51,7 @@ invariant_of-self-then-is_published g c =
     let is = listed s n shown list c.in-Some.ensures told in
     let old : is_published (last_list fields.published.items n) shown.version list ≡ true =
     ap (λ p. is_published (last_list p n) shown.version list) (sym c.deref-3.ensures.value)
-    ∙ ap (λ l. is_published (last_list c.deref-3.result.now n) shown.version l) (sym c.as_slice.ensures) ∙ sym c.is_published.ensures ∙ c.if-is_published.true in
+    ∙ sym c.is_published.ensures ∙ c.if-is_published.true in
     record {
       sound = subst (λ l. IsSound l (around_of s) fields.store.store fields.published.items) (sym (c.push_reserved.ensures.items ∙ ap (λ l. l ++ n ∷ []) c.in_ok-reserve.ensures.items))
           (sound_again s fields.listed.items n shown list is old c.self.invariant.sound);
@@ -94,7 +94,7 @@ returns g c =
     let is = listed s n shown list c.in-Some.ensures told in
     let fresh : is_published (last_list fields.published.items n) shown.version list ≡ false =
     ap (λ p. is_published (last_list p n) shown.version list) (sym c.deref-3.ensures.value)
-    ∙ ap (λ l. is_published (last_list c.deref-3.result.now n) shown.version l) (sym c.as_slice.ensures) ∙ sym c.is_published.ensures ∙ c.if-is_published.false in
+    ∙ sym c.is_published.ensures ∙ c.if-is_published.false in
     let kept : c.keep_list.new.published.items ≡ with_list fields.published.items (record { path = n; version = shown.version; list = list }) =
     c.in_ok-keep_list.ensures.ok ∙ ap (with_list fields.published.items) (c.listed_as.ensures ∙ ap (λ l. record { path = n; version = shown.version; list = l }) c.in_ok-body.ensures.list) in
     let now : State = record s { published = c.keep_list.new.published.items } in
