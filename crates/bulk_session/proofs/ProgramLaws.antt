@@ -9,7 +9,7 @@ use Rattle.io_edge.specs.Told.{Gains}
 use Rattle.library_reading.specs.Asked.{Asked, Came, Lacks, Differs}
 use Rattle.session_core.specs.declared.fault.SessionFault.{SessionFault}
 use Rattle.session_core.specs.Figures.{figures_named}
-use Rattle.session_core.specs.Held.{Held, ComesOver}
+use Rattle.session_core.specs.SessionView.{SessionView, ComesOver}
 use Rattle.session_core.specs.Message.{event, message}
 use Rattle.session_core.specs.State.{State, start}
 use Rattle.session_core.specs.Step.{Goes, Stopped, Other, Effect, step_of}
@@ -57,9 +57,9 @@ came (Came effect left) state bodies rest is =
 came Lacks state bodies rest is = absurd (stopped_goes state bodies rest is)
 came Differs state bodies rest is = absurd (other_goes state bodies rest is)
 
-pub is_heard : {T : Type 0} (phase : T) (before now : Held) (body : List ℕ) (calls_before calls_now : List LibraryCall) → AreAnswered calls_now
-    → ComesOver {T = T} (Ok phase) (message before.state body) (Some calls_before) (Some calls_now) before now → IsHeard before.state body now.state
-is_heard phase before now body calls_before calls_now sound over =
+pub is_heard : {T : Type 0} (connection : T) (before now : SessionView) (body : List ℕ) (calls_before calls_now : List LibraryCall) → AreAnswered calls_now
+    → ComesOver {T = T} (Ok connection) (message before.state body) (Some calls_before) (Some calls_now) before now → IsHeard before.state body now.state
+is_heard connection before now body calls_before calls_now sound over =
     let gained : Some calls_now ≡ Some (calls_before ++ over.calls) = over.made in
     let calls_are : calls_now ≡ calls_before ++ over.calls = cc in
     let goes = over.comes.goes [] in

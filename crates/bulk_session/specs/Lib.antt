@@ -4,9 +4,9 @@ pub use Rattle.session_core.specs.Message
 pub use Rattle.session_core.specs.Turn
 pub use Rattle.session_core.specs.Step
 pub use Rattle.session_core.specs.State
-pub use Rattle.session_core.specs.declared.phase.Phase.TheVariants as PhaseVariants
-pub use Rattle.session_core.specs.declared.phase.Phase
-pub use Rattle.session_core.specs.Held
+pub use Rattle.session_core.specs.declared.connection.Connection.TheVariants as ConnectionVariants
+pub use Rattle.session_core.specs.declared.connection.Connection
+pub use Rattle.session_core.specs.SessionView
 pub mod Shelf
 pub mod Bulk
 pub mod Inside

@@ -3,9 +3,9 @@
 use Rattle.std.proofs.Common.{◌≡◌, ℕ, zero, suc, ◌+◌, ◌-◌, ◌<◌, ◌≤◌, Bool, true, false, if◌then◌else◌, List, [], ◌∷◌, ◌++◌, length, take, drop, Option, Some, None, ◌⊎◌, inl, inr, refl, sym, ap, ◌∙◌, subst, arith, length-append, append_assoc, append-nil}
 use Rattle.std.proofs.lemmas.Bool.{cases_lt}
 use Rattle.std.proofs.lemmas.List.{take-append-drop, take-append-le, take-take, length-drop}
-use Rattle.bulk_session.specs.Phase.{Phase}
-use Rattle.bulk_session.specs.PhaseVariants as phase
-use Rattle.bulk_session.specs.Held.{phase_of}
+use Rattle.bulk_session.specs.Connection.{Connection}
+use Rattle.bulk_session.specs.ConnectionVariants as connection
+use Rattle.bulk_session.specs.SessionView.{connection_of}
 use Rattle.bulk_session.specs.Message.{message}
 use Rattle.bulk_session.specs.State.{State}
 use Rattle.bulk_session.specs.Step as step
@@ -426,12 +426,12 @@ turns_keep (suc n) r = by_held (is_held r.since r.waits) (turns_keep n after) wh
   by_held false behind_it = behind_it
 
 -- what is heard makes the calls that its event makes
-heard_in_makes : (p : Phase) (r : Running) (state : State) (bodies : List (List ℕ)) (rest : List LibraryCall) → rest ≡ [] → MakesEach (heard_in p r state bodies rest)
-heard_in_makes phase.Running r state bodies rest none = turns_keep (length state.queue) (in_state state r.waits rest (one_message_more r.since)) ∙ none
-heard_in_makes (phase.Exit closed) r state bodies rest none = none
+heard_in_makes : (p : Connection) (r : Running) (state : State) (bodies : List (List ℕ)) (rest : List LibraryCall) → rest ≡ [] → MakesEach (heard_in p r state bodies rest)
+heard_in_makes connection.Running r state bodies rest none = turns_keep (length state.queue) (in_state state r.waits rest (one_message_more r.since)) ∙ none
+heard_in_makes (connection.Exit closed) r state bodies rest none = none
 
 pub heard_makes : (r : Running) (s : step.Step) → step.MakesAll s → MakesEach (heard_of r s)
-heard_makes r (step.Goes state bodies rest) makes = heard_in_makes (phase_of state) r state bodies rest makes
+heard_makes r (step.Goes state bodies rest) makes = heard_in_makes (connection_of state) r state bodies rest makes
 heard_makes r step.Stopped makes = tt
 heard_makes r step.Other makes = absurd makes
 

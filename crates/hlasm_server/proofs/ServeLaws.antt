@@ -12,9 +12,9 @@ use Rattle.rpc_framing.proofs.FrameLaws.{IsFrames-one, length-IsFrame}
 use Rattle.rpc_framing.proofs.Splitting.{IsFrames-append, IsBadStart-append}
 use Rattle.hlasm_server.specs.declared.status.Status.{Status}
 use Rattle.hlasm_server.specs.declared.status.Status.TheVariants.{Done, NoShutdown, InputEnded, OutOfMemory, ReadFault, WriteFault, BadFrame, BadWords, InputTooLong}
-use Rattle.bulk_session.specs.Phase.{Phase}
+use Rattle.bulk_session.specs.Connection.{Connection}
 use Rattle.bulk_session.specs.Step.{written}
-use Rattle.bulk_session.specs.Held.{Held, beginning}
+use Rattle.bulk_session.specs.SessionView.{SessionView, beginning}
 use Rattle.hlasm_server.specs.Hearing.{Running, Heard, Goes, Ends, Lacks, Differs, in_state, beginning_with, hear, said, MakesEach}
 use Rattle.hlasm_server.specs.Output.{Leads, Meets, most_input, Finished, EndsAt, Course, end_of, Out}
 use Rattle.hlasm_server.specs.Headline.{Whole, FirstFrames, FirstBytes, IsAnswer, IsPlainRun, HasStatusCause}
@@ -29,7 +29,7 @@ use Rattle.hlasm_server.proofs.OutputLaws.{some_out, Course-here, Course-behind,
 
 -- What was heard and written so far, where the session stands open between two frames.
 pub record IsServing (budget : ℕ) (left_before left_now held_before held_now : Option (List ℕ)) (waits_before waits_now : Option (List Bool)) (calls_before calls_now : Option (List LibraryCall))
-    (source_before source_now sink_before sink_now : ℕ) (session : Held) (since : ℕ) (reader : Reading) : Type 0 where
+    (source_before source_now sink_before sink_now : ℕ) (session : SessionView) (since : ℕ) (reader : Reading) : Type 0 where
   pub front : List ℕ
   pub bodies : List (List ℕ)
   pub replies : List (List ℕ)
@@ -165,7 +165,7 @@ serving_begins b left held waits calls source sink reader between fed = record {
 }
 
 -- reading asks nothing
-pub nothing_asked : (b : ℕ) (l0 l1 h0 h1 : Option (List ℕ)) (w0 w1 w2 : Option (List Bool)) (c0 c1 : Option (List LibraryCall)) (f0 f1 k0 k1 : ℕ) (s : Held) (n : ℕ) (r : Reading) → w2 ≡ w1
+pub nothing_asked : (b : ℕ) (l0 l1 h0 h1 : Option (List ℕ)) (w0 w1 w2 : Option (List Bool)) (c0 c1 : Option (List LibraryCall)) (f0 f1 k0 k1 : ℕ) (s : SessionView) (n : ℕ) (r : Reading) → w2 ≡ w1
     → IsServing b l0 l1 h0 h1 w0 w1 c0 c1 f0 f1 k0 k1 s n r → IsServing b l0 l1 h0 h1 w0 w2 c0 c1 f0 f1 k0 k1 s n r
 nothing_asked b l0 l1 h0 h1 w0 w1 w2 c0 c1 f0 f1 k0 k1 s n r same serving = subst (λ (z : Option (List Bool)). IsServing b l0 l1 h0 h1 w0 z c0 c1 f0 f1 k0 k1 s n r) (sym same) serving
 
@@ -174,7 +174,7 @@ heard_more : (from s t : Running) (bodies : List (List ℕ)) (body : List ℕ) (
     → Leads from (bodies ++ body ∷ []) t (replies ++ more)
 heard_more from s t bodies body replies more leads goes = Leads-append bodies (body ∷ []) from s t replies more leads (t, more, [], goes, (refl, refl), sym (append-nil more))
 
-pub serving_goes_on : (b : ℕ) (l0 l1 l2 h0 h1 h2 : Option (List ℕ)) (w0 w1 w2 : Option (List Bool)) (c0 c1 c2 : Option (List LibraryCall)) (f0 f1 f2 k0 k1 k2 : ℕ) (s t : Held) (n m : ℕ) (r q : Reading) (f body : List ℕ)
+pub serving_goes_on : (b : ℕ) (l0 l1 l2 h0 h1 h2 : Option (List ℕ)) (w0 w1 w2 : Option (List Bool)) (c0 c1 c2 : Option (List LibraryCall)) (f0 f1 f2 k0 k1 k2 : ℕ) (s t : SessionView) (n m : ℕ) (r q : Reading) (f body : List ℕ)
     → IsServing b l0 l1 h0 h1 w0 w1 c0 c1 f0 f1 k0 k1 s n r → IsFrame f body → Gives l1 f l2 → IsBetweenFrames q → q.fed ≡ r.fed + length f → q.fed ≤ most_input
     → IsReady t → GoesOn s.state n body t.state m w1 w2 c1 c2 h1 h2 → f1 ≤ f2 → k1 ≤ k2
     → IsServing b l0 l2 h0 h2 w0 w2 c0 c2 f0 f2 k0 k2 t m q
@@ -213,7 +213,7 @@ pub frame_falls : (fed more : ℕ) (f body : List ℕ) → IsFrame f body → mo
 frame_falls fed more f body is sum room = let some = (length-IsFrame f body is).0 in omega arith
 
 -- what was heard, with the answers that were given so far, the calls that were made, and no others
-heard_so_far : (b : ℕ) (l0 l1 h0 h1 : Option (List ℕ)) (w0 w1 : Option (List Bool)) (c0 c1 : Option (List LibraryCall)) (f0 f1 k0 k1 : ℕ) (s : Held) (n : ℕ) (r : Reading) (serving : IsServing b l0 l1 h0 h1 w0 w1 c0 c1 f0 f1 k0 k1 s n r)
+heard_so_far : (b : ℕ) (l0 l1 h0 h1 : Option (List ℕ)) (w0 w1 : Option (List Bool)) (c0 c1 : Option (List LibraryCall)) (f0 f1 k0 k1 : ℕ) (s : SessionView) (n : ℕ) (r : Reading) (serving : IsServing b l0 l1 h0 h1 w0 w1 c0 c1 f0 f1 k0 k1 s n r)
     → Leads (beginning_with b serving.answers serving.calls) serving.bodies (in_state s.state [] [] n) serving.replies
 heard_so_far b l0 l1 h0 h1 w0 w1 c0 c1 f0 f1 k0 k1 s n r serving =
     subst (λ z. Leads (beginning_with b z serving.calls) serving.bodies (in_state s.state [] [] n) serving.replies) (append-nil serving.answers)
@@ -222,7 +222,7 @@ heard_so_far b l0 l1 h0 h1 w0 w1 c0 c1 f0 f1 k0 k1 s n r serving =
 -- ---- the ends
 
 -- the input ended within a frame, or the source refused there
-ends_within_frame : (b : ℕ) (l0 l1 h0 h1 : Option (List ℕ)) (w0 w1 : Option (List Bool)) (c0 c1 : Option (List LibraryCall)) (f0 f1 k0 k1 : ℕ) (s : Held) (n : ℕ) (r : Reading) (t : List ℕ)
+ends_within_frame : (b : ℕ) (l0 l1 h0 h1 : Option (List ℕ)) (w0 w1 : Option (List Bool)) (c0 c1 : Option (List LibraryCall)) (f0 f1 k0 k1 : ℕ) (s : SessionView) (n : ℕ) (r : Reading) (t : List ℕ)
     → (serving : IsServing b l0 l1 h0 h1 w0 w1 c0 c1 f0 f1 k0 k1 s n r) → IsPartial t → r.fed + length t < most_input
     → Whole b serving.answers serving.calls (serving.front ++ t) InputEnded (length (serving.front ++ t)) (written serving.replies)
 ends_within_frame b l0 l1 h0 h1 w0 w1 c0 c1 f0 f1 k0 k1 s n r t serving partial few =
@@ -238,7 +238,7 @@ ends_within_frame b l0 l1 h0 h1 w0 w1 c0 c1 f0 f1 k0 k1 s n r t serving partial 
     }
 
 -- the input had less than a whole frame left
-pub ends_with_input : (b : ℕ) (l0 l1 l2 h0 h1 : Option (List ℕ)) (w0 w1 : Option (List Bool)) (c0 c1 : Option (List LibraryCall)) (f0 f1 k0 k1 : ℕ) (s : Held) (n : ℕ) (r : Reading) (t : List ℕ)
+pub ends_with_input : (b : ℕ) (l0 l1 l2 h0 h1 : Option (List ℕ)) (w0 w1 : Option (List Bool)) (c0 c1 : Option (List LibraryCall)) (f0 f1 k0 k1 : ℕ) (s : SessionView) (n : ℕ) (r : Reading) (t : List ℕ)
     → IsServing b l0 l1 h0 h1 w0 w1 c0 c1 f0 f1 k0 k1 s n r → Gives l1 t l2 → IsPartial t → IsAtEnd l2 → r.fed + length t < most_input → IsPlainRun b w0 w1 c0 c1 l0 l2 h0 h1 InputEnded
 ends_with_input b l0 l1 l2 h0 h1 w0 w1 c0 c1 f0 f1 k0 k1 s n r t serving gives partial end few = record {
   taken = serving.front ++ t;
@@ -256,7 +256,7 @@ ends_with_input b l0 l1 l2 h0 h1 w0 w1 c0 c1 f0 f1 k0 k1 s n r t serving gives p
 }
 
 -- the source refused within a frame
-pub ends_with_read_fault : (b : ℕ) (l0 l1 l2 h0 h1 : Option (List ℕ)) (w0 w1 : Option (List Bool)) (c0 c1 : Option (List LibraryCall)) (f0 f1 k0 k1 : ℕ) (s : Held) (n : ℕ) (r : Reading) (t : List ℕ)
+pub ends_with_read_fault : (b : ℕ) (l0 l1 l2 h0 h1 : Option (List ℕ)) (w0 w1 : Option (List Bool)) (c0 c1 : Option (List LibraryCall)) (f0 f1 k0 k1 : ℕ) (s : SessionView) (n : ℕ) (r : Reading) (t : List ℕ)
     → IsServing b l0 l1 h0 h1 w0 w1 c0 c1 f0 f1 k0 k1 s n r → Gives l1 t l2 → IsPartial t → r.fed + length t < most_input → IsPlainRun b w0 w1 c0 c1 l0 l2 h0 h1 ReadFault
 ends_with_read_fault b l0 l1 l2 h0 h1 w0 w1 c0 c1 f0 f1 k0 k1 s n r t serving gives partial few = record {
   taken = serving.front ++ t;
@@ -271,7 +271,7 @@ ends_with_read_fault b l0 l1 l2 h0 h1 w0 w1 c0 c1 f0 f1 k0 k1 s n r t serving gi
 }
 
 -- what was written so far answers these bytes, whatever follows
-frames_before : (b : ℕ) (l0 l1 h0 h1 : Option (List ℕ)) (w0 w1 : Option (List Bool)) (c0 c1 : Option (List LibraryCall)) (f0 f1 k0 k1 : ℕ) (s : Held) (n : ℕ) (r : Reading) (rest : List ℕ)
+frames_before : (b : ℕ) (l0 l1 h0 h1 : Option (List ℕ)) (w0 w1 : Option (List Bool)) (c0 c1 : Option (List LibraryCall)) (f0 f1 k0 k1 : ℕ) (s : SessionView) (n : ℕ) (r : Reading) (rest : List ℕ)
     → (serving : IsServing b l0 l1 h0 h1 w0 w1 c0 c1 f0 f1 k0 k1 s n r) → FirstFrames b serving.answers serving.calls (serving.front ++ rest) (written serving.replies)
 frames_before b l0 l1 h0 h1 w0 w1 c0 c1 f0 f1 k0 k1 s n r rest serving =
     let fed = serving.fed in
@@ -288,7 +288,7 @@ frames_before b l0 l1 h0 h1 w0 w1 c0 c1 f0 f1 k0 k1 s n r rest serving =
     }
 
 -- memory ran out before anything was written for the next message
-pub ends_without_memory : (b : ℕ) (l0 l1 l2 h0 h1 : Option (List ℕ)) (w0 w1 : Option (List Bool)) (c0 c1 : Option (List LibraryCall)) (f0 f1 k0 k1 : ℕ) (s : Held) (n : ℕ) (r : Reading) (t : List ℕ)
+pub ends_without_memory : (b : ℕ) (l0 l1 l2 h0 h1 : Option (List ℕ)) (w0 w1 : Option (List Bool)) (c0 c1 : Option (List LibraryCall)) (f0 f1 k0 k1 : ℕ) (s : SessionView) (n : ℕ) (r : Reading) (t : List ℕ)
     → IsServing b l0 l1 h0 h1 w0 w1 c0 c1 f0 f1 k0 k1 s n r → Gives l1 t l2 → IsPlainRun b w0 w1 c0 c1 l0 l2 h0 h1 OutOfMemory
 ends_without_memory b l0 l1 l2 h0 h1 w0 w1 c0 c1 f0 f1 k0 k1 s n r t serving gives = record {
   taken = serving.front ++ t;
@@ -315,7 +315,7 @@ ends_at_once b left held waits calls =
     ends_without_memory b left left left held held waits waits calls calls 0 0 0 0 (beginning b) 0 reader [] (serving_begins b left held waits calls 0 0 reader at_first.0 at_first.1) (Gives-nil left)
 
 -- the first bodies that are written for a message, and those before them, answer these bytes, whatever follows
-frames_within : (b : ℕ) (l0 l1 h0 h1 : Option (List ℕ)) (w0 w1 : Option (List Bool)) (c0 c1 : Option (List LibraryCall)) (f0 f1 k0 k1 : ℕ) (s : Held) (n : ℕ) (r : Reading) (f body rest : List ℕ) (answers : List Bool) (calls : List LibraryCall) (first others : List (List ℕ))
+frames_within : (b : ℕ) (l0 l1 h0 h1 : Option (List ℕ)) (w0 w1 : Option (List Bool)) (c0 c1 : Option (List LibraryCall)) (f0 f1 k0 k1 : ℕ) (s : SessionView) (n : ℕ) (r : Reading) (f body rest : List ℕ) (answers : List Bool) (calls : List LibraryCall) (first others : List (List ℕ))
     → (serving : IsServing b l0 l1 h0 h1 w0 w1 c0 c1 f0 f1 k0 k1 s n r) → IsFrame f body → r.fed + length f ≤ most_input → MakesEach (hear (in_state s.state answers calls n) body) → said (hear (in_state s.state answers calls n) body) ≡ first ++ others
     → FirstFrames b (serving.answers ++ answers) (serving.calls ++ calls) (serving.front ++ (f ++ rest)) (written (serving.replies ++ first))
 frames_within b l0 l1 h0 h1 w0 w1 c0 c1 f0 f1 k0 k1 s n r f body rest answers calls first others serving is room makes cut_said =
@@ -340,7 +340,7 @@ nothing_follows : (front f : List ℕ) → front ++ (f ++ []) ≡ front ++ f
 nothing_follows front f = ap (λ z. front ++ z) (append-nil f)
 
 -- memory ran out while the message was answered
-pub ends_without_memory_within : (b : ℕ) (l0 l1 l2 h0 h1 h2 : Option (List ℕ)) (w0 w1 w2 : Option (List Bool)) (c0 c1 c2 : Option (List LibraryCall)) (f0 f1 k0 k1 : ℕ) (s : Held) (n : ℕ) (r : Reading) (f body : List ℕ) (answers : List Bool) (calls : List LibraryCall)
+pub ends_without_memory_within : (b : ℕ) (l0 l1 l2 h0 h1 h2 : Option (List ℕ)) (w0 w1 w2 : Option (List Bool)) (c0 c1 c2 : Option (List LibraryCall)) (f0 f1 k0 k1 : ℕ) (s : SessionView) (n : ℕ) (r : Reading) (f body : List ℕ) (answers : List Bool) (calls : List LibraryCall)
     → IsServing b l0 l1 h0 h1 w0 w1 c0 c1 f0 f1 k0 k1 s n r → Gives l1 f l2 → IsFrame f body → r.fed + length f ≤ most_input → Asked w1 answers w2 → Gains c1 calls c2
     → MakesEach (hear (in_state s.state answers calls n) body) → PutsFirst h1 (said (hear (in_state s.state answers calls n) body)) h2 → IsPlainRun b w0 w2 c0 c2 l0 l2 h0 h2 OutOfMemory
 ends_without_memory_within b l0 l1 l2 h0 h1 h2 w0 w1 w2 c0 c1 c2 f0 f1 k0 k1 s n r f body answers calls serving gives is room asked made makes (first, others, cut_said, gains) = record {
@@ -364,7 +364,7 @@ ends_without_memory_within b l0 l1 l2 h0 h1 h2 w0 w1 w2 c0 c1 c2 f0 f1 k0 k1 s n
 }
 
 -- the first bytes of what is written for a message, and those before them, answer these bytes, whatever follows
-bytes_within : (b : ℕ) (l0 l1 h0 h1 : Option (List ℕ)) (w0 w1 : Option (List Bool)) (c0 c1 : Option (List LibraryCall)) (f0 f1 k0 k1 : ℕ) (s : Held) (n : ℕ) (r : Reading) (f body rest : List ℕ) (answers : List Bool) (calls : List LibraryCall) (first others : List ℕ)
+bytes_within : (b : ℕ) (l0 l1 h0 h1 : Option (List ℕ)) (w0 w1 : Option (List Bool)) (c0 c1 : Option (List LibraryCall)) (f0 f1 k0 k1 : ℕ) (s : SessionView) (n : ℕ) (r : Reading) (f body rest : List ℕ) (answers : List Bool) (calls : List LibraryCall) (first others : List ℕ)
     → (serving : IsServing b l0 l1 h0 h1 w0 w1 c0 c1 f0 f1 k0 k1 s n r) → IsFrame f body → r.fed + length f ≤ most_input → MakesEach (hear (in_state s.state answers calls n) body) → written (said (hear (in_state s.state answers calls n) body)) ≡ first ++ others
     → FirstBytes b (serving.answers ++ answers) (serving.calls ++ calls) (serving.front ++ (f ++ rest)) (written serving.replies ++ first)
 bytes_within b l0 l1 h0 h1 w0 w1 c0 c1 f0 f1 k0 k1 s n r f body rest answers calls first others serving is room makes cut_said =
@@ -386,7 +386,7 @@ bytes_within b l0 l1 h0 h1 w0 w1 c0 c1 f0 f1 k0 k1 s n r f body rest answers cal
     }
 
 -- the sink refused while the answer was written
-pub ends_with_write_fault : (b : ℕ) (l0 l1 l2 h0 h1 h2 : Option (List ℕ)) (w0 w1 w2 : Option (List Bool)) (c0 c1 c2 : Option (List LibraryCall)) (f0 f1 k0 k1 : ℕ) (s : Held) (n : ℕ) (r : Reading) (f body : List ℕ) (answers : List Bool) (calls : List LibraryCall)
+pub ends_with_write_fault : (b : ℕ) (l0 l1 l2 h0 h1 h2 : Option (List ℕ)) (w0 w1 w2 : Option (List Bool)) (c0 c1 c2 : Option (List LibraryCall)) (f0 f1 k0 k1 : ℕ) (s : SessionView) (n : ℕ) (r : Reading) (f body : List ℕ) (answers : List Bool) (calls : List LibraryCall)
     → IsServing b l0 l1 h0 h1 w0 w1 c0 c1 f0 f1 k0 k1 s n r → Gives l1 f l2 → IsFrame f body → r.fed + length f ≤ most_input → Asked w1 answers w2 → Gains c1 calls c2
     → MakesEach (hear (in_state s.state answers calls n) body) → PutsFront h1 (written (said (hear (in_state s.state answers calls n) body))) h2 → IsPlainRun b w0 w2 c0 c2 l0 l2 h0 h2 WriteFault
 ends_with_write_fault b l0 l1 l2 h0 h1 h2 w0 w1 w2 c0 c1 c2 f0 f1 k0 k1 s n r f body answers calls serving gives is room asked made makes (first, others, cut_said, gains) = record {
@@ -409,7 +409,7 @@ ends_with_write_fault b l0 l1 l2 h0 h1 h2 w0 w1 w2 c0 c1 c2 f0 f1 k0 k1 s n r f 
 }
 
 -- what was taken ends at this place, and so does the session, for which these calls were made at last
-ended : (b : ℕ) (l0 l1 l2 h0 h1 : Option (List ℕ)) (w0 w1 : Option (List Bool)) (c0 c1 : Option (List LibraryCall)) (f0 f1 k0 k1 : ℕ) (s : Held) (n : ℕ) (r : Reading) (t : List ℕ) (calls : List LibraryCall) (status : Status)
+ended : (b : ℕ) (l0 l1 l2 h0 h1 : Option (List ℕ)) (w0 w1 : Option (List Bool)) (c0 c1 : Option (List LibraryCall)) (f0 f1 k0 k1 : ℕ) (s : SessionView) (n : ℕ) (r : Reading) (t : List ℕ) (calls : List LibraryCall) (status : Status)
     → (serving : IsServing b l0 l1 h0 h1 w0 w1 c0 c1 f0 f1 k0 k1 s n r) → Gives l1 t l2 → r.fed + length t ≤ most_input
     → ((rest : List ℕ) → EndsAt (in_state s.state [] calls n) (length serving.front) (t ++ rest) (Finished status []) (length t))
     → (bytes : List ℕ) → l0 ≡ Some bytes → Whole b serving.answers (serving.calls ++ calls) bytes status (length (serving.front ++ t)) (written serving.replies)
@@ -430,7 +430,7 @@ ended b l0 l1 l2 h0 h1 w0 w1 c0 c1 f0 f1 k0 k1 s n r t calls status serving give
     }
 
 -- and none was
-ended_here : (b : ℕ) (l0 l1 l2 h0 h1 : Option (List ℕ)) (w0 w1 : Option (List Bool)) (c0 c1 : Option (List LibraryCall)) (f0 f1 k0 k1 : ℕ) (s : Held) (n : ℕ) (r : Reading) (t : List ℕ) (status : Status)
+ended_here : (b : ℕ) (l0 l1 l2 h0 h1 : Option (List ℕ)) (w0 w1 : Option (List Bool)) (c0 c1 : Option (List LibraryCall)) (f0 f1 k0 k1 : ℕ) (s : SessionView) (n : ℕ) (r : Reading) (t : List ℕ) (status : Status)
     → (serving : IsServing b l0 l1 h0 h1 w0 w1 c0 c1 f0 f1 k0 k1 s n r) → Gives l1 t l2 → r.fed + length t ≤ most_input
     → ((rest : List ℕ) → EndsAt (in_state s.state [] [] n) (length serving.front) (t ++ rest) (Finished status []) (length t))
     → (bytes : List ℕ) → l0 ≡ Some bytes → Whole b serving.answers serving.calls bytes status (length (serving.front ++ t)) (written serving.replies)
@@ -453,7 +453,7 @@ exit_ends true s before tail taken met = met
 exit_ends false s before tail taken met = met
 
 -- the exit was heard
-pub ends_with_exit : (closed : Bool) (b : ℕ) (l0 l1 l2 h0 h1 h2 : Option (List ℕ)) (w0 w1 w2 : Option (List Bool)) (c0 c1 c2 : Option (List LibraryCall)) (f0 f1 k0 k1 : ℕ) (s : Held) (n : ℕ) (r : Reading) (f body : List ℕ)
+pub ends_with_exit : (closed : Bool) (b : ℕ) (l0 l1 l2 h0 h1 h2 : Option (List ℕ)) (w0 w1 w2 : Option (List Bool)) (c0 c1 c2 : Option (List LibraryCall)) (f0 f1 k0 k1 : ℕ) (s : SessionView) (n : ℕ) (r : Reading) (f body : List ℕ)
     → IsServing b l0 l1 h0 h1 w0 w1 c0 c1 f0 f1 k0 k1 s n r → Gives l1 f l2 → IsFrame f body → r.fed + length f ≤ most_input → Closes s.state n body closed w1 w2 c1 c2 h1 h2
     → IsPlainRun b w0 w2 c0 c2 l0 l2 h0 h2 (exit_status closed)
 ends_with_exit closed b l0 l1 l2 h0 h1 h2 w0 w1 w2 c0 c1 c2 f0 f1 k0 k1 s n r f body serving gives is room closes = record {
@@ -477,7 +477,7 @@ ends_with_exit closed b l0 l1 l2 h0 h1 h2 w0 w1 w2 c0 c1 c2 f0 f1 k0 k1 s n r f 
         (met_frame body (in_state s.state [] closes.calls n) f rest (Ends closed []) is last)
 
 -- bytes came that begin no frame
-pub ends_with_bad_start : (b : ℕ) (l0 l1 l2 h0 h1 : Option (List ℕ)) (w0 w1 : Option (List Bool)) (c0 c1 : Option (List LibraryCall)) (f0 f1 k0 k1 : ℕ) (s : Held) (n : ℕ) (r : Reading) (t : List ℕ) (at : ℕ)
+pub ends_with_bad_start : (b : ℕ) (l0 l1 l2 h0 h1 : Option (List ℕ)) (w0 w1 : Option (List Bool)) (c0 c1 : Option (List LibraryCall)) (f0 f1 k0 k1 : ℕ) (s : SessionView) (n : ℕ) (r : Reading) (t : List ℕ) (at : ℕ)
     → IsServing b l0 l1 h0 h1 w0 w1 c0 c1 f0 f1 k0 k1 s n r → Gives l1 t l2 → IsBadStart t (length t) → at ≡ r.fed + length t → at ≤ most_input → IsPlainRun b w0 w1 c0 c1 l0 l2 h0 h1 (BadFrame at)
 ends_with_bad_start b l0 l1 l2 h0 h1 w0 w1 c0 c1 f0 f1 k0 k1 s n r t at serving gives bad place room = record {
   taken = serving.front ++ t;
@@ -493,7 +493,7 @@ ends_with_bad_start b l0 l1 l2 h0 h1 w0 w1 c0 c1 f0 f1 k0 k1 s n r t at serving 
 }
 
 -- all was taken that may be
-pub ends_with_limit : (b : ℕ) (l0 l1 l2 h0 h1 : Option (List ℕ)) (w0 w1 : Option (List Bool)) (c0 c1 : Option (List LibraryCall)) (f0 f1 k0 k1 : ℕ) (s : Held) (n : ℕ) (r : Reading) (t : List ℕ)
+pub ends_with_limit : (b : ℕ) (l0 l1 l2 h0 h1 : Option (List ℕ)) (w0 w1 : Option (List Bool)) (c0 c1 : Option (List LibraryCall)) (f0 f1 k0 k1 : ℕ) (s : SessionView) (n : ℕ) (r : Reading) (t : List ℕ)
     → IsServing b l0 l1 h0 h1 w0 w1 c0 c1 f0 f1 k0 k1 s n r → Gives l1 t l2 → IsPartial t → r.fed + length t ≡ most_input → IsPlainRun b w0 w1 c0 c1 l0 l2 h0 h1 InputTooLong
 ends_with_limit b l0 l1 l2 h0 h1 w0 w1 c0 c1 f0 f1 k0 k1 s n r t serving gives partial most = record {
   taken = serving.front ++ t;
@@ -514,14 +514,14 @@ ends_with_limit b l0 l1 l2 h0 h1 w0 w1 c0 c1 f0 f1 k0 k1 s n r t serving gives p
         (subst IsPartial (sym all) partial, omega (arith, length-append t rest), omega arith, refl)
 
 -- output stopped within the answer to a message
-pub ends_stopped : (e : Stop) (b : ℕ) (l0 l1 l2 h0 h1 h2 : Option (List ℕ)) (w0 w1 w2 : Option (List Bool)) (c0 c1 c2 : Option (List LibraryCall)) (f0 f1 k0 k1 : ℕ) (s : Held) (n : ℕ) (r : Reading) (f body : List ℕ)
+pub ends_stopped : (e : Stop) (b : ℕ) (l0 l1 l2 h0 h1 h2 : Option (List ℕ)) (w0 w1 w2 : Option (List Bool)) (c0 c1 c2 : Option (List LibraryCall)) (f0 f1 k0 k1 : ℕ) (s : SessionView) (n : ℕ) (r : Reading) (f body : List ℕ)
     → IsServing b l0 l1 h0 h1 w0 w1 c0 c1 f0 f1 k0 k1 s n r → Gives l1 f l2 → IsFrame f body → r.fed + length f ≤ most_input → StopsHearing e s.state n body w1 w2 c1 c2 h1 h2 → IsPlainRun b w0 w2 c0 c2 l0 l2 h0 h2 (status_of e)
 ends_stopped stop.OutOfMemory b l0 l1 l2 h0 h1 h2 w0 w1 w2 c0 c1 c2 f0 f1 k0 k1 s n r f body serving gives is room stops =
     ends_without_memory_within b l0 l1 l2 h0 h1 h2 w0 w1 w2 c0 c1 c2 f0 f1 k0 k1 s n r f body stops.answers stops.calls serving gives is room stops.asked stops.made stops.makes stops.put
 ends_stopped stop.WriteFault b l0 l1 l2 h0 h1 h2 w0 w1 w2 c0 c1 c2 f0 f1 k0 k1 s n r f body serving gives is room stops =
     ends_with_write_fault b l0 l1 l2 h0 h1 h2 w0 w1 w2 c0 c1 c2 f0 f1 k0 k1 s n r f body stops.answers stops.calls serving gives is room stops.asked stops.made stops.makes stops.put
 
-pub HasStatusCause-stopped : (e : Stop) (f0 f1 k0 k1 k2 : ℕ) → k0 ≤ k1 → k1 ≤ k2 → HasStopCause {T = Phase} (Err e) k1 k2 → HasStatusCause (status_of e) f0 f1 k0 k2
+pub HasStatusCause-stopped : (e : Stop) (f0 f1 k0 k1 k2 : ℕ) → k0 ≤ k1 → k1 ≤ k2 → HasStopCause {T = Connection} (Err e) k1 k2 → HasStatusCause (status_of e) f0 f1 k0 k2
 HasStatusCause-stopped stop.OutOfMemory f0 f1 k0 k1 k2 earlier later cause = tt
 HasStatusCause-stopped stop.WriteFault f0 f1 k0 k1 k2 earlier later cause = HasRisen-widen k0 k1 k2 k2 earlier later cause (omega arith)
 

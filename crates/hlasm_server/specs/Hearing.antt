@@ -1,15 +1,15 @@
 -- What one message of the input comes to (this project): its event, and then Turns until no program is queued or the next
 -- one is held back.
 use Rattle.std.specs.Prelude.{◌≡◌, ℕ, zero, suc, Bool, List, [], ◌++◌, length, if◌then◌else◌}
-use Rattle.bulk_session.specs.Phase.{Phase}
-use Rattle.bulk_session.specs.PhaseVariants as phase
+use Rattle.bulk_session.specs.Connection.{Connection}
+use Rattle.bulk_session.specs.ConnectionVariants as connection
 use Rattle.io_edge.specs.LibraryCall.{LibraryCall}
 use Rattle.bulk_session.specs.State.{State, start}
 use Rattle.bulk_session.specs.Step.{Step}
 use Rattle.bulk_session.specs.Step as step
 use Rattle.bulk_session.specs.Turn.{turn}
 use Rattle.bulk_session.specs.Message.{message}
-use Rattle.bulk_session.specs.Held.{phase_of}
+use Rattle.bulk_session.specs.SessionView.{connection_of}
 use Rattle.hlasm_server.specs.Waiting.{one_more, is_held, unasked}
 
 -- a session between two events: its state, the answers of `waiting` and the calls of the library to come, and how many
@@ -70,13 +70,13 @@ abbrev pub goes_on : List (List ℕ) → Made → Heard
 goes_on bodies made = Goes made.next (bodies ++ made.bodies)
 
 -- Where the session goes on, the Turns follow. At its end nothing is written, and no Turn is made.
-abbrev pub heard_in : Phase → Running → (state : State) (bodies : List (List ℕ)) (rest : List LibraryCall) → Heard
-heard_in phase.Running r state bodies rest = goes_on bodies (following (in_state state r.waits rest (one_more r.since)))
-heard_in (phase.Exit closed) r state bodies rest = Ends closed rest
+abbrev pub heard_in : Connection → Running → (state : State) (bodies : List (List ℕ)) (rest : List LibraryCall) → Heard
+heard_in connection.Running r state bodies rest = goes_on bodies (following (in_state state r.waits rest (one_more r.since)))
+heard_in (connection.Exit closed) r state bodies rest = Ends closed rest
 
 -- an event, with what follows it
 abbrev pub heard_of : Running → Step → Heard
-heard_of r (step.Goes state bodies rest) = heard_in (phase_of state) r state bodies rest
+heard_of r (step.Goes state bodies rest) = heard_in (connection_of state) r state bodies rest
 heard_of r step.Stopped = Lacks
 heard_of r step.Other = Differs
 

@@ -2,11 +2,11 @@
 use Rattle.std.specs.Prelude.{◌≡◌, ℕ, false, Bool, List, [], ◌++◌, Option, Result, Ok, Err}
 use Rattle.io_edge.specs.Told.{Gains, HasRisen}
 use Rattle.io_edge.specs.LibraryCall.{LibraryCall}
-use Rattle.bulk_session.specs.Phase.{Phase}
-use Rattle.bulk_session.specs.PhaseVariants as phase
+use Rattle.bulk_session.specs.Connection.{Connection}
+use Rattle.bulk_session.specs.ConnectionVariants as connection
 use Rattle.bulk_session.specs.State.{State}
 use Rattle.bulk_session.specs.Step.{written}
-use Rattle.bulk_session.specs.Held.{Held}
+use Rattle.bulk_session.specs.SessionView.{SessionView}
 use Rattle.hlasm_server.specs.declared.sending.Stop.{Stop}
 use Rattle.hlasm_server.specs.declared.sending.Stop.TheVariants.{OutOfMemory, WriteFault}
 use Rattle.hlasm_server.specs.Hearing.{Goes, Ends, in_state, hear, said, following, MakesEach}
@@ -27,7 +27,7 @@ PutsUntil OutOfMemory before bodies now = PutsFirst before bodies now
 PutsUntil WriteFault before bodies now = PutsFront before (written bodies) now
 
 -- the session has memory, and all of its output was taken
-pub record IsReady (session : Held) : Type 0 where
+pub record IsReady (session : SessionView) : Type 0 where
   pub sound : session.spent ≡ false
   pub empty : session.output ≡ []
 
@@ -86,10 +86,10 @@ pub record StopsHearing (stop : Stop) (s : State) (since : ℕ) (body : List ℕ
   pub makes : MakesEach (hear (in_state s answers calls since) body)
   pub put : PutsUntil stop held_before (said (hear (in_state s answers calls since) body)) held_now
 
--- A message was heard: it is as the phase or the stop says.
-abbrev pub Hears : Result Phase Stop → (s : State) (since : ℕ) (body : List ℕ) (t : State) (since_now : ℕ) (waits_before waits_now : Option (List Bool)) (calls_before calls_now : Option (List LibraryCall)) (held_before held_now : Option (List ℕ)) → Type 0
-Hears (Ok phase.Running) s since body t since_now w v c d before now = GoesOn s since body t since_now w v c d before now
-Hears (Ok (phase.Exit closed)) s since body t since_now w v c d before now = Closes s since body closed w v c d before now
+-- A message was heard: it is as the connection or the stop says.
+abbrev pub Hears : Result Connection Stop → (s : State) (since : ℕ) (body : List ℕ) (t : State) (since_now : ℕ) (waits_before waits_now : Option (List Bool)) (calls_before calls_now : Option (List LibraryCall)) (held_before held_now : Option (List ℕ)) → Type 0
+Hears (Ok connection.Running) s since body t since_now w v c d before now = GoesOn s since body t since_now w v c d before now
+Hears (Ok (connection.Exit closed)) s since body t since_now w v c d before now = Closes s since body closed w v c d before now
 Hears (Err stop) s since body t since_now w v c d before now = StopsHearing stop s since body w v c d before now
 
 -- a sink that refused has counted a fault

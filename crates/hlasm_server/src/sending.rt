@@ -4,7 +4,7 @@ ghost use Rattle.io_edge.specs.Told.{Gains, HasRisen};
 ghost use Rattle.hlasm_server.specs.Sending.{Hears, MakesTurns, PutsFront, HasStopCause, IsReady};
 ghost use Rattle.hlasm_server.specs.Waiting.{Asks, one_more};
 
-use bulk_session::session_core::{Phase, Session, SessionFault};
+use bulk_session::session_core::{Connection, Session, SessionFault};
 use hl_base::{Ledger, Steps};
 use io_edge::{Failed, Library, Sink, Source};
 use std::alloc::Global;
@@ -120,7 +120,7 @@ fn make_turns<S: Source, K: Sink, L: Ledger>(
 
 /// Takes one message, with the calls of the library that it makes, and makes the Turns that follow it, and puts what is written
 /// into the sink as it comes.
-pub fn hear<S: Source, K: Sink, B: Library, L: Ledger>(
+pub fn hear_and_send<S: Source, K: Sink, B: Library, L: Ledger>(
     alloc: Global,
     session: &mut Session,
     since: &mut u32,
@@ -129,9 +129,9 @@ pub fn hear<S: Source, K: Sink, B: Library, L: Ledger>(
     sink: &mut K,
     library: &mut B,
     steps: &mut Steps<L>,
-) -> Result<Phase, Stop>
+) -> Result<Connection, Stop>
     requires ready { IsReady session.old }
-    ensures ready { IfOk result (λ phase. phase ≡ Phase.Running → IsReady session.new) }
+    ensures ready { IfOk result (λ connection. connection ≡ Connection.Running → IsReady session.new) }
     ensures hears { Hears result session.old.state since.old body.now session.new.state since.new
         (S.waits source.old) (S.waits source.new) (B.calls library.old) (B.calls library.new)
         (K.held sink.old) (K.held sink.new) }
@@ -142,12 +142,12 @@ pub fn hear<S: Source, K: Sink, B: Library, L: Ledger>(
     ensures later_library { B.faults library.old ≤ B.faults library.new }
 {
     match session.message(alloc, body, library, steps)? {
-        Phase::Running => {
+        Connection::Running => {
             put_output(session, sink)?;
             *since = one_more(*since);
             make_turns(alloc, session, since, source, sink, steps)?;
-            Ok(Phase::Running)
+            Ok(Connection::Running)
         }
-        Phase::Exit(closed) => Ok(Phase::Exit(closed)),
+        Connection::Exit(closed) => Ok(Connection::Exit(closed)),
     }
 }

@@ -9,13 +9,13 @@ ghost use Rattle.hlasm_server.specs.Bulk.{Writes, WritesAll};
 ghost use Rattle.hlasm_server.specs.Headline.{IsPlainRun, HasStatusCause, Completes};
 ghost use Rattle.hlasm_server.specs.Sending.{Hears, HasStopCause, IsReady};
 ghost use Rattle.hlasm_server.specs.Words.{asks_for_session};
-ghost use Rattle.bulk_session.specs.Held.{beginning};
+ghost use Rattle.bulk_session.specs.SessionView.{beginning};
 
 use crate::Status;
 use crate::bulk::bulk;
 use crate::feeding::{LARGEST_PIECE, Next, next_body};
-use crate::sending::{Stop, hear};
-use bulk_session::session_core::{Phase, Session};
+use crate::sending::{Stop, hear_and_send};
+use bulk_session::session_core::{Connection, Session};
 use command_words::{Command, WordsFault, read_words};
 use hl_base::{Ledger, OutOfMemory, Steps};
 use io_edge::{Library, Sink, Source};
@@ -45,9 +45,9 @@ fn hear_body<S: Source, K: Sink, B: Library, L: Ledger>(
     sink: &mut K,
     library: &mut B,
     steps: &mut Steps<L>,
-) -> Result<Phase, Stop>
+) -> Result<Connection, Stop>
     requires ready { IsReady session.old }
-    ensures ready { IfOk result (λ phase. phase ≡ Phase.Running → IsReady session.new) }
+    ensures ready { IfOk result (λ connection. connection ≡ Connection.Running → IsReady session.new) }
     ensures hears { Hears result session.old.state since.old body.items session.new.state since.new
         (S.waits source.old) (S.waits source.new) (B.calls library.old) (B.calls library.new)
         (K.held sink.old) (K.held sink.new) }
@@ -57,7 +57,7 @@ fn hear_body<S: Source, K: Sink, B: Library, L: Ledger>(
     ensures cause { HasStopCause result (K.faults sink.old) (K.faults sink.new) }
     ensures later_library { B.faults library.old ≤ B.faults library.new }
 {
-    hear(alloc, session, since, &body, source, sink, library, steps)
+    hear_and_send(alloc, session, since, &body, source, sink, library, steps)
 }
 
 /// Serves a session that has heard nothing yet, until it ends.
@@ -94,9 +94,9 @@ fn serve_session<S: Source, K: Sink, B: Library, L: Ledger>(
         match hear_body(
             alloc, session, &mut since, body, source, sink, library, steps,
         ) {
-            Ok(Phase::Running) => {}
-            Ok(Phase::Exit(true)) => return Status::Done,
-            Ok(Phase::Exit(false)) => return Status::NoShutdown,
+            Ok(Connection::Running) => {}
+            Ok(Connection::Exit(true)) => return Status::Done,
+            Ok(Connection::Exit(false)) => return Status::NoShutdown,
             Err(stop) => return stopped(stop),
         }
     }

@@ -21,9 +21,9 @@ pub struct MemorySink {
 
 impl Model for MemorySink {
     ghost use Rattle.std.specs.Prelude.{◌+◌, ◌<◌, ◌≤◌, vec_len, vec_capacity};
-    ghost use Rattle.io_edge.specs.MemorySink.{Store};
+    ghost use Rattle.io_edge.specs.MemorySink.{SinkState};
 
-    ghost Value = { Store };
+    ghost Value = { SinkState };
 
     ghost view = { λ s. record {
       bytes = s.bytes.items;
@@ -50,7 +50,7 @@ fn append(bytes: &mut Vec<u8>, piece: &[u8])
 }
 
 impl MemorySink {
-    ghost use Rattle.io_edge.specs.MemorySink.{Store};
+    ghost use Rattle.io_edge.specs.MemorySink.{SinkState};
 
     /// An empty sink with room for so many bytes, of which a put takes at most `most`. The puts of the numbers that
     /// are listed fail; every put counts, from 1.
@@ -97,7 +97,7 @@ impl MemorySink {
 }
 
 impl Sink for MemorySink {
-    ghost use Rattle.io_edge.specs.MemorySink.{Store, IsPutRefused, put_len, after_put};
+    ghost use Rattle.io_edge.specs.MemorySink.{SinkState, IsPutRefused, put_len, after_put};
 
     ghost held = { λ s. Some s.bytes };
 

@@ -14,10 +14,10 @@ use Rattle.lsp_messages.specs.Messages.{is_response, message_of}
 use Rattle.document_store.specs.Store.{Store}
 use Rattle.document_store.specs.Changes.{opened, changed, closed}
 use Rattle.document_store.specs.declared.fault.StoreFault.{StoreFault}
-use Rattle.session_core.specs.declared.phase.Phase.TheVariants as phases
+use Rattle.session_core.specs.declared.connection.Connection.TheVariants as connections
 use Rattle.session_core.specs.declared.state.Stage.{Stage}
 use Rattle.session_core.specs.declared.state.Stage.TheVariants.{Fresh, Active, Closing, Ended}
-use Rattle.session_core.specs.Held.{phase_of}
+use Rattle.session_core.specs.SessionView.{connection_of}
 use Rattle.session_core.specs.Laws.{is_refused, is_refused_value, is_refused_body, Keeps, AreAnswered}
 use Rattle.session_core.specs.Message.{message, event, served, received, asked, effect_of, concluded, is_passed_over, unless_refused}
 use Rattle.session_core.specs.Refusals.{Refused, OutOfPlace, TooEarly, where_so, first_of, refusal, log_fault, is_fresh, is_active, is_closed, is_ended}
@@ -113,7 +113,7 @@ event_kept s body are refused =
 pub message_kept : (s : State) (body : List ℕ) (calls : List LibraryCall) → AreAnswered s → is_refused_body s body ≡ true → Keeps (message s body calls) s calls
 message_kept s body calls are refused = event_kept s body are refused calls
 
-event_ended : (s : State) (closed : Bool) (body : List ℕ) → phase_of s ≡ phases.Exit closed → event s body ≡ answered (quiet s)
+event_ended : (s : State) (closed : Bool) (body : List ℕ) → connection_of s ≡ connections.Exit closed → event s body ≡ answered (quiet s)
 unfolding event
 event_ended s closed body ends = by_stage s.stage refl where
   by_stage : (stage : Stage) → s.stage ≡ stage → cond (is_ended stage) (answered (quiet s)) (served s (reading body)) ≡ answered (quiet s)
@@ -122,5 +122,5 @@ event_ended s closed body ends = by_stage s.stage refl where
   by_stage Closing e = let h = rw e at ends in cc
   by_stage (Ended c) e = refl
 
-pub message_ended : (s : State) (closed : Bool) (body : List ℕ) (calls : List LibraryCall) → phase_of s ≡ phases.Exit closed → message s body calls ≡ Goes s [] calls
+pub message_ended : (s : State) (closed : Bool) (body : List ℕ) (calls : List LibraryCall) → connection_of s ≡ connections.Exit closed → message s body calls ≡ Goes s [] calls
 message_ended s closed body calls ends = ap (λ (z : Asking Effect). step_of (z calls)) (event_ended s closed body ends)

@@ -10,7 +10,7 @@ use Rattle.lsp_messages.specs.declared.incoming.Refusal.{Refusal}
 use Rattle.lsp_messages.specs.declared.incoming.Refusal.TheVariants as refusals
 use Rattle.json_view.specs.Answers.{Answers}
 use Rattle.lsp_messages.specs.Messages.{said_by}
-use Rattle.session_core.specs.Held.{Held}
+use Rattle.session_core.specs.SessionView.{SessionView}
 use Rattle.session_core.specs.Inside.{HearsOver}
 use Rattle.json_view.specs.Texts.{reading}
 use Rattle.session_core.specs.Message.{asked, received, served, concluded, event}
@@ -108,7 +108,7 @@ over_cut s middle now body lost result before after few many goes over failed =
 -- a message of it came to its effect, and was written or not
 pub hears_written : {T : Type 0} (event : Asking Effect) (bodies : List (List ℕ)) (result : Result T OutOfMemory)
     (told now : Option (List LibraryCall)) (few many : ℕ)
-    (before after : Held) → AsksOver event (acting after.state) (Ok bodies) told now few many
+    (before after : SessionView) → AsksOver event (acting after.state) (Ok bodies) told now few many
     → OnOk result (after.output ≡ before.output ++ written bodies)
     → OnErr result (after.output ≡ before.output) → after.spent ≡ before.spent → HearsOver event result told now before after
 hears_written event bodies (Ok value) told now few many before after over grown kept spent = record {

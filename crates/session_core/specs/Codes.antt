@@ -14,7 +14,7 @@ use Rattle.session_core.specs.contracts.state.LastList as last_list
 use Rattle.session_core.specs.contracts.state.Stage as stage
 use Rattle.session_core.specs.declared.state.LastList.{LastList}
 use Rattle.session_core.specs.declared.state.Stage.{Stage}
-use Rattle.session_core.specs.Held.{Held}
+use Rattle.session_core.specs.SessionView.{SessionView}
 use Rattle.session_core.specs.State.{State}
 
 abbrev path_code : Coded PathId
@@ -41,7 +41,7 @@ state_code =
     })
     (λ _. refl)
 
-abbrev pub held_code : Coded Held
+abbrev pub held_code : Coded SessionView
 held_code =
     code_by
     (State × (List ℕ × Bool))

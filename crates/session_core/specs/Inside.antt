@@ -28,7 +28,7 @@ use Rattle.session_core.specs.declared.state.LastList.{LastList}
 use Rattle.session_core.specs.declared.watching.Watch.{Watch}
 use Rattle.session_core.specs.Debugging.{trace_of}
 use Rattle.session_core.specs.Diagnostics.{diagnostics_of}
-use Rattle.session_core.specs.Held.{Held}
+use Rattle.session_core.specs.SessionView.{SessionView}
 use Rattle.session_core.specs.Message.{after_change, after_closing, asked, asks_later, farewell, unless_refused, Watching, configured}
 use Rattle.session_core.specs.Names.{names_of, names_over_all}
 use Rattle.session_core.specs.Refusals.{Asks, too_early, out_of_place, repeats, first_of, log_fault}
@@ -150,16 +150,16 @@ TellsTrace s n shown trace = (document : OpenDocument) → document_at s.store n
 -- ---- a session
 
 -- a session has gone to this state and added these bodies, with memory or without it
-abbrev pub Adds : Effect → (before now : Held) → Type 0
+abbrev pub Adds : Effect → (before now : SessionView) → Type 0
 Adds effect before now = now ≡ record { state = effect.state; output = before.output ++ written effect.bodies; spent = before.spent }
 
 -- nothing was added to the output
-abbrev pub KeepsOutput : (before now : Held) → Type 0
+abbrev pub KeepsOutput : (before now : SessionView) → Type 0
 KeepsOutput before now = (now.output ≡ before.output) × (now.spent ≡ before.spent)
 
 -- A message came over the calls that were made to the state that the session has now, and its bodies were added to the output;
 -- or memory ran out behind them, and nothing was added.
-abbrev pub HearsBy : {T : Type 0} → Asking Effect → Result T OutOfMemory → (calls : List LibraryCall) → (before now : Held) → Type 0
+abbrev pub HearsBy : {T : Type 0} → Asking Effect → Result T OutOfMemory → (calls : List LibraryCall) → (before now : SessionView) → Type 0
 HearsBy event (Ok _) calls before now =
     (bodies : List (List ℕ))
     × ((more : List LibraryCall) → event (calls ++ more) ≡ Came (record { state = now.state; bodies = bodies }) more)
@@ -168,7 +168,7 @@ HearsBy event (Err _) calls before now = IsShort (event calls) × KeepsOutput be
 
 -- some calls were made, and the library tells that it gained them
 pub record HearsOver {T : Type 0} (event : Asking Effect) (result : Result T OutOfMemory)
-    (calls_before calls_now : Option (List LibraryCall)) (before now : Held) : Type 0 where
+    (calls_before calls_now : Option (List LibraryCall)) (before now : SessionView) : Type 0 where
   pub calls : List LibraryCall
   pub made : Gains calls_before calls calls_now
   pub heard : HearsBy event result calls before now

@@ -6,7 +6,7 @@ pub mod Codes
 pub mod Debugging
 pub mod Diagnostics
 pub mod Figures
-pub mod Held
+pub mod SessionView
 pub mod Inside
 pub mod Laws
 pub mod Message

@@ -18,7 +18,7 @@ use crate::bodies::Bodies;
 use crate::lists::Surroundings;
 use crate::programs::{document_at, is_program_shown};
 use crate::replies;
-use crate::standing::Standing;
+use crate::session_state::SessionState;
 use dap_messages::{DapIn, DapOut, DapRefusal, read_dap};
 use debug_sessions::{Answer, Launched};
 use document_store::Document;
@@ -62,7 +62,7 @@ fn said_bodies(alloc: Global, session: u32, said: &Answer) -> Result<Bodies, Out
     }
 }
 
-impl Standing {
+impl SessionState {
     /// The trace of the program of a document, as it is shown, where members are found so.
     fn trace_over<L: Ledger>(
         &self,

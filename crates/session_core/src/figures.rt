@@ -14,7 +14,7 @@ ghost use Rattle.session_core.specs.State.{document_at};
 
 use crate::lists::Surroundings;
 use crate::programs::{document_at, is_queued, last_list, number_named};
-use crate::standing::Standing;
+use crate::session_state::SessionState;
 use document_store::{Document, MemberText};
 use group_members::{GroupMembers, MemberIndex};
 use hl_base::{Ledger, OutOfMemory, PathId, Steps, TextId};
@@ -75,7 +75,7 @@ impl Surroundings<'_> {
     }
 }
 
-impl Standing {
+impl SessionState {
     /// Whether a program's list was published and it is not queued.
     fn is_assembled(&self, path: PathId) -> bool
         ensures { result ≡ is_assembled self.now path }

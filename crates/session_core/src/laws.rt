@@ -3,8 +3,8 @@ ghost use Rattle.std.specs.Prelude.{◌≡◌, ℕ, List, [], Bool, true, false}
 ghost use Rattle.io_edge.specs.LibraryCall.{LibraryCall};
 ghost use Rattle.trace_values.specs.declared.item.TraceItem.{TraceItem};
 ghost use Rattle.trace_arena.specs.Points.{Point};
-ghost use Rattle.session_core.specs.declared.phase.Phase.TheVariants.{Exit};
-ghost use Rattle.session_core.specs.Held.{phase_of};
+ghost use Rattle.session_core.specs.declared.connection.Connection.TheVariants.{Exit};
+ghost use Rattle.session_core.specs.SessionView.{connection_of};
 ghost use Rattle.session_core.specs.Laws.{is_refused_body, is_body_on_files, is_body_debugging, is_body_disconnecting};
 ghost use Rattle.session_core.specs.Laws.{Keeps, LeavesCalls, AreFresh, LeavesFresh, KeepsOrQueues, HasDebugger};
 ghost use Rattle.session_core.specs.Laws.{KeepsDebugger, HasTrace, KeepsTrace, AreAnswered, HaveTheirIds, LeavesSo};
@@ -13,7 +13,7 @@ ghost use Rattle.session_core.specs.State.{State, start};
 ghost use Rattle.session_core.specs.Step.{Goes, MakesAll};
 ghost use Rattle.session_core.specs.Turn.{turn};
 
-/// A refused message leaves the documents, the queue, the requests that wait, the phase and what was published as they were, adds
+/// A refused message leaves the documents, the queue, the requests that wait, how far the session has come and what was published as they were, adds
 /// at most one body, its reply or its line of the log, and asks the library nothing. It is so in every state that a session comes
 /// to: there no request waits unless a program is queued (`requests_wait_for_programs`).
 pub fn refusals_change_nothing()
@@ -39,7 +39,7 @@ pub fn requests_have_their_ids()
 
 /// Behind `exit` nothing changes, nothing is written, and the library is asked nothing.
 pub fn the_end_is_final()
-    ensures { (s : State) (closed : Bool) (body : List ℕ) (calls : List LibraryCall) → phase_of s ≡ Exit closed
+    ensures { (s : State) (closed : Bool) (body : List ℕ) (calls : List LibraryCall) → connection_of s ≡ Exit closed
         → message s body calls ≡ Goes s [] calls }
 {}
 

@@ -11,11 +11,12 @@
 //! Within the crate, `receiving` goes from a body to what it does: `lifecycle` begins and ends the session, `requests`,
 //! `notifications` (documents) and `watching` (files) take the others, `settling` takes leave of documents that are no
 //! programs any more, `debugging` takes debug messages, `symbols` takes requests on symbols and answers them, and `replies` has
-//! the bodies written. `standing` has the state and its Turns, `programs` the queue, the documents by number and what was
+//! the bodies written. `session_state` has the state and its Turns, `programs` the queue, the documents by number and what was
 //! published, `lists` the list of a program, its trace and what it tells of names, and `figures` its figures.
 #![tactic(auto)]
 
 mod bodies;
+mod connection;
 mod debugging;
 mod fault;
 mod figures;
@@ -23,19 +24,18 @@ pub mod laws;
 mod lifecycle;
 mod lists;
 mod notifications;
-mod phase;
 mod programs;
 mod receiving;
 mod replies;
 mod requests;
 mod session;
+mod session_state;
 mod settling;
-mod standing;
 mod state;
 mod symbols;
 mod watching;
 
+pub use connection::Connection;
 pub use fault::SessionFault;
-pub use phase::Phase;
 pub use program_names::program_assembly::{Figures, Summary};
 pub use session::Session;

@@ -13,7 +13,7 @@ use crate::bodies::Bodies;
 use crate::programs::{forget_members, queue_programs};
 use crate::replies;
 use crate::requests::{out_of_place, too_early};
-use crate::standing::Standing;
+use crate::session_state::SessionState;
 use crate::state::Stage;
 use file_uri::{UriFault, file_path};
 use hl_base::{Ledger, OutOfMemory, Steps, Text};
@@ -60,7 +60,7 @@ pub(crate) fn folders_in(
     }
 }
 
-impl Standing {
+impl SessionState {
     /// Whether `initialize` was answered, and `shutdown` was not.
     pub(crate) fn is_active(&self) -> bool
         ensures { result ≡ is_active self.now.stage }

@@ -15,7 +15,7 @@ ghost use Rattle.session_core.specs.Step.{Acts};
 use crate::bodies::Bodies;
 use crate::programs::{drop_named, forget, number_named, queue_programs};
 use crate::replies;
-use crate::standing::Standing;
+use crate::session_state::SessionState;
 use document_store::{MOST_DOCUMENTS, StoreFault};
 use file_uri::{UriFault, file_path};
 use hl_base::{Edit, OutOfMemory, PathId, Text};
@@ -69,7 +69,7 @@ fn forget_lists(listed: &mut Vec<PathId>, member: bool, path: Option<PathId>)
     }
 }
 
-impl Standing {
+impl SessionState {
     pub(crate) fn unknown_notification(
         &mut self,
         alloc: Global,

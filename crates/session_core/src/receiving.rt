@@ -14,7 +14,7 @@ ghost use Rattle.library_reading.specs.Asked.{AsksOver};
 
 use crate::bodies::Bodies;
 use crate::replies;
-use crate::standing::Standing;
+use crate::session_state::SessionState;
 use crate::state::Stage;
 use hl_base::{Ledger, OutOfMemory, Steps};
 use io_edge::Library;
@@ -24,7 +24,7 @@ use serde_json::Value;
 use std::alloc::Global;
 use waiting_requests::Question;
 
-impl Standing {
+impl SessionState {
     /// Takes one message, and answers what is written for it; then the requests that wait are answered, if no program is queued.
     pub(crate) fn message<B: Library, L: Ledger>(
         &mut self,

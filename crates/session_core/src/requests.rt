@@ -6,7 +6,7 @@ ghost use Rattle.session_core.specs.Step.{Acts};
 
 use crate::bodies::Bodies;
 use crate::replies;
-use crate::standing::Standing;
+use crate::session_state::SessionState;
 use crate::state::Stage;
 use hl_base::{OutOfMemory, Text};
 use lsp_messages::{Head, Id};
@@ -35,7 +35,7 @@ pub(crate) fn out_of_place(alloc: Global, id: Id) -> Result<Bodies, OutOfMemory>
     Bodies::one(alloc, refusal)
 }
 
-impl Standing {
+impl SessionState {
     /// A request or a notification of no known method.
     pub(crate) fn unknown_method(
         &mut self,

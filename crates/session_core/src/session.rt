@@ -2,14 +2,14 @@
 ghost use Rattle.std.specs.Prelude.{◌≡◌, ◌≢◌, ◌≤◌, [], IfOk, OnOk, OnErr, MatchBool};
 ghost use Rattle.std.specs.Str.{chars};
 ghost use Rattle.session_core.specs.Figures.{figures_named, summary_named, global_named};
-ghost use Rattle.session_core.specs.Held.{beginning, phase_of, Comes, ComesOver};
+ghost use Rattle.session_core.specs.SessionView.{beginning, connection_of, ComesTo, ComesOver};
 ghost use Rattle.session_core.specs.Inside.{Adds, HearsOver, KeepsOutput};
 ghost use Rattle.session_core.specs.Message.{event, message};
 ghost use Rattle.session_core.specs.Turn.{turn};
 
-use crate::standing::Standing;
+use crate::session_state::SessionState;
 use crate::state::Stage;
-use crate::{Phase, SessionFault};
+use crate::{Connection, SessionFault};
 use hl_base::{Ledger, Name, OutOfMemory, Steps};
 use io_edge::Library;
 use program_names::program_assembly::{Figures, KeptExpansions, Summary};
@@ -21,7 +21,7 @@ use std::mem;
 /// until that is taken. Contracts see the state, the bytes that are not taken yet, and whether memory has run out.
 #[derive(Drop)]
 pub struct Session {
-    standing: Standing,
+    session_state: SessionState,
     output: Vec<u8>,
     spent: bool,
     // Given out in place of the output: a `Vec` that takes no memory needs an allocator all the same.
@@ -30,22 +30,22 @@ pub struct Session {
 
 impl Model for Session {
     ghost use Rattle.session_core.specs.Codes.{held_code};
-    ghost use Rattle.session_core.specs.Held.{Held};
+    ghost use Rattle.session_core.specs.SessionView.{SessionView};
 
-    ghost Value = { Held };
+    ghost Value = { SessionView };
 
     ghost coded = { held_code };
 
-    ghost view = { λ s. record { state = s.standing; output = s.output.items; spent = s.spent } };
+    ghost view = { λ s. record { state = s.session_state; output = s.output.items; spent = s.spent } };
 }
 
 /// How a session stands to its client.
-fn phase_of(standing: &Standing) -> Phase
-    ensures { result ≡ phase_of standing.now }
+fn connection_of(session_state: &SessionState) -> Connection
+    ensures { result ≡ connection_of session_state.now }
 {
-    match standing.stage() {
-        Stage::Ended { closed } => Phase::Exit(closed),
-        _ => Phase::Running,
+    match session_state.stage() {
+        Stage::Ended { closed } => Connection::Exit(closed),
+        _ => Connection::Running,
     }
 }
 
@@ -55,7 +55,7 @@ impl Session {
         ensures { IfOk result (λ session. session ≡ beginning budget) }
     {
         Ok(Session {
-            standing: Standing::new(alloc, budget),
+            session_state: SessionState::new(alloc, budget),
             output: Vec::new(alloc),
             spent: false,
             alloc,
@@ -73,7 +73,7 @@ impl Session {
         ensures heard { HearsOver (event self.old.state body.now) result (B.calls library.old) (B.calls library.new) self.old self.new }
         ensures later { B.faults library.old ≤ B.faults library.new }
     {
-        let bodies = self.standing.message(alloc, body, library, steps)?;
+        let bodies = self.session_state.message(alloc, body, library, steps)?;
         bodies.write_to(alloc, &mut self.output)
     }
 
@@ -86,7 +86,7 @@ impl Session {
         ensures ok { OnOk result (Adds (turn self.old.state) self.old self.new) }
         ensures err { OnErr result (KeepsOutput self.old self.new) }
     {
-        let bodies = self.standing.turn(alloc, steps)?;
+        let bodies = self.session_state.turn(alloc, steps)?;
         bodies.write_to(alloc, &mut self.output)
     }
 
@@ -98,16 +98,16 @@ impl Session {
         body: &[u8],
         library: &mut B,
         steps: &mut Steps<L>,
-    ) -> Result<Phase, SessionFault>
+    ) -> Result<Connection, SessionFault>
         ensures comes { ComesOver result (message self.old.state body.now) (B.calls library.old) (B.calls library.new) self.old self.new }
-        ensures phase { IfOk result (λ phase. phase ≡ phase_of self.new.state) }
+        ensures connection { IfOk result (λ connection. connection ≡ connection_of self.new.state) }
         ensures later { B.faults library.old ≤ B.faults library.new }
     {
         if self.spent {
             return Err(SessionFault::Spent);
         }
         match self.add_message(alloc, body, library, steps) {
-            Ok(()) => Ok(phase_of(&self.standing)),
+            Ok(()) => Ok(connection_of(&self.session_state)),
             Err(_) => {
                 self.spent = true;
                 Err(SessionFault::OutOfMemory)
@@ -119,7 +119,7 @@ impl Session {
     pub fn has_work(&self) -> bool
         ensures { MatchBool result (self.now.state.queue ≢ []) (self.now.state.queue ≡ []) }
     {
-        self.standing.has_work()
+        self.session_state.has_work()
     }
 
     /// Makes one Turn: the list of the first queued program is published, unless it was already. The library is asked nothing.
@@ -129,7 +129,7 @@ impl Session {
         steps: &mut Steps<L>,
     ) -> Result<(), SessionFault>
         requires work { self.old.state.queue ≢ [] }
-        ensures comes { Comes result (turn self.old.state) self.old self.new }
+        ensures comes { ComesTo result (turn self.old.state) self.old self.new }
     {
         if self.spent {
             return Err(SessionFault::Spent);
@@ -164,7 +164,7 @@ impl Session {
     {
         let mut nothing = KeptExpansions::new(alloc);
         match self
-            .standing
+            .session_state
             .figures_named(alloc, uri, &mut nothing, steps)?
         {
             Some(figures) => Ok(Some(figures.summary)),
@@ -185,7 +185,7 @@ impl Session {
     {
         let mut nothing = KeptExpansions::new(alloc);
         match self
-            .standing
+            .session_state
             .figures_named(alloc, uri, &mut nothing, steps)?
         {
             Some(figures) => Ok(figures.global(name)),
@@ -204,6 +204,6 @@ impl Session {
         ensures figures { IfOk result (λ figures. figures ≡ figures_named self.old.state (chars uri.now)) }
         ensures same { self.new ≡ self.old }
     {
-        self.standing.figures_kept(alloc, uri, steps)
+        self.session_state.figures_kept(alloc, uri, steps)
     }
 }

@@ -11,7 +11,7 @@ ghost use Rattle.session_core.specs.Step.{IsEffect};
 use crate::bodies::Bodies;
 use crate::programs::{forget_members, is_program_shown, is_queued, last_list, queue_programs};
 use crate::replies;
-use crate::standing::Standing;
+use crate::session_state::SessionState;
 use crate::state::LastList;
 use document_store::{Document, DocumentStore, MOST_DOCUMENTS};
 use hl_base::{OutOfMemory, PathId};
@@ -47,7 +47,7 @@ pub(crate) fn open_programs(
     Ok(programs)
 }
 
-impl Standing {
+impl SessionState {
     /// Takes leave of a document, if it is no program and a list of it was published.
     fn leave(
         &self,

@@ -15,8 +15,8 @@ use crate::bodies::Bodies;
 use crate::lists::Surroundings;
 use crate::programs::document_at;
 use crate::requests::{out_of_place, too_early};
+use crate::session_state::SessionState;
 use crate::settling::open_programs;
-use crate::standing::Standing;
 use crate::state::Stage;
 use document_store::DocumentStore;
 use group_members::MemberIndex;
@@ -55,7 +55,7 @@ fn answer_over(
     Ok(Bodies::of(bodies))
 }
 
-impl Standing {
+impl SessionState {
     /// A request on symbols: it waits behind the others.
     pub(crate) fn ask(
         &mut self,

@@ -19,7 +19,7 @@ use crate::bodies::Bodies;
 use crate::lifecycle::folders_in;
 use crate::programs::{forget_members, queue_programs};
 use crate::replies;
-use crate::standing::Standing;
+use crate::session_state::SessionState;
 use document_store::{DocumentStore, MOST_DOCUMENTS, documents_have_numbers};
 use file_uri::{UriFault, file_path};
 use hl_base::{OutOfMemory, Text};
@@ -108,7 +108,7 @@ fn is_configuration(alloc: Global, root: &str, path: &str) -> Result<bool, OutOf
     Ok(is_path(path, &groups) || is_path(path, &programs))
 }
 
-impl Standing {
+impl SessionState {
     /// Whether a path is that of a file of a library folder whose name spells a symbol.
     fn is_member_file(&self, path: &str) -> bool
         ensures { result ≡ messages.is_member_file (libraries self.now) (chars path.now) }

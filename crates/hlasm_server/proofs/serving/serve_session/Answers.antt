@@ -1,6 +1,6 @@
 use Rattle.std.proofs.Common.{ℕ, ◌≤◌, List, Option, true, false, refl, sym, ◌∙◌, subst, arith}
 use Rattle.io_edge.specs.Told.{Gives}
-use Rattle.bulk_session.specs.Held.{Held}
+use Rattle.bulk_session.specs.SessionView.{SessionView}
 use Rattle.hlasm_server.proofs.ServeLaws.{IsServing, serving_begins, nothing_asked, serving_goes_on, between_at_first, frame_falls, ends_with_input, ends_with_read_fault, ends_without_memory, ends_with_exit, ends_with_bad_start, ends_with_limit, ends_stopped, HasStatusCause-stopped, status_of-is_no_BadWords}
 use Rattle.hlasm_server.proofs.serving.serve_session.Goals as goal
 
@@ -15,7 +15,7 @@ loop-body-init g c =
     let read = g.S.Source.faults c.args.source.now in
     let written = g.K.Sink.faults c.args.sink.now in
     record {
-      serving = subst (λ (z : Held). IsServing budget left left held held waits waits calls calls read read written written z 0 c.args.reader.now) (sym c.requires.session)
+      serving = subst (λ (z : SessionView). IsServing budget left left held held waits waits calls calls read read written written z 0 c.args.reader.now) (sym c.requires.session)
           (serving_begins budget left held waits calls read written c.args.reader.now at_first.0 at_first.1);
       buffer = refl;
       library = omega arith;

@@ -1,5 +1,5 @@
 use Rattle.std.proofs.Common.{refl, subst}
-use Rattle.session_core.specs.Held.{Held}
+use Rattle.session_core.specs.SessionView.{SessionView}
 use Rattle.session_core.specs.Inside.{HearsOver}
 use Rattle.session_core.specs.Message.{event}
 use Rattle.session_core.proofs.OverLaws.{hears_written}
@@ -13,8 +13,8 @@ returns-clause-heard g c =
     let new = c.message.new.library in
     let calls = g.B.Library.calls in
     let faults = g.B.Library.faults in
-    let before : Held = record { state = fields.standing; output = fields.output.items; spent = fields.spent } in
-    let after : Held = record { state = c.message.new.self; output = c.write_to.new.output.items; spent = fields.spent } in
-    subst (λ (z : Held). HearsOver (event z.state body) c.write_to.result (calls old) (calls new) z after) c.self.view_is
+    let before : SessionView = record { state = fields.session_state; output = fields.output.items; spent = fields.spent } in
+    let after : SessionView = record { state = c.message.new.self; output = c.write_to.new.output.items; spent = fields.spent } in
+    subst (λ (z : SessionView). HearsOver (event z.state body) c.write_to.result (calls old) (calls new) z after) c.self.view_is
     (hears_written (event before.state body) c.in_ok-bodies.bodies c.write_to.result (calls old) (calls new) (faults old) (faults new)
     before after c.in_ok-bodies.ensures c.write_to.ensures.ok c.write_to.ensures.err refl)

@@ -1,6 +1,0 @@
-use Rattle.session_core.proofs.SettlingLaws.{IsLeaving}
-use Rattle.session_core.proofs.standing.Standing.farewells.Given as goal
-
--- what is written so far, and what is left, are all
-abbrev pub invariant-loop-index : goal.invariant-loop-index
-invariant-loop-index l = IsLeaving l.self l.bodies l.index

@@ -1,4 +1,0 @@
-use Rattle.session_core.proofs.standing.Standing.queue_all.Goals as goal
-
-pub queue_programs-requires : goal.queue_programs-requires
-queue_programs-requires c = record { few = c.self.invariant.sound.few }
