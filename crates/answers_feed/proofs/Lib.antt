@@ -1,4 +1,3 @@
 pub mod ListLaws
 pub mod ShelfLaws
 pub mod SiteLaws
-pub mod WidthLaws

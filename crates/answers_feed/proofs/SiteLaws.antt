@@ -1,7 +1,7 @@
 -- What decides where the frames of a program stand.
 use Rattle.std.proofs.Common.{◌≡◌, ◌∙◌, ℕ, zero, suc, ◌+◌, ◌<◌, Bool, true, false, not, cond, List, [], ◌∷◌, ◌++◌, length, map, filter, find, Option, Some, None, refl, sym, ap, arith}
 use Rattle.std.proofs.Math.Path.{fun_ext}
-use Rattle.std.specs.Prelude.{ℤ, position, nat_lt, slice_get, slice_index_or, Contains}
+use Rattle.std.specs.Prelude.{ℤ, position, nat_lt, slice_get, slice_index_or, unwrap_or, Contains}
 use Rattle.std.specs.List.{list_any, position_or_len}
 use Rattle.std.specs.Option.{option_and_then, option_map, option_map_or}
 use Rattle.std.specs.Str.{bytes_eq}
@@ -13,7 +13,16 @@ use Rattle.document_store.specs.Changes.{with_document, with_text, without}
 use Rattle.library_folders.specs.declared.folders.Folder.{Folder}
 use Rattle.library_folders.specs.Folders.{is_member}
 use Rattle.answers_feed.specs.Laws.{IsSameLibrary}
-use Rattle.answers_feed.specs.Sites.{Site, site_told, uri_at, member_site, shelf, site_at, own_site, sites_of}
+use Rattle.text_sites.specs.Sites.{site_told, uri_at, no_site, site_at as site_shown}
+use Rattle.answers_feed.specs.Sites.{member_site, shelf, site_at, IsOpen, own_site, sites_of}
+
+-- ---- the site of a program
+
+-- the text that is shown of an open document is its own, under its own URI
+pub shown_own : (store : Store) (number : ℕ) (document : OpenDocument) → IsOpen store number document → site_shown store number ≡ own_site document
+shown_own store number document is =
+    ap (λ (found : Option (List ℕ)). unwrap_or (option_and_then (λ path. site_told (uri_at store path) (present store path)) found) no_site) is.path
+    ∙ ap (λ (opens : Option OpenDocument). unwrap_or (site_told (option_map_or (λ (d : OpenDocument). d.uri) opens (uri_of document.path)) (present_in store document.path opens)) no_site) is.is_open
 
 -- ---- paths with further ones behind them
 

@@ -1,9 +1,8 @@
 -- The list of diagnostics that an editor shows of a text (LSP 3.17, "PublishDiagnostics Notification"); its codes and
 -- places are this project's.
-use Rattle.std.specs.Prelude.{◌==◌, ◌/◌, ◌%◌, ℕ, List, [], ◌∷◌, ◌++◌, codes, drop, map, take, slice_index_or, unwrap_or, if◌then◌else◌}
+use Rattle.std.specs.Prelude.{◌==◌, ◌/◌, ◌%◌, ℕ, List, [], ◌∷◌, ◌++◌, codes, drop, map, take, unwrap_or, if◌then◌else◌}
 use Rattle.std.specs.Fmt.{decimal}
 use Rattle.std.specs.Str.{chars}
-use Rattle.hl_base.specs.Texts.{lines, units}
 use Rattle.hl_base.specs.declared.note.Note.{Note}
 use Rattle.hl_base.specs.declared.note.Severity.{Severity}
 use Rattle.hl_base.specs.declared.note.Severity.TheVariants.{Error, Warning, Information}
@@ -14,7 +13,8 @@ use Rattle.lsp_messages.specs.declared.outgoing.Span.{Span}
 use Rattle.lsp_messages.specs.declared.outgoing.Diagnostic.{Diagnostic}
 use Rattle.lsp_messages.specs.declared.outgoing.Relation.{Relation}
 use Rattle.note_rows.specs.Table.{is_at_start}
-use Rattle.answers_feed.specs.Sites.{Site}
+use Rattle.text_sites.specs.Sites.{Site}
+use Rattle.text_sites.specs.Spans.{line_span}
 
 -- the letter H and three digits
 abbrev pub numbered : ℕ → List ℕ
@@ -29,22 +29,14 @@ abbrev pub line_of : List Frame → ℕ
 line_of [] = 0
 line_of (frame ∷ inner) = frame.origin.line
 
--- so many UTF-16 units of a line, from its beginning
-abbrev pub span_in : (line width : ℕ) → Span
-span_in line width = record { start = record { line = line; character = 0 }; end = record { line = line; character = width } }
-
--- the width of the columns 1 to 71 of a line, in UTF-16 units
-abbrev pub width_of : List ℕ → ℕ
-width_of line = units (take 71 line)
-
--- the columns 1 to 71 of a line of a text
-abbrev pub line_span : (text : List ℕ) → (line : ℕ) → Span
-line_span text line = span_in line (width_of (slice_index_or (lines text) line []))
+-- where a line begins
+abbrev pub line_start : (line : ℕ) → Span
+line_start line = record { start = record { line = line; character = 0 }; end = record { line = line; character = 0 } }
 
 -- Where a note is shown: columns 1 to 71 of the first line of its statement of open code; a missing END where the last
 -- line begins.
 abbrev pub span_of_note : (text : List ℕ) → Note → Span
-span_of_note text note = if is_at_start note then span_in (line_of note.stack) 0 else line_span text (line_of note.stack)
+span_of_note text note = if is_at_start note then line_start (line_of note.stack) else line_span text (line_of note.stack)
 
 -- the number of a severity (LSP 3.17, `DiagnosticSeverity`)
 abbrev pub severity_number : Severity → ℕ

@@ -3,7 +3,7 @@ use Rattle.std.specs.Prelude.{◌≡◌, ℕ, false, true, List, ◌++◌, Conta
 use Rattle.document_store.specs.Store.{Store, present}
 use Rattle.library_folders.specs.declared.folders.Folder.{Folder}
 use Rattle.library_folders.specs.Folders.{is_member}
-use Rattle.answers_feed.specs.Sites.{uri_at}
+use Rattle.text_sites.specs.Sites.{uri_at}
 
 -- A store has the members of another: paths keep their numbers, the further paths stand in no library folder, and at each path
 -- of a library folder the same is present, under the same URI.

@@ -1,24 +1,10 @@
 -- Where the frames of a program stand: in the program itself, or in a member (this project).
-use Rattle.std.specs.Prelude.{◌≡◌, ℕ, Bool, ◌==◌, List, [], Option, Some, None, slice_get, unwrap_or, if◌then◌else◌}
-use Rattle.std.specs.Option.{option_and_then, option_map_or}
-use Rattle.file_uri.specs.Paths.{uri_of}
-use Rattle.document_store.specs.Store.{Store, OpenDocument, File, Readable, Unreadable, document_of, present}
+use Rattle.std.specs.Prelude.{◌≡◌, ℕ, ◌==◌, List, Option, Some, None, slice_get, unwrap_or, if◌then◌else◌}
+use Rattle.std.specs.Option.{option_and_then}
+use Rattle.document_store.specs.Store.{Store, OpenDocument, document_of, present}
 use Rattle.library_folders.specs.declared.folders.Folder.{Folder}
 use Rattle.library_folders.specs.Folders.{is_member}
-
--- a text, and the URI under which the client knows it
-pub record Site : Type 0 where
-  pub uri : List ℕ
-  pub text : List ℕ
-
--- the URI of a path: the one with which its document was opened, else that of its file
-abbrev pub uri_at : Store → (path : List ℕ) → List ℕ
-uri_at store path = option_map_or (λ document. document.uri) (document_of store path) (uri_of path)
-
-abbrev pub site_told : (uri : List ℕ) → Option File → Option Site
-site_told uri None = None
-site_told uri (Some Unreadable) = None
-site_told uri (Some (Readable text)) = Some (record { uri = uri; text = text })
+use Rattle.text_sites.specs.Sites.{Site, uri_at, site_told, no_site}
 
 -- the site of a path that stands in a library folder
 abbrev pub member_site : List Folder → Store → (path : List ℕ) → Option Site
@@ -30,7 +16,7 @@ shelf folders store number = option_and_then (member_site folders store) (slice_
 
 -- the site of a number, where that of the program is known: a frame stands in the program itself or in a member
 abbrev pub site_at : (program : ℕ) → Site → (ℕ → Option Site) → (number : ℕ) → Site
-site_at program own members number = if number == program then own else unwrap_or (members number) (record { uri = []; text = [] })
+site_at program own members number = if number == program then own else unwrap_or (members number) no_site
 
 -- a document is the one that is open at the path of a number
 pub record IsOpen (store : Store) (number : ℕ) (document : OpenDocument) : Type 0 where

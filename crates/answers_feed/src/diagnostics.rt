@@ -5,16 +5,16 @@ ghost use Rattle.answers_feed.specs.Diagnostics as shown;
 ghost use Rattle.answers_feed.specs.Kept.{members_in};
 ghost use Rattle.answers_feed.specs.Sites.{IsOpen, site_at, sites_of};
 
-use crate::measured::{MeasuredSite, span_in};
 use crate::shelf::{Shelf, relation_in};
 use crate::sites::program_site;
 use crate::wording::{code_text, severity_number};
 use document_store::DocumentStore;
-use hl_base::{Frame, Note, OutOfMemory, PathId};
+use hl_base::{Frame, Note, OutOfMemory, PathId, Position};
 use library_folders::Folder;
 use lsp_messages::{Diagnostic, Diagnostics, Relation, Relations, Span};
 use note_rows::stands_at_start;
 use std::alloc::Global;
+use text_sites::TextSite;
 
 /// At most so many notes of a document are sent.
 const MOST_PUBLISHED: usize = 1000;
@@ -29,13 +29,21 @@ fn line_of(stack: &[Frame]) -> u32
     }
 }
 
+/// Where a line begins.
+fn line_start(line: u32) -> Span
+    ensures { result ≡ shown.line_start line }
+{
+    let start = Position { line, character: 0 };
+    Span { start, end: start }
+}
+
 /// Where a note of a program is shown.
-fn span_of_note(own: &MeasuredSite<'_>, note: &Note) -> Span
+fn span_of_note(own: &TextSite<'_>, note: &Note) -> Span
     ensures { result ≡ shown.span_of_note own.now.text note.now }
 {
     let line = line_of(note.stack.as_slice());
     if stands_at_start(note) {
-        span_in(line, 0)
+        line_start(line)
     } else {
         own.line_span(line)
     }
@@ -45,7 +53,7 @@ fn span_of_note(own: &MeasuredSite<'_>, note: &Note) -> Span
 fn relation_of(
     alloc: Global,
     program: PathId,
-    own: &MeasuredSite<'_>,
+    own: &TextSite<'_>,
     members: &mut Shelf<'_>,
     frame: &Frame,
 ) -> Result<Relation, OutOfMemory>
@@ -63,7 +71,7 @@ fn relation_of(
 fn relations_of(
     alloc: Global,
     program: PathId,
-    own: &MeasuredSite<'_>,
+    own: &TextSite<'_>,
     members: &mut Shelf<'_>,
     frames: &[Frame],
 ) -> Result<Relations, OutOfMemory>
@@ -91,7 +99,7 @@ fn inner_frames(stack: &[Frame]) -> &[Frame]
 fn diagnostic_of_note(
     alloc: Global,
     program: PathId,
-    own: &MeasuredSite<'_>,
+    own: &TextSite<'_>,
     members: &mut Shelf<'_>,
     note: &Note,
 ) -> Result<Diagnostic, OutOfMemory>

@@ -7,7 +7,6 @@
 
 mod diagnostics;
 pub mod laws;
-mod measured;
 mod shelf;
 mod sites;
 mod wording;

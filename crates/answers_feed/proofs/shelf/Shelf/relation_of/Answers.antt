@@ -14,6 +14,6 @@ returns-in-Some-clause-relation c =
 
 pub invariant_of-self : goal.invariant_of-self
 invariant_of-self c = record {
-  known = kept_after c.insert.result (shelf c.args.self.now.folders.now c.args.self.now.store.now.store) c.args.self.now.measured c.insert.new.self c.args.frame.now.origin.path.0 c.in_ok-site.site
+  known = kept_after c.insert.result (shelf c.args.self.now.folders.now c.args.self.now.store.now.store) c.args.self.now.sites c.insert.new.self c.args.frame.now.origin.path.0 c.in_ok-site.site
       c.args.self.now.known c.in_ok-site.ensures c.insert.ensures.updates c.insert.ensures.err;
 }
