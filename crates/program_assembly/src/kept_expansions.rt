@@ -9,14 +9,12 @@ ghost use Rattle.program_assembly.specs.Figures.{figures_of};
 ghost use Rattle.program_assembly.specs.KeptRoots.{AreKept, owners_without};
 
 use crate::assembled_figures::figures_in;
-use crate::column_notes::columns_of_file;
 use crate::report::report_of;
 use crate::{Figures, assemble, assemblies_are_plain};
 use expansion_memo::Memo;
 use expansion_step::runs_are_expansions;
 use hl_base::{Ledger, Notes, OutOfMemory, PathId, Steps, TextId};
 use macro_expand::{Expander, HlasmLanguage};
-use macro_library::MemberFile;
 use program_world::ProgramWorld;
 use std::alloc::Global;
 use std::marker::Model;
@@ -103,9 +101,7 @@ impl KeptExpansions {
             ≡ assembly_notes path.0 (chars (rc_str_bytes text.now)) (chars parm.now) (P.members present.now) budget) }
     {
         runs_are_expansions::<HlasmLanguage, ProgramWorld<P>>();
-        let file = MemberFile::of(alloc, path, text.clone()?)?;
-        let columns = columns_of_file(alloc, &file)?;
-        let machine = Expander::new(HlasmLanguage::having_read(file));
+        let machine = Expander::new(HlasmLanguage);
         let KeptExpansions {
             mut memo,
             mut arena,
@@ -113,8 +109,7 @@ impl KeptExpansions {
             made,
         } = self.taken(alloc);
         let report = report_of(
-            &machine, alloc, path, text, columns, parm, present, &mut memo, &mut arena, budget,
-            steps,
+            &machine, alloc, path, text, parm, present, &mut memo, &mut arena, budget, steps,
         )?;
         let made = made.saturating_add(u64::from(arena.points(report.root)));
         retire_root(&mut memo, &mut arena, root);
@@ -144,7 +139,7 @@ impl KeptExpansions {
             ≡ figures_of path.0 (text_of (P.texts present.now) text.0) (chars parm.now) (P.members present.now) budget) }
     {
         assemblies_are_plain::<P>();
-        let expander = Expander::new(HlasmLanguage::new());
+        let expander = Expander::new(HlasmLanguage);
         let KeptExpansions {
             mut memo,
             mut arena,

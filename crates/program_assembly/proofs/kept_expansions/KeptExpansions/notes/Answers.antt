@@ -1,28 +1,9 @@
-use Rattle.std.proofs.Common.{◌≡◌, ◌-◌, length, ap, ◌∙◌, List, ℕ}
-use Rattle.std.specs.Str.{chars}
-use Rattle.hl_base.specs.declared.place.PathId.{PathId}
-use Rattle.hl_base.specs.Texts.{lines}
-use Rattle.macro_library.specs.Files.{File}
-use Rattle.program_assembly.specs.ColumnNotes.{column_notes}
 use Rattle.program_assembly.proofs.OpenCode.{report_is_plain}
 use Rattle.program_assembly.proofs.KeptRootLaws.{kept_with_next, last_is_owned}
 use Rattle.program_assembly.proofs.kept_expansions.KeptExpansions.notes.Goals as goal
 
--- a file is its path and its text
-file-of : {file : File} {path : PathId} {text : List ℕ} → file.path ≡ path → file.text ≡ text → file ≡ record { path = path; text = text }
-file-of path text = cc
-
 pub returns : goal.returns
 returns g c = report_is_plain c.runs_are_expansions.ensures _ _ _ _ _ _ _ _ c.in_ok-report.ensures.report
-
-pub report_of-requires-clause-columns : goal.report_of-requires-clause-columns
-report_of-requires-clause-columns g c =
-    c.in_ok-columns.ensures.notes
-    ∙ ap (λ (file : File). column_notes file.path.0 file.text) (file-of c.in_ok-file.ensures.path (c.in_ok-file.ensures.text ∙ ap chars c.in_ok-clone.ensures.cases))
-
-pub report_of-requires-clause-last : goal.report_of-requires-clause-last
-report_of-requires-clause-last g c =
-    c.in_ok-columns.ensures.last ∙ ap (λ text. length (lines text) - 1) (c.in_ok-file.ensures.text ∙ ap chars c.in_ok-clone.ensures.cases)
 
 pub retire_root-requires : goal.retire_root-requires
 retire_root-requires g c = record {
