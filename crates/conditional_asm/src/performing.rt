@@ -1,7 +1,7 @@
 //! The effect of one statement.
 //!
 //! Each call but `perform` and `effect` tells an outcome, as those of `cond_expr::evaluate`.
-ghost use Rattle.std.specs.Prelude.{◌≡◌, ◌∷◌, ◌++◌, [], IfOk, OnOk};
+ghost use Rattle.std.specs.Prelude.{◌≡◌, ◌∷◌, ◌++◌, [], IfOk};
 ghost use Rattle.std.specs.Option.{option_map_or};
 ghost use Rattle.std.specs.Str.{chars};
 ghost use Rattle.instruction_table.specs.Operations.{operation_of};
@@ -38,22 +38,13 @@ use statement_reading::{
 };
 use std::alloc::Global;
 
-/// The note of fields that cannot be read behind that of operands that end within quotes.
-fn say_unread(alloc: Global, at: u32, open_end: bool, notes: &mut Notes) -> Result<(), OutOfMemory>
-    ensures { OnOk result (notes.new ≡ notes.old ++ (open_quote open_end ++ troubles.unreadable at ∷ [])) }
-{
-    judge(alloc, open_end, notes)?;
-    notes.push(trouble::unreadable(alloc, at)?)
-}
-
-/// This act, and those notes.
+/// This act, and the note of fields that cannot be read behind that of operands that end within quotes.
 fn unread(alloc: Global, act: Act, at: u32, open_end: bool, notes: &mut Notes) -> Result<Act, Stop>
     ensures { Tells (Gives act (open_quote open_end ++ troubles.unreadable at ∷ [])) notes.old notes.new result }
 {
-    match say_unread(alloc, at, open_end, notes) {
-        Ok(()) => Ok(act),
-        Err(OutOfMemory) => Err(Stop::OutOfMemory),
-    }
+    judge(alloc, open_end, notes)?;
+    notes.push(trouble::unreadable(alloc, at)?)?;
+    Ok(act)
 }
 
 /// An operation that is left out.
@@ -208,9 +199,7 @@ fn operate_now<Q: Lookups>(
     match Name::read(op.as_str()) {
         Some(name) => {
             let k = read_now(alloc, v, name, op)?;
-            let done = operate(alloc, &k, q, notes);
-            drop(k);
-            done
+            operate(alloc, &k, q, notes)
         }
         None => complain(alloc, &op, v.open_end, notes),
     }
@@ -276,11 +265,7 @@ pub fn effect<Q: Lookups>(alloc: Global, s: &Statement, q: &Q) -> Result<Effect,
     ensures { IfOk result (λ e. e ≡ effects.shown (effects.effect_of (readings.read_statement s.now) (Q.told q.now))) }
 {
     match ReadStatement::of(alloc, s) {
-        Ok(read) => {
-            let done = perform(alloc, &read, q);
-            drop(read);
-            done
-        }
+        Ok(read) => perform(alloc, &read, q),
         Err(OutOfMemory) => Err(OutOfMemory),
     }
 }

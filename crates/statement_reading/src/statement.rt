@@ -95,11 +95,10 @@ fn read_named(
     let meaning = operation(&name);
     let task = task_of(&name, meaning);
     let open_end = ends_quoted(operands)?;
-    let op = Text::of(alloc, op)?;
     let body = read_body(alloc, task, label, operands)?;
     Ok(Instruction::Known(Known {
         name,
-        op,
+        op: Text::of(alloc, op)?,
         task,
         lasting: is_lasting(meaning),
         open_end,
