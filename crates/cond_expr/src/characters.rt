@@ -3,7 +3,7 @@
 //!
 //! Each call tells an outcome: the text, with its notes after those that were there. Only want of memory is an `Err`,
 //! after which the notes are of no use.
-ghost use Rattle.std.specs.Prelude.{◌≡◌, IfOk, length, take, drop, string_bytes};
+ghost use Rattle.std.specs.Prelude.{◌≡◌, IfOk, take, drop, string_bytes};
 ghost use Rattle.std.specs.Str.{chars};
 ghost use Rattle.cond_expr.specs.Outcome.{Tells};
 ghost use Rattle.cond_expr.specs.Characters as characters;
@@ -11,17 +11,11 @@ ghost use Rattle.cond_expr.specs.Characters as characters;
 use crate::stop::Stop;
 use crate::trouble;
 use hl_base::{Notes, OutOfMemory, Text};
+use operand_list::hlasm_statements::text::character_count;
 use std::alloc::{AllocError, Global};
 
 /// The greatest length of a character value, in characters.
 const LONGEST_VALUE: usize = 1024;
-
-/// How many characters a text has.
-pub fn character_count(text: &Text) -> usize
-    ensures { result ≡ length text.now }
-{
-    text.as_str().chars().count()
-}
 
 /// So many characters of a text behind those before.
 fn middle(alloc: Global, text: &str, before: usize, count: usize) -> Result<String, AllocError>
@@ -42,7 +36,7 @@ fn middle_text(alloc: Global, text: &Text, before: usize, count: usize) -> Resul
 pub fn limited(alloc: Global, text: Text, notes: &mut Notes) -> Result<Text, Stop>
     ensures { Tells (characters.limited text) notes.old notes.new result }
 {
-    if character_count(&text) <= LONGEST_VALUE {
+    if character_count(text.as_str()) <= LONGEST_VALUE {
         return Ok(text);
     }
     let cut = middle_text(alloc, &text, 0, LONGEST_VALUE)?;
@@ -62,7 +56,7 @@ fn copies(alloc: Global, count: usize, text: &Text) -> Result<Text, OutOfMemory>
     ensures { IfOk result (λ whole. characters.limited whole ≡ characters.limited (characters.repeated count text.now)) }
 {
     let mut whole = Text::new(alloc);
-    let length = character_count(text);
+    let length = character_count(text.as_str());
     if length == 0 {
         return Ok(whole);
     }
@@ -102,7 +96,7 @@ fn part(
     ensures { Tells (characters.part text.now before count) notes.old notes.new result }
 {
     if let Some(before) = before
-        && (before < character_count(text) || count == 0)
+        && (before < character_count(text.as_str()) || count == 0)
     {
         return Ok(middle_text(alloc, text, before, count)?);
     }
@@ -134,7 +128,7 @@ fn left_behind(text: &Text, before: Option<usize>) -> usize
     ensures { result ≡ characters.left_behind text.now before }
 {
     match before {
-        Some(before) => character_count(text).saturating_sub(before),
+        Some(before) => character_count(text.as_str()).saturating_sub(before),
         None => 0,
     }
 }

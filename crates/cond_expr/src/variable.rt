@@ -8,13 +8,13 @@ ghost use Rattle.hl_base.specs.declared.note.Note.{Note};
 ghost use Rattle.cond_expr.specs.Terms as terms;
 ghost use Rattle.cond_expr.specs.Variables as variables;
 
-use crate::characters::character_count;
 use crate::lookups::{Found, Lookups};
 use crate::stop::Stop;
 use crate::term::{element_count, term};
 use crate::{symbol, trouble};
 use expression_grammar::{Attribute, Reference};
 use hl_base::{Name, Notes, OutOfMemory, SetValue, Text};
+use operand_list::hlasm_statements::text::character_count;
 use std::alloc::Global;
 
 /// A number in decimal, with a minus sign below 0.
@@ -71,7 +71,7 @@ pub fn count_found(alloc: Global, name: &Name, found: Found, notes: &mut Notes) 
     ensures { Tells (variables.count_found name.now found) notes.old notes.new result }
 {
     match spelled(alloc, name, found, notes)? {
-        Some(text) => symbol::counted(alloc, character_count(&text), notes),
+        Some(text) => symbol::counted(alloc, character_count(text.as_str()), notes),
         None => Ok(0),
     }
 }
