@@ -3,9 +3,8 @@
 //!
 //! `read_lsp` tells which message a value is, or the first reason why it is none; `is_response` tells an answer to a
 //! request of ours, of which there are none. `LspOut::text` is the body of a message that is written, and `answer_text`
-//! that of the reply to a request on symbols. Lists of reports are compared by `==`, member by member. The crate knows
-//! nothing of frames, of the order in which messages may come, of what a message does, or of what a debugger's message
-//! says.
+//! that of the reply to a request on symbols. `==` compares lists of reports, member by member, as they are shown. The crate knows nothing of frames, of the order in which messages may
+//! come, of what a message does, or of what a debugger's message says.
 //!
 //! Its one contract in words: a value is read as the standard's shapes say, members in the order in which the shapes
 //! name them, lists from the first element on, so that the first member that is missing or wrong is the one that is
