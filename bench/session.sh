@@ -101,11 +101,10 @@ copy = time.perf_counter() - start
 few = min(run(served, one_message("few", changes(1, True)))[2] for _ in range(3))
 unopened = "file:///w/unopened.hlasm"
 least = min(run(served, one_message("least", changes(1, True, unopened)))[2] for _ in range(3))
-read = min(run(served, one_message("read", changes(10000, True, unopened)))[2] for _ in range(3))
-print(f"10000 changes of one message read, and none made: {(read - least) * 1000:.0f} ms, "
-      f"{(read - least) / (copy / 1000):.0f} copies of 800 KB")
+# Those of the document that is not open are read, and none is made; what the others take beyond that is their making.
 for name, downwards in (("downwards", True), ("upwards", False)):
-    many = min(run(served, one_message("many", changes(10000, downwards)))[2] for _ in range(3))
-    print(f"10000 changes in one message, {name}, in 800 KB: {(many - few) * 1000:.0f} ms with the reading of the message, "
-          f"{(many - few) / (copy / 1000):.0f} copies of the text")
+    read = min(run(served, one_message("read", changes(10000, downwards, unopened)))[2] for _ in range(3)) - least
+    many = min(run(served, one_message("many", changes(10000, downwards)))[2] for _ in range(3)) - few
+    for what, seconds in (("in one message", many), ("read alone", read), ("made alone", many - read)):
+        print(f"10000 changes {what}, {name}, in 800 KB: {seconds * 1000:.1f} ms, {seconds / (copy / 1000):.0f} copies of the text")
 RUNS

@@ -88,7 +88,7 @@ drop-front false c m (xs ∷ xss) some =
     let none : 0 + m + 1 ≡ suc m = omega arith in
     ap (λ k. drop k ((c ∷ xs) ∷ xss)) none ∙ sym (ap (λ k. drop k (xs ∷ xss)) more)
 
-pub drop-one : (c : ℕ) (cs ds : List ℕ) →
+drop-one : (c : ℕ) (cs ds : List ℕ) →
     line_ends (length (encode_utf8_all (c ∷ cs))) (encode_utf8_all (c ∷ (cs ++ ds))) ≡ bit (ends_line c (cs ++ ds)) + line_ends (length (encode_utf8_all cs)) (encode_utf8_all (cs ++ ds))
 drop-one c cs ds =
     let n : ℕ = length (encode_utf8_all cs) in

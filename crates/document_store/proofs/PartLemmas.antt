@@ -7,7 +7,7 @@ use Rattle.std.proofs.lemmas.List.{drop-drop, drop-map}
 use Rattle.std.proofs.lemmas.List.Folds.{concat-append}
 use Rattle.std.specs.List.{concat, onto_first}
 use Rattle.std.specs.Option.{option_map}
-use Rattle.std.specs.Prelude.{nat_lt, ◌==◌, ◌&&◌, encode_utf8_all}
+use Rattle.std.specs.Prelude.{nat_lt, ◌==◌, ◌&&◌}
 use Rattle.hl_base.specs.Texts.{lines}
 use Rattle.hl_base.specs.declared.edit.Edit.{Edit}
 use Rattle.hl_base.specs.declared.edit.Position.{Position}
@@ -15,7 +15,6 @@ use Rattle.document_store.specs.Edits.{edited, is_after, is_backward, start_of, 
 use Rattle.document_store.specs.Parts.{BeginsLine, parted, ends_behind, position_behind, edit_behind, first_line_of}
 use Rattle.document_store.specs.Places.{line_ends}
 use Rattle.document_store.specs.Positions.{ends_line, whole_lines, line_of, line_start, place_of, characters_before}
-use Rattle.document_store.proofs.BlockLemmas.{drop-one}
 use Rattle.document_store.proofs.DocumentLemmas.{bit}
 use Rattle.document_store.proofs.FromLemmas.{length-lines_whole, split_at_line}
 use Rattle.document_store.proofs.LineLemmas.{IsCons, without_end, lines-whole, whole_lines-some, concat-whole_lines}
@@ -30,11 +29,6 @@ line_ends-more zero m text within = ap (λ k. line_ends k text) (zero-add m) ∙
 line_ends-more (suc n) m [] within = absurd (omega arith)
 line_ends-more (suc n) m (c ∷ rest) within =
     ap (λ k. line_ends k (c ∷ rest)) (suc-add n m) ∙ omega (arith, line_ends-more n m rest (omega arith))
-
--- as many lines end in the first characters as in their bytes
-pub line_ends-encodes : (cs ds : List ℕ) → line_ends (length (encode_utf8_all cs)) (encode_utf8_all (cs ++ ds)) ≡ line_ends (length cs) (cs ++ ds)
-line_ends-encodes [] ds = refl
-line_ends-encodes (c ∷ cs) ds = drop-one c cs ds ∙ ap (λ k. bit (ends_line c (cs ++ ds)) + k) (line_ends-encodes cs ds)
 
 -- ---- a line begins between two texts
 
@@ -116,7 +110,7 @@ parted-begins n [] back h = refl
 parted-begins n (c ∷ rest) back h = ends-begins n c rest back h
 
 -- behind as many lines as there are line ends in the first
-begins-count : (n : ℕ) (front back : List ℕ) → BeginsLine n front back → n ≡ line_ends (length front) (front ++ back)
+pub begins-count : (n : ℕ) (front back : List ℕ) → BeginsLine n front back → n ≡ line_ends (length front) (front ++ back)
 begins-count n front back h =
     omega (
       arith,

@@ -4,21 +4,22 @@ use Rattle.std.proofs.Math.Seq.{take-nil, drop-nil, take-length, take-append_sea
 use Rattle.std.proofs.lemmas.List.{take-append-le, take_more, at_drop_more, at_drop_all, drop-drop}
 use Rattle.std.proofs.lemmas.List.Sums.{sum_by-append}
 use Rattle.hl_base.proofs.UnitLaws.{units-cons}
-use Rattle.std.proofs.lemmas.Bool.{and_parts, lt-ltb, le-ltb, cases_lt, ltb-false, or_parts}
+use Rattle.hl_base.proofs.LineLaws.{IsWithin, chars-ascii, utf8_tail, lines-cons}
+use Rattle.std.proofs.lemmas.Bool.{and_parts, lt-ltb, le-ltb, cases_lt, ltb-false, ltb-true, or_parts, eqb-true, true≢false}
 use lib.Utf8.{scalars, scalar}
 use Rattle.std.proofs.Math.Nat.{suc-add}
 use Rattle.std.proofs.lemmas.Bool.Decides.{nat_tests}
 use Rattle.document_store.proofs.LineLemmas.{whole_lines-some, without_end, lines-whole, concat-whole_lines}
-use Rattle.std.specs.Prelude.{◌==◌, nat_lt, min, encode_utf8, encode_utf8_all, chars, IsUtf8, IsCharBoundary, slice_get, Some}
-use Rattle.std.specs.List.{concat}
+use Rattle.std.specs.Prelude.{◌==◌, ◌||◌, ◌&&◌, not, slice_index, nat_lt, min, encode_utf8, encode_utf8_all, chars, IsUtf8, IsCharBoundary, slice_get, Some}
+use Rattle.std.specs.List.{concat, onto_first}
 use Rattle.std.specs.Char.{len_utf8}
-use Rattle.std.proofs.lemmas.Str.{encodes-chars, encodes-append, IsCharBoundary-at_seam, scalars-chars, chars-encodes, length-encode, length-le-encodes}
+use Rattle.std.proofs.lemmas.Str.{encode_ascii, encodes-chars, encodes-append, IsCharBoundary-at_seam, scalars-chars, chars-encodes, length-encode, length-le-encodes}
 use Rattle.hl_base.specs.Texts.{lines, unit_width, units}
 use Rattle.std.proofs.lemmas.Option.{slice_get-get_or, slice_get_past, get_or_from_slice_get}
 use Rattle.hl_base.specs.declared.edit.Position.{Position}
 use Rattle.document_store.specs.Positions.{whole_lines, characters_before, line_of, line_start, last_line, end_of, spot_of, place_of, position_of}
 use Rattle.document_store.proofs.FromLemmas.{IsFrom, IsFrom-within, line_of-from, split_at_line, begins_with_line, end_place, length-lines_whole, BeginsWith-without_end}
-use Rattle.document_store.specs.Places.{bytes_before}
+use Rattle.document_store.specs.Places.{bytes_before, is_plain, ArePlain}
 use Rattle.document_store.specs.Edits.{is_after}
 
 -- a text is its first characters and the others, in bytes
@@ -313,3 +314,61 @@ pub before-le_bytes : (bs line : List ℕ) (at : Position) → IsUtf8 bs → sli
 before-le_bytes bs line at u is =
     let found = get_or_from_slice_get (lines (chars bs)) at.line line [] is in
     omega (arith, before_is_within line at.character true, ap length found, length-line_bytes bs at.line u)
+
+-- ---- characters of one byte
+
+first-onto : (c : ℕ) (xss : List (List ℕ)) → get_or (onto_first c xss) 0 [] ≡ c ∷ get_or xss 0 []
+first-onto c [] = refl
+first-onto c (xs ∷ xss) = refl
+
+width-positive : (c : ℕ) → 0 < unit_width c
+width-positive c = grind (arith, nat_tests)
+
+width-ascii : (c : ℕ) → c < 128 → unit_width c ≡ 1
+width-ascii c small = rw (lt-ltb c 65536 (omega (arith, small))) refl
+
+not_true : (b : Bool) → not b ≡ true → b ≡ false
+not_true true e = absurd (true≢false (sym e))
+not_true false e = refl
+
+-- the first line of a text that begins with a character of it
+line_of-cons : (c : ℕ) (cs : List ℕ) → IsWithin c → line_of (c ∷ cs) 0 ≡ c ∷ line_of cs 0
+line_of-cons c cs within = ap (λ xss. get_or xss 0 []) (lines-cons c cs within) ∙ first-onto c (lines cs)
+
+before-nothing : (line : List ℕ) → characters_before 0 line ≡ 0
+before-nothing [] = refl
+before-nothing (c ∷ rest) = characters_before-stop 0 c rest (width-positive c)
+
+-- where the first bytes are characters of the first line, as many units of it are as many characters and bytes
+plain : (n : ℕ) (bs : List ℕ) → IsUtf8 bs → n ≤ length bs → ((k : ℕ) → k < n → is_plain (slice_index bs k) ≡ true) →
+    (characters_before n (line_of (chars bs) 0) ≡ n) × (bytes_before (line_of (chars bs) 0) n ≡ n)
+plain zero bs u within all = (before-nothing (line_of (chars bs) 0), refl)
+plain (suc n) [] u within all = absurd (omega (arith, within))
+plain (suc n) (b ∷ rest) u within all =
+    let parts = and_parts (nat_lt b 128) (not (b == 10 || b == 13)) (all 0 (omega arith)) in
+    let small : b < 128 = ltb-true b 128 parts.0 in
+    let line : line_of (chars (b ∷ rest)) 0 ≡ b ∷ line_of (chars rest) 0 =
+    ap (λ cs. line_of cs 0) (chars-ascii b rest small u) ∙ line_of-cons b (chars rest) (not_true (b == 10 || b == 13) parts.1) in
+    let later = plain n rest (utf8_tail b rest small u) (omega (arith, within)) (λ k below. all (suc k) (omega (arith, below))) in
+    let width : unit_width b ≡ 1 = width-ascii b small in
+    let left : suc n - unit_width b ≡ n = omega (arith, width) in (
+      ap (characters_before (suc n)) line
+          ∙ characters_before-go (suc n) b (line_of (chars rest) 0) (omega (arith, width))
+          ∙ ap (λ k. suc (characters_before k (line_of (chars rest) 0))) left
+          ∙ ap suc later.0,
+      ap (λ l. bytes_before l (suc n)) line
+          ∙ ap (λ e. length (e ++ encode_utf8_all (take n (line_of (chars rest) 0)))) (encode_ascii b small)
+          ∙ ap suc later.1,
+    )
+
+pub plain_bytes : (bs : List ℕ) (n : ℕ) → IsUtf8 bs → ArePlain n bs → n ≡ bytes_before (line_of (chars bs) 0) (characters_before n (line_of (chars bs) 0))
+plain_bytes bs n u h =
+    let both = plain n bs u h.within h.all in
+    sym (ap (bytes_before (line_of (chars bs) 0)) both.0 ∙ both.1)
+
+-- positions of one line and one character are one
+pub same_position : (a b : Position) → (a.line == b.line && a.character == b.character) ≡ true → a ≡ b
+same_position a b h =
+    let parts = and_parts (a.line == b.line) (a.character == b.character) h in
+    let place : ℕ → ℕ → Position = λ line character. record { line = line; character = character } in
+    ap (λ l. place l a.character) (eqb-true a.line b.line parts.0) ∙ ap (place b.line) (eqb-true a.character b.character parts.1)

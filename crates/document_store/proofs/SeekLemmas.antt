@@ -1,19 +1,18 @@
 -- The two parts of a text that is split before a line, in bytes: forward, back, and where a line begins between them.
-use Rattle.std.proofs.Common.{◌≡◌, ◌∙◌, ℕ, ◌+◌, ◌-◌, ◌<◌, ◌≤◌, Bool, true, false, List, [], ◌∷◌, ◌++◌, length, take, drop, get_or, refl, sym, inl, inr, ap, subst, arith, length-append, length-drop, append_assoc, take-append-drop}
+use Rattle.std.proofs.Common.{◌≡◌, ◌∙◌, ℕ, ◌+◌, ◌-◌, ◌<◌, ◌≤◌, Bool, true, false, List, [], ◌∷◌, ◌++◌, length, take, drop, get_or, refl, sym, inl, inr, ap, subst, arith, length-append, length-take, append_assoc, take-append-drop, get_or-take}
 use Rattle.std.proofs.Math.Seq.{drop-append_seam}
 use Rattle.std.proofs.lemmas.Bool.{and_parts, and_cases, or_cases, eqb-true, true≢false}
 use Rattle.std.proofs.lemmas.List.{drop-drop, drop_more, drop_all}
 use Rattle.std.proofs.lemmas.Str.{chars-append, chars-nil, encodes-chars, encodes-append, IsUtf8-take, IsUtf8-drop, IsCharBoundary-at_seam, IsCharBoundary-before_ascii, IsCharBoundary-after_ascii}
 use Rattle.std.specs.List.{concat}
-use Rattle.std.specs.Prelude.{◌==◌, ◌||◌, ◌&&◌, not, chars, IsUtf8, IsCharBoundary, encode_utf8_all, slice_index}
+use Rattle.memchr.specs.Find.{IsLastByte, is_byte2}
+use Rattle.std.specs.Prelude.{◌==◌, ◌||◌, ◌&&◌, not, Some, chars, IsUtf8, IsCharBoundary, encode_utf8_all, slice_index}
 use Rattle.hl_base.proofs.LineLaws.{chars-ascii, first_char}
 use Rattle.document_store.specs.Parts.{BeginsLine, parted, ends_behind}
 use Rattle.document_store.specs.Places.{line_ends}
 use Rattle.document_store.specs.Positions.{whole_lines, ends_line}
-use Rattle.document_store.proofs.BlockLemmas.{line_ends-next}
-use Rattle.document_store.proofs.DocumentLemmas.{bit}
 use Rattle.document_store.proofs.FromLemmas.{split_at_line}
-use Rattle.document_store.proofs.PartLemmas.{line_ends-encodes, BeginsLine-back, BeginsLine-other, BeginsLine-within}
+use Rattle.document_store.proofs.PartLemmas.{begins-count, BeginsLine-back, BeginsLine-other, BeginsLine-within}
 
 -- ---- a line end at a byte
 
@@ -23,10 +22,19 @@ end_is_ascii byte next h = elim (or_cases (byte == 10) (byte == 13) (and_parts (
   | inr cr ↦ omega (arith, eqb-true byte 13 cr)
 ]
 
--- a text may be cut behind one
-pub cut_behind_end : (bs : List ℕ) (at byte next : ℕ) → IsUtf8 bs → at < length bs → byte ≡ get_or bs at 0 →
-    ((byte == 10 || byte == 13) && not (byte == 13 && next == 10)) ≡ true → IsCharBoundary bs (at + 1)
-cut_behind_end bs at byte next u within is h = IsCharBoundary-after_ascii bs at u within (omega (arith, is, end_is_ascii byte next h))
+end_byte : (byte : ℕ) → is_byte2 10 13 byte ≡ true → byte < 128
+end_byte byte h = elim (or_cases (byte == 10) (byte == 13) h) [
+  | inl lf ↦ omega (arith, eqb-true byte 10 lf)
+  | inr cr ↦ omega (arith, eqb-true byte 13 cr)
+]
+
+-- a text may be cut behind the last LF or CR of its first bytes
+pub cut_behind_last : (bs : List ℕ) (end last : ℕ) → IsUtf8 bs → end ≤ length bs → IsLastByte (is_byte2 10 13) (take end bs) (Some last) →
+    IsCharBoundary bs (last + 1)
+cut_behind_last bs end last u within h =
+    let below : last < end = omega (arith, h.0.high, length-take end bs) in
+    let byte : is_byte2 10 13 (get_or bs last 0) ≡ true = ap (is_byte2 10 13) (sym (get_or-take end bs last 0 below)) ∙ h.1 in
+    IsCharBoundary-after_ascii bs last u (omega (arith, below, within)) (end_byte (get_or bs last 0) byte)
 
 behind-last : (x : ℕ) (xs : List ℕ) (c : ℕ) (ys : List ℕ) → ends_behind x (xs ++ c ∷ []) ys ≡ ends_line c ys
 behind-last x [] c ys = refl
@@ -130,30 +138,25 @@ pub size-back : (front back : List ℕ) (at : ℕ) → length (take at front) + 
 size-back front back at =
     sym (length-append (take at front) (drop at front ++ back)) ∙ ap length (same_bytes-back front back at) ∙ length-append front back
 
-pub back_bytes : (front back : List ℕ) (at line ends : ℕ) → IsUtf8 front → IsUtf8 back → IsCharBoundary front at →
+-- so many lines of the second part are what was moved
+pub back_bytes : (front back : List ℕ) (at line lines : ℕ) → IsUtf8 front → IsUtf8 back → IsCharBoundary front at →
     whole_lines (chars back) ≡ drop line (whole_lines (chars (front ++ back))) → parted (chars (take at front)) (chars (drop at front ++ back)) ≡ true →
-    ends ≡ line_ends (length front - at) (drop at front ++ back) →
-    whole_lines (chars (drop at front ++ back)) ≡ drop (line - ends) (whole_lines (chars (take at front ++ (drop at front ++ back))))
-back_bytes front back at line ends u v cut h g is =
+    whole_lines (chars back) ≡ drop lines (whole_lines (chars (drop at front ++ back))) →
+    whole_lines (chars (drop at front ++ back)) ≡ drop (line - lines) (whole_lines (chars (take at front ++ (drop at front ++ back))))
+back_bytes front back at line lines u v cut h g behind =
     let before : IsUtf8 (take at front) = IsUtf8-take front at u cut in
-    let behind : IsUtf8 (drop at front) = IsUtf8-drop front at u cut in
+    let moved : IsUtf8 (drop at front) = IsUtf8-drop front at u cut in
     let first : List ℕ = chars (take at front) in
     let over : List ℕ = chars (drop at front) in
     let parts : chars front ≡ first ++ over = ap chars (sym (take-append-drop at front)) ∙ chars-append (take at front) (drop at front) before in
     let whole : chars (front ++ back) ≡ (first ++ over) ++ chars back = chars-append front back u ∙ ap (λ ys. ys ++ chars back) parts in
-    let rest : chars (drop at front ++ back) ≡ over ++ chars back = chars-append (drop at front) back behind in
+    let rest : chars (drop at front ++ back) ≡ over ++ chars back = chars-append (drop at front) back moved in
     let all : chars (take at front ++ (drop at front ++ back)) ≡ first ++ (over ++ chars back) =
     chars-append (take at front) (drop at front ++ back) before ∙ ap (λ ys. first ++ ys) rest in
-    let bytes : encode_utf8_all (over ++ chars back) ≡ drop at front ++ back =
-    encodes-append over (chars back) ∙ ap (λ ys. ys ++ encode_utf8_all (chars back)) (encodes-chars (drop at front) behind)
-    ∙ ap (λ ys. drop at front ++ ys) (encodes-chars back v) in
-    let size : length (encode_utf8_all over) ≡ length front - at = ap length (encodes-chars (drop at front) behind) ∙ length-drop at front in
-    let count : ends ≡ line_ends (length over) (over ++ chars back) =
-    is ∙ ap (λ k. line_ends k (drop at front ++ back)) (sym size) ∙ ap (line_ends (length (encode_utf8_all over))) (sym bytes)
-    ∙ line_ends-encodes over (chars back) in
+    let count : lines ≡ line_ends (length over) (over ++ chars back) = begins-count lines over (chars back) (behind ∙ ap (λ t. drop lines (whole_lines t)) rest) in
     ap whole_lines rest
-    ∙ BeginsLine-back line ends first over (chars back) (h ∙ ap (λ t. drop line (whole_lines t)) whole) (ap (parted first) (sym rest) ∙ g) count
-    ∙ ap (λ t. drop (line - ends) (whole_lines t)) (sym all)
+    ∙ BeginsLine-back line lines first over (chars back) (h ∙ ap (λ t. drop line (whole_lines t)) whole) (ap (parted first) (sym rest) ∙ g) count
+    ∙ ap (λ t. drop (line - lines) (whole_lines t)) (sym all)
 
 -- ---- where the second part was changed
 
@@ -166,15 +169,6 @@ stays_before front back earlier line u h g =
 pub parted-nothing : (front back : List ℕ) → length front ≡ 0 → parted (chars front) (chars back) ≡ true
 parted-nothing [] back h = ap (λ xs. parted xs (chars back)) chars-nil
 parted-nothing (b ∷ front) back h = absurd (omega (arith, h))
-
--- one byte more is counted
-pub ends-of : (text bytes : List ℕ) (at next : ℕ) (ends : Bool) → bytes ≡ text → at < length text → next ≡ slice_index bytes (at + 1) →
-    ends ≡ ((get_or bytes at 0 == 10 || get_or bytes at 0 == 13) && not (get_or bytes at 0 == 13 && next == 10)) →
-    line_ends (at + 1) text ≡ line_ends at text + bit ends
-ends-of text bytes at next ends is within is_next h =
-    line_ends-next at text ends within
-    (h ∙ ap (λ n. (get_or bytes at 0 == 10 || get_or bytes at 0 == 13) && not (get_or bytes at 0 == 13 && n == 10)) is_next
-    ∙ ap (λ bs. (get_or bs at 0 == 10 || get_or bs at 0 == 13) && not (get_or bs at 0 == 13 && slice_index bs (at + 1) == 10)) is)
 
 -- ---- a line of the first part
 

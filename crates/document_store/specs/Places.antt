@@ -1,6 +1,6 @@
 -- What the search for a place has left of a text, and how places are counted in bytes. No public clause cites this file.
 -- This project.
-use Rattle.std.specs.Prelude.{◌≡◌, ◌⊎◌, ℕ, zero, suc, ◌+◌, if◌then◌else◌, List, [], ◌∷◌, Option, None, Some, Result, Ok, Err, length, take, encode_utf8_all, chars}
+use Rattle.std.specs.Prelude.{◌≡◌, ◌⊎◌, ℕ, zero, suc, ◌+◌, ◌<◌, ◌≤◌, Bool, true, ◌==◌, ◌||◌, ◌&&◌, not, nat_lt, slice_index, if◌then◌else◌, List, [], ◌∷◌, Option, None, Some, Result, Ok, Err, length, take, encode_utf8_all, chars}
 use Rattle.std.specs.declared.string.String.{String}
 use Rattle.std.specs.String.{string_bytes}
 use Rattle.std.specs.Borrow.{Bor}
@@ -23,6 +23,15 @@ line_ends (suc n) (c ∷ rest) = (if ends_line c rest then 1 else 0) + line_ends
 -- how many bytes the first characters of a text take in UTF-8
 abbrev pub bytes_before : List ℕ → ℕ → ℕ
 bytes_before text characters = length (encode_utf8_all (take characters text))
+
+-- whether a byte is a character by itself and ends no line
+abbrev pub is_plain : ℕ → Bool
+is_plain byte = nat_lt byte 128 && not (byte == 10 || byte == 13)
+
+-- the first so many bytes of a text are such
+pub record ArePlain (first : ℕ) (text : List ℕ) : Type 0 where
+  pub within : first ≤ length text
+  pub all : (at : ℕ) → at < first → is_plain (slice_index text at) ≡ true
 
 -- a call gives the text that is asked, or the refusal that is; want of memory may come in place of either
 abbrev pub GivesText : Result (List ℕ) StoreFault → Result (String Global) StoreFault → Type 0

@@ -25,6 +25,9 @@ struct Ahead<'a> {
 /// The most bytes that are looked through at once. So few that their line ends are counted in a byte, which is fast.
 const BLOCK: usize = 224;
 
+/// Up to so many lines are passed one by one, and no block is counted.
+const NEAR: u32 = 8;
+
 /// Whether a line ends at a byte that stands before another.
 pub(crate) fn ends_at(byte: u8, next: u8) -> bool
     ensures { result ≡ ((byte == 10 || byte == 13) && not (byte == 13 && next == 10)) }
@@ -144,6 +147,9 @@ fn behind_ends(text: &str, ends: u32) -> Option<&str>
 pub(crate) fn from_line(text: &str, line: u32) -> Option<&str>
     ensures { lines_behind result ≡ drop line (whole_lines (chars text.now)) }
 {
+    if line <= NEAR {
+        return behind_ends(text, line);
+    }
     let near = near_line(text, line);
     behind_ends(near.text, near.ends)
 }

@@ -6,8 +6,8 @@ ghost use lib.Seq.{paste};
 /// How many bytes are moved at once at most.
 const PART: usize = 4096;
 
-/// Up to so many bytes are moved one by one.
-const FEW: usize = 128;
+/// Up to so many bytes are moved by way of a buffer that is made as fast as they are moved.
+const FEW: usize = 256;
 
 /// Moves a part of at most as many bytes as the second buffer has, by way of that buffer.
 fn move_part(bytes: &mut [u8], between: &mut [u8], from: usize, to: usize, count: usize)
@@ -18,6 +18,17 @@ fn move_part(bytes: &mut [u8], between: &mut [u8], from: usize, to: usize, count
 {
     between[..count].copy_from_slice(&bytes[from..from + count]);
     bytes[to..to + count].copy_from_slice(&between[..count]);
+}
+
+/// Moves few bytes at once.
+fn move_few(bytes: &mut [u8], from: usize, to: usize, count: usize)
+    requires few { count ≤ FEW }
+    requires source { from + count ≤ length bytes.old }
+    requires target { to + count ≤ length bytes.old }
+    ensures { bytes.new ≡ paste bytes.old to (drop from bytes.old) count }
+{
+    let mut between = [0u8; FEW];
+    move_part(bytes, &mut between, from, to, count);
 }
 
 /// Moves bytes towards the front, the first ones first.
@@ -71,7 +82,7 @@ pub(crate) fn move_bytes(bytes: &mut [u8], start: usize, end: usize, target: usi
         return;
     }
     if count <= FEW {
-        bytes.copy_within(start..end, target);
+        move_few(bytes, start, target, count);
     } else if target < start {
         move_down(bytes, start, target, count);
     } else {

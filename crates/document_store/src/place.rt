@@ -1,10 +1,10 @@
 //! Places in a text: in bytes, in characters and in UTF-16 units.
-ghost use Rattle.std.specs.Prelude.{◌≡◌, ◌+◌, ◌-◌, ◌≤◌, ℕ, ◌==◌, if◌then◌else◌, length, take, drop, slice_get, option_map, false};
+ghost use Rattle.std.specs.Prelude.{◌≡◌, ◌+◌, ◌-◌, ◌≤◌, ℕ, ◌==◌, ◌||◌, ◌&&◌, not, nat_lt, IsTrue, if◌then◌else◌, length, take, drop, slice_get, option_map, false};
 ghost use Rattle.std.specs.Str.{chars};
 ghost use Rattle.hl_base.specs.Texts as texts;
-ghost use Rattle.document_store.specs.Positions.{whole_lines, characters_before, place_of, column_of, position_of};
+ghost use Rattle.document_store.specs.Positions.{whole_lines, characters_before, line_of, place_of, column_of, position_of};
 ghost use Rattle.document_store.specs.Edits.{is_after, is_backward, start_of, stop_of};
-ghost use Rattle.document_store.specs.Places.{lines_behind, bytes_before};
+ghost use Rattle.document_store.specs.Places.{lines_behind, bytes_before, ArePlain};
 
 use crate::lines::{NumberedLine, first_line, from_line, line_or_last};
 use hl_base::{Position, units};
@@ -46,6 +46,41 @@ fn before_unit(line: &str, unit: u32) -> Before
     before
 }
 
+/// Whether a byte is a character by itself and ends no line.
+fn is_plain(byte: u8) -> bool
+    ensures { result ≡ (nat_lt byte 128 && not (byte == 10 || byte == 13)) }
+{
+    byte < 128 && !(byte == b'\n' || byte == b'\r')
+}
+
+/// Whether the first bytes of a text are characters by themselves and of its first line.
+fn are_plain(text: &str, first: usize) -> bool
+    ensures { IsTrue result → ArePlain first text.now }
+{
+    let bytes = text.as_bytes();
+    if bytes.len() < first {
+        return false;
+    }
+    for at in 0..first {
+        if !is_plain(bytes[at]) {
+            return false;
+        }
+    }
+    true
+}
+
+/// How many bytes stand in the first line of a text before a UTF-16 unit of it. Where all of them are characters by
+/// themselves, there are as many as units, and the end of the line is not sought.
+fn bytes_before_unit(text: &str, unit: u32) -> usize
+    ensures { result ≡ bytes_before (line_of (chars text.now) 0) (characters_before unit (line_of (chars text.now) 0)) }
+{
+    let units = unit as usize;
+    if are_plain(text, units) {
+        return units;
+    }
+    before_unit(first_line(text), unit).bytes
+}
+
 /// The width of the first characters of a line in UTF-16 units.
 fn units_before(line: &str, characters: u32) -> usize
     ensures { result ≡ texts.units (take characters (chars line.now)) }
@@ -67,8 +102,7 @@ fn place_in(text: &str, rest: &str, at: Position) -> usize
     requires { whole_lines (chars rest.now) ≡ drop at.line (whole_lines (chars text.now)) }
     ensures { result ≡ bytes_before (chars text.now) (place_of (chars text.now) at) }
 {
-    let before = before_unit(first_line(rest), at.character);
-    text.len() - rest.len() + before.bytes
+    text.len() - rest.len() + bytes_before_unit(rest, at.character)
 }
 
 /// The bytes before a position.
@@ -93,6 +127,22 @@ fn place_behind(text: &str, rest: &str, line: u32, at: Position) -> usize
     }
 }
 
+/// The part of a text between two positions, where this is what stands in the text from the line of the first on. An empty
+/// part is sought once.
+fn span_from(text: &str, rest: &str, from: Position, to: Position) -> Span
+    requires from { whole_lines (chars rest.now) ≡ drop from.line (whole_lines (chars text.now)) }
+    requires order { is_after from to ≡ false }
+    ensures start { result.start ≡ bytes_before (chars text.now) (place_of (chars text.now) from) }
+    ensures end { result.end ≡ bytes_before (chars text.now) (place_of (chars text.now) to) }
+{
+    let start = place_in(text, rest, from);
+    if from.line == to.line && from.character == to.character {
+        return Span { start, end: start };
+    }
+    let end = place_behind(text, rest, from.line, to);
+    Span { start, end }
+}
+
 /// The part of a text between two positions, found in one pass.
 fn span_between(text: &str, from: Position, to: Position) -> Span
     requires { is_after from to ≡ false }
@@ -104,10 +154,7 @@ fn span_between(text: &str, from: Position, to: Position) -> Span
             start: text.len(),
             end: text.len(),
         },
-        Some(rest) => Span {
-            start: place_in(text, rest, from),
-            end: place_behind(text, rest, from.line, to),
-        },
+        Some(rest) => span_from(text, rest, from, to),
     }
 }
 

@@ -2,11 +2,12 @@
 ghost use Rattle.std.specs.Prelude.{◌≡◌, ◌≤◌, ◌<◌, ◌+◌, List, ℕ, length, drop, slice_index, IsTrue, true};
 ghost use Rattle.std.specs.Str.{chars, IsCharBoundary};
 ghost use Rattle.document_store.specs.Parts.{text_in, parted, BeginsLine, IsBeforeLine};
-ghost use Rattle.document_store.specs.Places.{line_ends};
 ghost use Rattle.document_store.specs.Positions.{whole_lines};
 
 use crate::lines::{ends_at, from_line};
 use crate::split_text::SplitText;
+use hl_base::is_crlf;
+use memchr::memrchr2;
 
 /// Lines are counted from the front so many times as fast as back.
 const FASTER: u32 = 8;
@@ -31,41 +32,59 @@ fn is_between_lines(front: &str, back: &str) -> bool
     ends_at(last, next)
 }
 
-/// A place so many lines back from the end of a text that ends in a line end, or near that.
-fn place_back(text: &str, lines: u32) -> usize
+/// How many bytes the line end before a place has, if there is one.
+fn end_before(bytes: &[u8], at: usize) -> usize
+    requires { at ≤ length bytes.now }
+    ensures { result ≤ at }
+{
+    if at >= 2 && is_crlf(&bytes[at - 2..at]) {
+        return 2;
+    }
+    at.min(1)
+}
+
+/// Where the line begins of which the end stands before a place, or the front of the text.
+fn line_before(text: &str, at: usize) -> usize
+    requires { at ≤ length text.now }
     ensures { IsCharBoundary text.now result }
 {
     let bytes = text.as_bytes();
-    let mut left = lines;
-    let mut next = 0;
-    for passed in 0..bytes.len() {
-        let at = bytes.len() - 1 - passed;
-        let byte = bytes[at];
-        if ends_at(byte, next) {
-            if left == 0 {
-                return at + 1;
-            }
-            left -= 1;
-        }
-        next = byte;
+    let end = at - end_before(bytes, at);
+    match memrchr2(b'\n', b'\r', &bytes[..end]) {
+        Some(last) => last + 1,
+        None => 0,
     }
-    0
 }
 
-/// How many lines end in the first bytes of a text.
-fn count_ends(text: &str, first: usize) -> usize
-    requires { first ≤ length text.now }
-    ensures { result ≡ line_ends first text.now }
+/// A place so many lines back from the end of a text that ends in a line end.
+fn place_back(text: &str, lines: u32) -> usize
+    ensures { IsCharBoundary text.now result }
 {
-    let bytes = text.as_bytes();
-    let mut count = 0;
-    for at in 0..first {
-        let next = byte_at(bytes, at + 1);
-        if ends_at(bytes[at], next) {
-            count += 1;
-        }
+    let mut at = text.len();
+    for _ in 0..lines {
+        at = line_before(text, at);
     }
-    count
+    at
+}
+
+/// How many bytes of a text stand before its line of a number, from which this is the rest. The number is for the contract
+/// alone.
+fn bytes_over(text: &str, rest: &str, _line: u32) -> usize
+    requires { whole_lines (chars rest.now) ≡ drop _line (whole_lines (chars text.now)) }
+    ensures cut { IsCharBoundary text.now result }
+    ensures rest { drop result text.now ≡ rest.now }
+{
+    text.len() - rest.len()
+}
+
+/// Whether the first lines of a text, so many of them, have so many bytes.
+fn have_bytes(text: &str, lines: u32, bytes: usize) -> bool
+    ensures { IsTrue result → whole_lines (chars (drop bytes text.now)) ≡ drop lines (whole_lines (chars text.now)) }
+{
+    match from_line(text, lines) {
+        Some(rest) => bytes_over(text, rest, lines) == bytes,
+        None => false,
+    }
 }
 
 /// Goes back to the front of the text.
@@ -94,22 +113,10 @@ fn go_back_lines(text: &mut SplitText, line: u32, wanted: u32) -> u32
     if !is_between_lines(text.front(), text.back()) {
         return go_to_front(text);
     }
-    let ends = count_ends(text.back(), passed);
-    let found = (line as usize).saturating_sub(ends);
-    if found > wanted as usize {
+    if !have_bytes(text.back(), line - wanted, passed) {
         return go_to_front(text);
     }
-    found as u32
-}
-
-/// How many bytes of a text stand before its line of a number, from which this is the rest. The number is for the contract
-/// alone.
-fn bytes_over(text: &str, rest: &str, _line: u32) -> usize
-    requires { whole_lines (chars rest.now) ≡ drop _line (whole_lines (chars text.now)) }
-    ensures cut { IsCharBoundary text.now result }
-    ensures rest { drop result text.now ≡ rest.now }
-{
-    text.len() - rest.len()
+    wanted
 }
 
 /// Goes to the beginning of a line, if it is there.

@@ -1,7 +1,7 @@
-use Rattle.std.proofs.Common.{◌≡◌, ◌∙◌, ◌+◌, ◌-◌, true, List, ℕ, ◌++◌, length, take, drop, length-append, length-drop, refl, sym, ap, subst, arith}
+use Rattle.std.proofs.Common.{◌≡◌, ◌∙◌, ◌+◌, ◌-◌, true, List, ℕ, ◌++◌, length, take, drop, length-drop, refl, sym, ap, subst, arith}
+use Rattle.std.proofs.Math.Seq.{drop-append_seam}
 use Rattle.std.specs.Prelude.{chars, IsCharBoundary, IsUtf8}
 use Rattle.document_store.specs.Parts.{Parts, text_in, parted, IsBeforeLine}
-use Rattle.document_store.specs.Places.{line_ends}
 use Rattle.document_store.specs.Positions.{whole_lines}
 use Rattle.document_store.proofs.SeekLemmas.{back_bytes, same_bytes-back, size-back}
 use Rattle.document_store.proofs.seeking.go_back_lines.Goals as goal
@@ -39,32 +39,20 @@ returns-then-not-is_between_lines-clause-before c = at_first c.go_to_front.new.t
 pub returns-then-not-is_between_lines-clause-reached : goal.returns-then-not-is_between_lines-clause-reached
 returns-then-not-is_between_lines-clause-reached c = omega (arith, c.go_to_front.ensures.line)
 
-pub count_ends-ends-requires : goal.count_ends-ends-requires
-count_ends-ends-requires c =
-    let at : ℕ = c.place_back-at.result in
-    omega (
-      arith,
-      ap length c.back-2.ensures,
-      ap (λ (p : Parts). length p.back) c.go_back.ensures.parts,
-      length-append (drop at c.args.text.now.front) c.args.text.now.back,
-      length-drop at c.args.text.now.front,
-      ap length c.front-2.ensures,
-    )
+pub returns-then-not-have_bytes-clause-text : goal.returns-then-not-have_bytes-clause-text
+returns-then-not-have_bytes-clause-text c =
+    c.go_to_front-then-not-have_bytes.ensures.text ∙ same_text c.args.text.now c.go_back.new.self c.place_back-at.result c.go_back.ensures.parts
 
-pub returns-then-found-wanted-clause-text : goal.returns-then-found-wanted-clause-text
-returns-then-found-wanted-clause-text c =
-    c.go_to_front-then-found-wanted.ensures.text ∙ same_text c.args.text.now c.go_back.new.self c.place_back-at.result c.go_back.ensures.parts
+pub returns-then-not-have_bytes-clause-size : goal.returns-then-not-have_bytes-clause-size
+returns-then-not-have_bytes-clause-size c =
+    c.go_to_front-then-not-have_bytes.ensures.size ∙ same_size c.args.text.now c.go_back.new.self c.place_back-at.result c.go_back.ensures.parts
 
-pub returns-then-found-wanted-clause-size : goal.returns-then-found-wanted-clause-size
-returns-then-found-wanted-clause-size c =
-    c.go_to_front-then-found-wanted.ensures.size ∙ same_size c.args.text.now c.go_back.new.self c.place_back-at.result c.go_back.ensures.parts
+pub returns-then-not-have_bytes-clause-before : goal.returns-then-not-have_bytes-clause-before
+returns-then-not-have_bytes-clause-before c =
+    at_first c.go_to_front-then-not-have_bytes.new.text c.go_to_front-then-not-have_bytes.result c.go_to_front-then-not-have_bytes.ensures.line c.go_to_front-then-not-have_bytes.ensures.before
 
-pub returns-then-found-wanted-clause-before : goal.returns-then-found-wanted-clause-before
-returns-then-found-wanted-clause-before c =
-    at_first c.go_to_front-then-found-wanted.new.text c.go_to_front-then-found-wanted.result c.go_to_front-then-found-wanted.ensures.line c.go_to_front-then-found-wanted.ensures.before
-
-pub returns-then-found-wanted-clause-reached : goal.returns-then-found-wanted-clause-reached
-returns-then-found-wanted-clause-reached c = omega (arith, c.go_to_front-then-found-wanted.ensures.line)
+pub returns-then-not-have_bytes-clause-reached : goal.returns-then-not-have_bytes-clause-reached
+returns-then-not-have_bytes-clause-reached c = omega (arith, c.go_to_front-then-not-have_bytes.ensures.line)
 
 pub returns-clause-text : goal.returns-clause-text
 returns-clause-text c = same_text c.args.text.now c.go_back.new.self c.place_back-at.result c.go_back.ensures.parts
@@ -85,12 +73,16 @@ returns-clause-before c =
     ap (λ bs. parted (chars bs) (chars (drop at p.front ++ p.back))) (sym first)
     ∙ ap (λ bs. parted (chars c.front-3.result.now) (chars bs)) (sym second)
     ∙ c.if-not-is_between_lines.ensures refl in
-    let count : c.count_ends-ends.result ≡ line_ends (length p.front - at) (drop at p.front ++ p.back) =
-    c.count_ends-ends.ensures
-    ∙ ap (λ bs. line_ends (length bs - at) c.back-2.result.now) c.front-2.ensures
-    ∙ ap (λ bs. line_ends (length p.front - at) bs) (c.back-2.ensures ∙ ap (λ (r : Parts). r.back) is) in
-    let line : whole_lines (chars (drop at p.front ++ p.back)) ≡ drop (c.args.line - c.count_ends-ends.result) (whole_lines (chars (take at p.front ++ (drop at p.front ++ p.back)))) =
-    back_bytes p.front p.back at c.args.line c.count_ends-ends.result (subst IsUtf8 c.front.ensures c.front.utf8) c.go_back.ensures.texts cut
-    c.requires.before between count in
-    subst (λ (n : ℕ). IsBeforeLine n q) (sym c.saturating_sub-found.ensures)
-    (subst (λ (r : Parts). IsBeforeLine (c.args.line - c.count_ends-ends.result) r) (sym is) line)
+    let last : c.back-2.result.now ≡ drop at p.front ++ p.back = c.back-2.ensures ∙ ap (λ (r : Parts). r.back) is in
+    let passed : length c.front-2.result.now - at ≡ length (drop at p.front) = ap (λ bs. length bs - at) c.front-2.ensures ∙ sym (length-drop at p.front) in
+    let lines : whole_lines (chars p.back) ≡ drop (c.args.line - c.args.wanted) (whole_lines (chars (drop at p.front ++ p.back))) =
+    ap (λ bs. whole_lines (chars bs)) (sym (drop-append_seam (drop at p.front) p.back))
+    ∙ ap (λ n. whole_lines (chars (drop n (drop at p.front ++ p.back)))) (sym passed)
+    ∙ ap (λ bs. whole_lines (chars (drop (length c.front-2.result.now - at) bs))) (sym last)
+    ∙ c.if-not-have_bytes.ensures refl
+    ∙ ap (λ bs. drop (c.args.line - c.args.wanted) (whole_lines (chars bs))) last in
+    let line : whole_lines (chars (drop at p.front ++ p.back)) ≡ drop (c.args.line - (c.args.line - c.args.wanted)) (whole_lines (chars (take at p.front ++ (drop at p.front ++ p.back)))) =
+    back_bytes p.front p.back at c.args.line (c.args.line - c.args.wanted) (subst IsUtf8 c.front.ensures c.front.utf8) c.go_back.ensures.texts cut
+    c.requires.before between lines in
+    let wanted : c.args.line - (c.args.line - c.args.wanted) ≡ c.args.wanted = omega (arith, c.requires.back) in
+    subst (λ (n : ℕ). IsBeforeLine n q) wanted (subst (λ (r : Parts). IsBeforeLine (c.args.line - (c.args.line - c.args.wanted)) r) (sym is) line)
