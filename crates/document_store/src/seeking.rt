@@ -1,6 +1,7 @@
 //! Where a line begins, sought from the place where a text is split: forward and back.
-ghost use Rattle.std.specs.Prelude.{◌≡◌, ◌≤◌, ◌<◌, ◌+◌, List, ℕ, length, drop, slice_index, IsTrue, true};
+ghost use Rattle.std.specs.Prelude.{◌≡◌, ◌≤◌, ◌<◌, ◌+◌, List, ℕ, length, drop, take, slice_index, IsTrue, true};
 ghost use Rattle.std.specs.Str.{chars, IsCharBoundary};
+ghost use Rattle.memchr.specs.Find.{IsLastByte, is_byte2};
 ghost use Rattle.document_store.specs.Parts.{text_in, parted, BeginsLine, IsBeforeLine};
 ghost use Rattle.document_store.specs.Positions.{whole_lines};
 
@@ -43,14 +44,20 @@ fn end_before(bytes: &[u8], at: usize) -> usize
     at.min(1)
 }
 
+/// Where the last LF or CR stands among the first bytes of a text.
+fn last_end(text: &str, first: usize) -> Option<usize>
+    requires { first ≤ length text.now }
+    ensures { IsLastByte (is_byte2 10 13) (take first text.now) result }
+{
+    memrchr2(b'\n', b'\r', &text.as_bytes()[..first])
+}
+
 /// Where the line begins of which the end stands before a place, or the front of the text.
 fn line_before(text: &str, at: usize) -> usize
     requires { at ≤ length text.now }
     ensures { IsCharBoundary text.now result }
 {
-    let bytes = text.as_bytes();
-    let end = at - end_before(bytes, at);
-    match memrchr2(b'\n', b'\r', &bytes[..end]) {
+    match last_end(text, at - end_before(text.as_bytes(), at)) {
         Some(last) => last + 1,
         None => 0,
     }

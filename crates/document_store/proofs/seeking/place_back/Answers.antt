@@ -4,5 +4,5 @@ use Rattle.document_store.proofs.seeking.place_back.Goals as goal
 pub loop-init : goal.loop-init
 loop-init c = IsCharBoundary-end c.args.text.now
 
-pub line_before-requires : goal.line_before-requires
-line_before-requires c = c.loop.invariant.0
+pub line_before-at-requires : goal.line_before-at-requires
+line_before-at-requires c = c.loop.invariant.0
