@@ -1,5 +1,5 @@
 -- The bodies that a session writes (JSON-RPC 2.0, "Response object"; LSP 3.17, `ErrorCodes`, `LogMessageParams`).
-use Rattle.std.specs.Prelude.{ℕ, ℤ, List, ◌++◌, codes, Option, Some, None, encode_utf8_all}
+use Rattle.std.specs.Prelude.{ℕ, ℤ, pos, neg_ℤ, List, ◌++◌, codes, Option, Some, None, encode_utf8_all}
 use Rattle.std.specs.Fmt.{decimal}
 use Rattle.std.specs.Str.{chars}
 use Rattle.serde_json.specs.Data.{null}
@@ -11,8 +11,6 @@ use Rattle.lsp_messages.specs.Written.{reply_value, text_of, initialize_result_v
 use Rattle.document_store.specs.declared.fault.StoreFault.{StoreFault}
 use Rattle.document_store.specs.declared.fault.StoreFault.TheVariants.{BadUri, AlreadyOpen, TooMany, TextTooLong, NotOpen}
 use Rattle.document_store.specs.declared.fault.StoreFault.TheVariants.{BadRange, LibraryTooLarge, OutOfMemory}
-use Rattle.session_core.specs.declared.replies.TheConstants.{PARSE_ERROR, PARSE_ERROR_WORDS, INVALID_REQUEST, INVALID_REQUEST_WORDS}
-use Rattle.session_core.specs.declared.replies.TheConstants.{NOT_INITIALIZED, NOT_INITIALIZED_WORDS, METHOD_NOT_FOUND, METHOD_NOT_FOUND_WORDS, INVALID_PARAMS}
 
 -- ---- answers
 
@@ -31,23 +29,23 @@ refusal id code text = text_of (Fault id code (chars text))
 
 -- the body is no JSON
 abbrev pub parse_error : List ℕ
-parse_error = refusal None PARSE_ERROR PARSE_ERROR_WORDS.now
+parse_error = refusal None (neg_ℤ (pos 32700)) (codes "parse error")
 
 -- no message, or one that may not stand here
 abbrev pub invalid_request : Option Id → List ℕ
-invalid_request id = refusal id INVALID_REQUEST INVALID_REQUEST_WORDS.now
+invalid_request id = refusal id (neg_ℤ (pos 32600)) (codes "invalid request")
 
 -- a request before the session began
 abbrev pub not_initialized : Id → List ℕ
-not_initialized id = refusal (Some id) NOT_INITIALIZED NOT_INITIALIZED_WORDS.now
+not_initialized id = refusal (Some id) (neg_ℤ (pos 32002)) (codes "not initialized")
 
 -- no such request
 abbrev pub unknown_method : Id → List ℕ
-unknown_method id = refusal (Some id) METHOD_NOT_FOUND METHOD_NOT_FOUND_WORDS.now
+unknown_method id = refusal (Some id) (neg_ℤ (pos 32601)) (codes "unknown method")
 
 -- a parameter is missing or of a wrong kind
 abbrev pub bad_parameter : Id → (name : List ℕ) → List ℕ
-bad_parameter id name = refusal (Some id) INVALID_PARAMS (codes "bad parameter: " ++ encode_utf8_all name)
+bad_parameter id name = refusal (Some id) (neg_ℤ (pos 32602)) (codes "bad parameter: " ++ encode_utf8_all name)
 
 -- ---- the log
 

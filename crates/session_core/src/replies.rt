@@ -15,29 +15,6 @@ use lsp_messages::{Diagnostics, Id, LspOut, initialize_result};
 use serde_json::Value;
 use std::alloc::Global;
 
-/// The code and the words of a body that is no JSON (JSON-RPC 2.0, "Error object"). The definitions cite these constants.
-const PARSE_ERROR: i32 = -32700;
-
-const PARSE_ERROR_WORDS: &str = "parse error";
-
-/// Of what is no message, or may not stand where it does.
-const INVALID_REQUEST: i32 = -32600;
-
-const INVALID_REQUEST_WORDS: &str = "invalid request";
-
-/// Of a request before the session began (LSP 3.17, `ServerNotInitialized`).
-const NOT_INITIALIZED: i32 = -32002;
-
-const NOT_INITIALIZED_WORDS: &str = "not initialized";
-
-/// Of a request whose method is not known.
-const METHOD_NOT_FOUND: i32 = -32601;
-
-const METHOD_NOT_FOUND_WORDS: &str = "unknown method";
-
-/// Of a request of which a parameter is missing or of a wrong kind. Its words name the parameter.
-const INVALID_PARAMS: i32 = -32602;
-
 /// The reply to `initialize`.
 #[tactic(auto, unfolding(lsp_messages::specs::Written::text_of, lsp_messages::specs::Written::value_of))]
 pub(crate) fn initialize_reply(alloc: Global, id: Id) -> Result<Vec<u8>, OutOfMemory>
@@ -67,28 +44,28 @@ fn refusal(alloc: Global, id: Option<Id>, code: i32, text: &str) -> Result<Vec<u
 pub(crate) fn parse_error(alloc: Global) -> Result<Vec<u8>, OutOfMemory>
     ensures { IfOk result (λ body. body.items ≡ parse_error) }
 {
-    refusal(alloc, None, PARSE_ERROR, PARSE_ERROR_WORDS)
+    refusal(alloc, None, -32700, "parse error")
 }
 
 /// No message, or one that may not stand here.
 pub(crate) fn invalid_request(alloc: Global, id: Option<Id>) -> Result<Vec<u8>, OutOfMemory>
     ensures { IfOk result (λ body. body.items ≡ invalid_request id) }
 {
-    refusal(alloc, id, INVALID_REQUEST, INVALID_REQUEST_WORDS)
+    refusal(alloc, id, -32600, "invalid request")
 }
 
 /// A request before the session began.
 pub(crate) fn not_initialized(alloc: Global, id: Id) -> Result<Vec<u8>, OutOfMemory>
     ensures { IfOk result (λ body. body.items ≡ not_initialized id) }
 {
-    refusal(alloc, Some(id), NOT_INITIALIZED, NOT_INITIALIZED_WORDS)
+    refusal(alloc, Some(id), -32002, "not initialized")
 }
 
 /// No such request.
 pub(crate) fn unknown_method(alloc: Global, id: Id) -> Result<Vec<u8>, OutOfMemory>
     ensures { IfOk result (λ body. body.items ≡ unknown_method id) }
 {
-    refusal(alloc, Some(id), METHOD_NOT_FOUND, METHOD_NOT_FOUND_WORDS)
+    refusal(alloc, Some(id), -32601, "unknown method")
 }
 
 /// A parameter of a request is missing or of a wrong kind, in words.
@@ -104,7 +81,7 @@ pub(crate) fn bad_parameter(alloc: Global, id: Id, name: &Text) -> Result<Vec<u8
     ensures { IfOk result (λ body. body.items ≡ bad_parameter id name.now) }
 {
     let text = bad_parameter_text(alloc, name)?;
-    refusal(alloc, Some(id), INVALID_PARAMS, &text)
+    refusal(alloc, Some(id), -32602, &text)
 }
 
 /// A line of the log: the method of a notification, and why it was refused.
