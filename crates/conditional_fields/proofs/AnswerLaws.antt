@@ -4,32 +4,39 @@ use Rattle.std.proofs.Math.ListN.{drop_of_length-le}
 use Rattle.std.specs.Prelude.{Result, Ok, Err}
 use Rattle.expression_grammar.specs.declared.fault.SyntaxFault.{SyntaxFault}
 use Rattle.expression_grammar.specs.declared.fault.SyntaxFault.TheVariants.{At, OutOfMemory}
-use Rattle.conditional_fields.specs.Answers.{Answers, IsWant, behind_these, and_others, each}
+use Rattle.conditional_fields.specs.Answers.{IsPlaced, IsWant, Says, behind_these, and_others, each}
 
--- want of memory answers everything
-pub want_answers : {V : Type 0} (o : Result V ℕ) (fault : SyntaxFault) → IsWant fault → Answers o (Err fault)
-want_answers (Ok v) fault want = want
-want_answers (Err at) (At place) want = absurd want
-want_answers (Err at) OutOfMemory want = tt
+-- a fault says this place
+pub placed_says : {V W : Type 0} (view : V → W) (read : Result W ℕ) (place : ℕ) (fault : SyntaxFault) → read ≡ Err place → IsPlaced place fault → Says view read (Err fault)
+placed_says view read place (At at) e is = e ∙ ap Err (sym is)
+placed_says view read place OutOfMemory e is = tt
+
+-- want of memory says everything
+pub want_says : {V W : Type 0} (view : V → W) (read : Result W ℕ) (fault : SyntaxFault) → IsWant fault → Says view read (Err fault)
+want_says view read (At at) want = absurd want
+want_says view read OutOfMemory want = tt
 
 pub behind-nothing : {V : Type 0} (o : Result (List V) ℕ) → o ≡ behind_these [] o
 behind-nothing (Ok vs) = refl
 behind-nothing (Err at) = refl
 
+one-more : {V : Type 0} (done : List V) (v : V) (others : Result (List V) ℕ) → behind_these done (and_others (Ok v) others) ≡ behind_these (done ++ v ∷ []) others
+one-more done v (Ok vs) = ap Ok (sym (append_assoc done (v ∷ []) vs))
+one-more done v (Err at) = refl
+
 -- one more
-pub each-goes : {V : Type 0} (whole : Result (List V) ℕ) (done : List V) (one : Result V ℕ) (others : Result (List V) ℕ) (v : V) → whole ≡ behind_these done (and_others one others) → Answers one (Ok v) → whole ≡ behind_these (done ++ v ∷ []) others
-each-goes whole done (Ok u) (Ok vs) v e is = e ∙ ap (λ x. Ok (done ++ x ∷ vs)) (sym is) ∙ ap Ok (sym (append_assoc done (v ∷ []) vs))
-each-goes whole done (Ok u) (Err at) v e is = e
-each-goes whole done (Err at) others v e is = absurd is
+pub each-goes : {V : Type 0} (whole : Result (List V) ℕ) (done : List V) (one : Result V ℕ) (others : Result (List V) ℕ) (v : V) → whole ≡ behind_these done (and_others one others) → one ≡ Ok v → whole ≡ behind_these (done ++ v ∷ []) others
+each-goes whole done one others v e is = e ∙ ap (λ o. behind_these done (and_others o others)) is ∙ one-more done v others
 
 -- the first that is wrong
-pub each-stops : {V : Type 0} (whole : Result (List V) ℕ) (done : List V) (one : Result V ℕ) (others : Result (List V) ℕ) (fault : SyntaxFault) → whole ≡ behind_these done (and_others one others) → Answers one (Err fault) → Answers whole (Err fault)
-each-stops whole done (Ok u) others fault e want = want_answers whole fault want
-each-stops whole done (Err at) others fault e is = subst (λ (o : Result (List _) ℕ). Answers o (Err fault)) (sym e) is
+pub each-stops : {X V W : Type 0} (view : V → W) (all : X → List W) (whole : Result (List W) ℕ) (done : List W) (one : Result W ℕ) (others : Result (List W) ℕ) (fault : SyntaxFault) →
+    whole ≡ behind_these done (and_others one others) → Says view one (Err fault) → Says all whole (Err fault)
+each-stops view all whole done one others (At at) e is = e ∙ ap (λ o. behind_these done (and_others o others)) is
+each-stops view all whole done one others OutOfMemory e is = tt
 
 -- and none is left
-pub each-ends : {V : Type 0} (whole : Result (List V) ℕ) (done : List V) → whole ≡ behind_these done (Ok []) → Answers whole (Ok done)
-each-ends whole done e = subst (λ (o : Result (List _) ℕ). Answers o (Ok done)) (sym e) (sym (append-nil done))
+pub each-ends : {V : Type 0} (whole : Result (List V) ℕ) (done : List V) → whole ≡ behind_these done (Ok []) → whole ≡ Ok done
+each-ends whole done e = e ∙ ap Ok (append-nil done)
 
 -- one of some texts, and then those behind it
 pub each-at : {V : Type 0} (read : List ℕ → Result V ℕ) (texts : List (List ℕ)) (i : ℕ) (text : List ℕ) → i < length texts → text ≡ get_or texts i text →

@@ -1,5 +1,4 @@
 pub use Rattle.operand_grammar.proofs.LogicFinds
-pub mod TextLaws
 pub mod FrontLaws
 pub mod TemplateLaws
 pub mod AnswerLaws

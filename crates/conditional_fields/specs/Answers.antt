@@ -14,12 +14,11 @@ abbrev pub IsWant : SyntaxFault → Type 0
 IsWant (At at) = ⊥
 IsWant OutOfMemory = Unit {0}
 
--- a call answers what is read
-abbrev pub Answers : {V : Type 0} → Result V ℕ → Result V SyntaxFault → Type 0
-Answers (Ok value) (Ok result) = result ≡ value
-Answers (Ok value) (Err fault) = IsWant fault
-Answers (Err wanted) (Ok result) = ⊥
-Answers (Err wanted) (Err fault) = IsPlaced wanted fault
+-- a call says what is read, seen in this way, or how far the text goes; only want of memory is no word on the text
+abbrev pub Says : {V W : Type 0} → (V → W) → Result W ℕ → Result V SyntaxFault → Type 0
+Says view read (Ok value) = read ≡ Ok (view value)
+Says view read (Err (At at)) = read ≡ Err at
+Says view read (Err OutOfMemory) = Unit {0}
 
 -- these, and then others
 abbrev pub behind_these : {V : Type 0} → List V → Result (List V) ℕ → Result (List V) ℕ

@@ -11,7 +11,7 @@ use Rattle.conditional_fields.specs.declared.front.Sought.TheVariants.{Number}
 use Rattle.conditional_fields.specs.declared.branch.Selector.{Selector}
 use Rattle.conditional_fields.specs.declared.branch.Goto.{Goto}
 use Rattle.conditional_fields.specs.declared.branch.Goto.TheVariants.{To, Among}
-use Rattle.conditional_fields.specs.Answers.{Answers, IsPlaced, each}
+use Rattle.conditional_fields.specs.Answers.{IsPlaced, Says, each}
 use Rattle.conditional_fields.specs.Fronts.{IsFirstClosed, IsNeverClosed, IsReach}
 use Rattle.conditional_fields.specs.Sequences.{sequence}
 
@@ -72,7 +72,7 @@ plain (Err at) = Err at
 -- how the field is read: a parenthesis begins a computed AGO
 abbrev pub IsGotoWith : (computed : Bool) → List ℕ → Result Goto SyntaxFault → Type 0
 IsGotoWith true field result = IsAmong (operands_of field) result
-IsGotoWith false field result = Answers (plain (sequence field)) result
+IsGotoWith false field result = Says (λ goto. goto) (plain (sequence field)) result
 
 abbrev pub IsGoto : List ℕ → Result Goto SyntaxFault → Type 0
 IsGoto field result = IsGotoWith (slice_index field 0 == 40) field result

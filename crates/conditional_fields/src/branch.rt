@@ -1,7 +1,7 @@
 //! Where AGO branches to (SC26-4940, "AGO instruction", "Computed AGO instruction").
-ghost use Rattle.std.specs.Prelude.{◌≡◌, [], ◌∷◌, ◌++◌, drop, OnOk, MatchResult};
+ghost use Rattle.std.specs.Prelude.{◌≡◌, [], ◌∷◌, ◌++◌, drop, Ok, Err, OnOk, MatchResult};
 ghost use Rattle.std.specs.Str.{chars};
-ghost use Rattle.conditional_fields.specs.Answers.{Answers, each};
+ghost use Rattle.conditional_fields.specs.Answers.{Says, each};
 ghost use Rattle.expression_grammar.specs.Views.{tree_of};
 ghost use Rattle.conditional_fields.specs.Fronts.{IsFirstClosed};
 ghost use Rattle.conditional_fields.specs.Branches as branches;
@@ -67,8 +67,8 @@ fn inner_fault(alloc: Global, sought: Sought, inner: &str) -> SyntaxFault
 
 /// The names of some sequence symbols.
 fn labels(alloc: Global, operands: &[Text]) -> Result<Vec<Name>, SyntaxFault>
-    ensures { MatchResult result (λ names. Answers (each sequences.sequence operands.now) (Ok names.items))
-        (λ fault. Answers (each sequences.sequence operands.now) (Err fault)) }
+    ensures { MatchResult result (λ names. each sequences.sequence operands.now ≡ Ok names.items)
+        (λ fault. Says (λ names. names) (each sequences.sequence operands.now) (Err fault)) }
 {
     let mut names = Vec::new(alloc);
     for operand in operands {

@@ -1,58 +1,21 @@
-//! Texts, character by character.
-ghost use Rattle.std.specs.Prelude.{◌≡◌, ◌==◌, [], ◌∷◌, false, drop, length, take_while, slice_index, IfOk, take, MatchOption, encode_utf8_all};
+//! Texts, character by character: those of `hlasm_statements`, and what else is asked of the front of a text.
+ghost use Rattle.std.specs.Prelude.{◌≡◌, ◌==◌, false, length, slice_index, IfOk, encode_utf8_all};
 ghost use Rattle.std.specs.Str.{chars};
 ghost use Rattle.hl_base.specs.Symbols as symbols;
 ghost use Rattle.conditional_fields.specs.Declarations as declarations;
 ghost use Rattle.conditional_fields.specs.Sequences as sequences;
 
 use hl_base::{Name, OutOfMemory, is_letter, is_symbol_character};
-use operand_grammar::hlasm_statements::split_columns;
+pub use operand_grammar::hlasm_statements::text::{
+    before, behind, character_count, head, is_nothing,
+};
 
-/// How many characters a text has.
-pub fn character_count(text: &str) -> usize
-    ensures { result ≡ length (chars text.now) }
-{
-    text.chars().count()
-}
-
-/// The same as a `u32`. `OutOfMemory` where a text has more than it counts.
+/// How many characters a text has, as a `u32`. `OutOfMemory` where a text has more than it counts.
 pub(crate) fn short_count(text: &str) -> Result<u32, OutOfMemory>
     ensures { IfOk result (λ n. n ≡ length (chars text.now)) }
 {
     let count = u32::try_from(character_count(text)).map_err(|_| OutOfMemory)?;
     Ok(count)
-}
-
-/// The first character of a text, and what is behind it.
-pub fn head(text: &str) -> Option<(char, &str)>
-    ensures { MatchOption result (chars text.now ≡ []) (λ p. chars text.now ≡ p.0 ∷ chars p.1.now) }
-{
-    let mut rest = text.chars();
-    match rest.next() {
-        Some(c) => Some((c, rest.as_str())),
-        None => None,
-    }
-}
-
-/// Whether a text has no character.
-pub fn is_nothing(text: &str) -> bool
-    ensures { result ≡ (length (chars text.now) == 0) }
-{
-    head(text).is_none()
-}
-
-/// What is behind so many characters of a text.
-pub(crate) fn behind(text: &str, count: usize) -> &str
-    ensures { chars result.now ≡ drop count (chars text.now) }
-{
-    split_columns(text, count).1
-}
-
-/// So many characters at the front of a text, or all of it.
-pub(crate) fn before(text: &str, count: usize) -> &str
-    ensures { chars result.now ≡ take count (chars text.now) }
-{
-    split_columns(text, count).0
 }
 
 /// Whether a text begins with a letter.

@@ -1,7 +1,7 @@
 //! Declarations of SET symbols (SC26-4940, "GBLA, GBLB, and GBLC instructions", "LCLA, LCLB, and LCLC instructions").
-ghost use Rattle.std.specs.Prelude.{◌≡◌, drop};
+ghost use Rattle.std.specs.Prelude.{◌+◌, Err};
 ghost use Rattle.std.specs.Str.{chars};
-ghost use Rattle.conditional_fields.specs.Answers.{Answers, each};
+ghost use Rattle.conditional_fields.specs.Answers.{Says, each};
 ghost use Rattle.conditional_fields.specs.Declarations as declarations;
 
 use crate::character::{before, behind, digit_count, head, letter_count, name_of};
@@ -11,34 +11,41 @@ use hl_base::{Declaration, Declarations, SetKind, Text};
 use operand_grammar::{SyntaxFault, split_operands};
 use std::alloc::Global;
 
+/// A declaration goes wrong at the sum of two places.
+fn wrong_at(before: usize, more: usize) -> Result<bool, SyntaxFault>
+    ensures { Says (λ array. array) (Err (before + more)) result }
+{
+    Err(fault_at(before, more))
+}
+
 /// An array ends with its parenthesis.
 fn ended(digits: usize, rest: &str) -> Result<bool, SyntaxFault>
-    ensures { Answers (declarations.ended digits (chars rest.now)) result }
+    ensures { Says (λ array. array) (declarations.ended digits (chars rest.now)) result }
 {
     match head(rest) {
-        Some(_) => Err(fault_at(digits, 2)),
+        Some(_) => wrong_at(digits, 2),
         None => Ok(true),
     }
 }
 
 /// Behind so many digits of an array comes its parenthesis.
 fn closing(digits: usize, rest: &str) -> Result<bool, SyntaxFault>
-    ensures { Answers (declarations.closing digits (chars rest.now)) result }
+    ensures { Says (λ array. array) (declarations.closing digits (chars rest.now)) result }
 {
     match head(rest) {
         Some((c, rest)) => {
             if digits > 0 && c == ')' {
                 return ended(digits, rest);
             }
-            Err(fault_at(digits, 1))
+            wrong_at(digits, 1)
         }
-        None => Err(fault_at(digits, 1)),
+        None => wrong_at(digits, 1),
     }
 }
 
 /// Whether a variable symbol with this behind it is an array.
 fn dimension(rest: &str) -> Result<bool, SyntaxFault>
-    ensures { Answers (declarations.dimension (chars rest.now)) result }
+    ensures { Says (λ array. array) (declarations.dimension (chars rest.now)) result }
 {
     match head(rest) {
         Some((c, rest)) => {
@@ -54,7 +61,7 @@ fn dimension(rest: &str) -> Result<bool, SyntaxFault>
 
 /// A declaration of the name behind an ampersand.
 fn named(kind: SetKind, global: bool, rest: &str) -> Result<Declaration, SyntaxFault>
-    ensures { Answers (declarations.named_behind kind global (chars rest.now)) result }
+    ensures { Says (λ declaration. declaration) (declarations.named_behind kind global (chars rest.now)) result }
 {
     let letters = letter_count(rest);
     let Some(name) = name_of(before(rest, letters)) else {
@@ -73,7 +80,7 @@ fn named(kind: SetKind, global: bool, rest: &str) -> Result<Declaration, SyntaxF
 
 /// What an operand declares.
 fn declaration(kind: SetKind, global: bool, operand: &str) -> Result<Declaration, SyntaxFault>
-    ensures { Answers (declarations.declaration kind global (chars operand.now)) result }
+    ensures { Says (λ declaration. declaration) (declarations.declaration kind global (chars operand.now)) result }
 {
     match head(operand) {
         Some((c, rest)) => {
@@ -93,7 +100,7 @@ fn each_declaration(
     global: bool,
     operands: &[Text],
 ) -> Result<Declarations, SyntaxFault>
-    ensures { Answers (each (declarations.declaration kind global) operands.now) result }
+    ensures { Says (λ list. list) (each (declarations.declaration kind global) operands.now) result }
 {
     let mut list = Declarations::new(alloc);
     for operand in operands {
@@ -113,7 +120,7 @@ pub fn declarations(
     global: bool,
     field: &str,
 ) -> Result<Declarations, SyntaxFault>
-    ensures { Answers (declarations.declarations kind global (chars field.now)) result }
+    ensures { Says (λ list. list) (declarations.declarations kind global (chars field.now)) result }
 {
     let operands = split_operands(alloc, field)?;
     let list = each_declaration(alloc, kind, global, operands.as_slice())?;

@@ -1,15 +1,13 @@
 //! Sequence symbols (SC26-4940, "Sequence symbols").
 ghost use Rattle.std.specs.Prelude.{◌≡◌, ◌≤◌};
 ghost use Rattle.std.specs.Str.{chars};
-ghost use Rattle.conditional_fields.specs.Answers.{Answers};
+ghost use Rattle.conditional_fields.specs.Answers.{Says};
 ghost use Rattle.conditional_fields.specs.Sequences as sequences;
 
 use crate::character::{begins_with_letter, head, letter_count, name_of};
+use expression_grammar::spelled::LONGEST;
 use hl_base::Name;
 use operand_grammar::SyntaxFault;
-
-/// The longest symbol, in characters.
-const LONGEST: usize = 63;
 
 /// How many characters of a text some ordinary symbol begins with.
 pub fn symbol_reach(text: &str) -> u32
@@ -24,7 +22,7 @@ pub fn symbol_reach(text: &str) -> u32
 
 /// The name of a sequence symbol. `At` where a text is none: how many characters of it some sequence symbol begins with.
 pub(crate) fn sequence(text: &str) -> Result<Name, SyntaxFault>
-    ensures { Answers (sequences.sequence (chars text.now)) result }
+    ensures { Says (λ name. name) (sequences.sequence (chars text.now)) result }
 {
     match head(text) {
         Some((c, rest)) => {

@@ -1,7 +1,7 @@
 -- What the program's values are as they are written (this project).
-use Rattle.std.specs.Prelude.{◌≡◌, ℕ, map, Option, Result, Ok, Err, option_map}
+use Rattle.std.specs.Prelude.{map, Option, Result, Ok, Err, option_map}
 use Rattle.expression_grammar.specs.declared.fault.SyntaxFault.{SyntaxFault}
-use Rattle.expression_grammar.specs.declared.fault.SyntaxFault.TheVariants.{At, OutOfMemory}
+use Rattle.expression_grammar.specs.declared.tree.Expr.{Expr}
 use Rattle.expression_grammar.specs.Trees.{Tree}
 use Rattle.expression_grammar.specs.Views.{tree_of}
 use Rattle.constant_grammar.specs.declared.tree.Formula.{Formula}
@@ -19,14 +19,10 @@ use Rattle.constant_grammar.specs.Constants.{Constant}
 use Rattle.constant_grammar.specs.Elements.{Element, expression, symbol, address_of}
 use Rattle.constant_grammar.specs.Nominals.{Nominal, quoted, enclosed}
 
--- a reader answers the tree that is read, or how far the text goes; only want of memory is no word on the text
-abbrev pub SaysFault : Result Tree ℕ → SyntaxFault → Type 0
-SaysFault found (At at) = found ≡ Err at
-SaysFault found OutOfMemory = Unit {0}
-
-abbrev pub Says : Result Tree ℕ → Result Formula SyntaxFault → Type 0
-Says found (Ok formula) = found ≡ Ok (tree_of formula.tree.value)
-Says found (Err fault) = SaysFault found fault
+-- a formula that is read, as the expression that it is
+abbrev pub expression_in : Result Formula SyntaxFault → Result Expr SyntaxFault
+expression_in (Ok formula) = Ok formula.tree.value
+expression_in (Err fault) = Err fault
 
 abbrev pub tree_in : Formula → Tree
 tree_in formula = tree_of formula.tree.value

@@ -3,12 +3,12 @@ ghost use Rattle.std.specs.Prelude.{◌≡◌, ◌≤◌, Ok, IfOk};
 ghost use Rattle.std.specs.Str.{chars};
 ghost use Rattle.std.specs.Option.{option_map};
 ghost use Rattle.expression_grammar.specs.declared.character.Grammar.TheVariants.{Ordinary};
-ghost use Rattle.expression_grammar.specs.Readings.{read};
+ghost use Rattle.expression_grammar.specs.Readings.{Tells, read};
 ghost use Rattle.expression_grammar.specs.Spelling.{most_parts};
 ghost use Rattle.expression_grammar.specs.Trees.{size};
 ghost use Rattle.expression_grammar.specs.Views.{tree_of};
 ghost use Rattle.constant_grammar.specs.Elements as elements;
-ghost use Rattle.constant_grammar.specs.Views.{amount_front_of, element_of, Says, tree_if};
+ghost use Rattle.constant_grammar.specs.Views.{amount_front_of, element_of, expression_in, tree_if};
 
 use crate::amount::{Amount, AmountFront, amount_front};
 use crate::tree::Formula;
@@ -29,7 +29,7 @@ pub enum Element {
 /// An expression with this tree, in the words of its reader.
 fn read_tree(alloc: Global, tree: Expr) -> Result<Formula, SyntaxFault>
     requires { size (tree_of tree) ≤ most_parts }
-    ensures { Says (Ok (tree_of tree)) result }
+    ensures { Tells (Ok (tree_of tree)) (expression_in result) }
 {
     match Formula::new(alloc, tree) {
         Ok(formula) => Ok(formula),
@@ -39,7 +39,7 @@ fn read_tree(alloc: Global, tree: Expr) -> Result<Formula, SyntaxFault>
 
 /// Reads an ordinary expression.
 pub fn read_formula(alloc: Global, text: &str) -> Result<Formula, SyntaxFault>
-    ensures { Says (read Ordinary (chars text.now)) result }
+    ensures { Tells (read Ordinary (chars text.now)) (expression_in result) }
 {
     match parse_ordinary(alloc, text) {
         Ok(tree) => read_tree(alloc, tree),

@@ -12,31 +12,31 @@ use thiserror::Error;
 #[derive(Clone, Copy, Debug, PartialEq, Eq, Error)]
 pub enum StoreFault {
     /// The URI is no URL, has another scheme than `file`, names a host, or its path is not UTF-8.
-    #[error("BadUri")]
+    #[error("the URI names no file of this machine")]
     BadUri,
 
     /// A document of this path is open.
-    #[error("AlreadyOpen")]
+    #[error("the document is open")]
     AlreadyOpen,
 
     /// 64 documents are open.
-    #[error("TooMany")]
+    #[error("too many documents are open")]
     TooMany,
 
     /// The text would have more than 4 MiB in UTF-8.
-    #[error("TextTooLong")]
+    #[error("the text is too long")]
     TextTooLong,
 
     /// No document of this path is open.
-    #[error("NotOpen")]
+    #[error("the document is not open")]
     NotOpen,
 
     /// The start of the change of this number, counted from 0, lies behind its end.
-    #[error("BadRange({0})")]
+    #[error("the range of change {0} ends before it begins")]
     BadRange(u32),
 
     /// With this file there would be more than 16,000 files of members, or more than 64 MiB of them in UTF-8.
-    #[error("LibraryTooLarge")]
+    #[error("the files of members are too many or too large")]
     LibraryTooLarge,
 
     /// There was no memory, or no number of 32 bits is left.

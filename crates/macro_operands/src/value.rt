@@ -4,7 +4,7 @@
 ghost use Rattle.std.specs.Prelude.{◌≡◌, Ok, is_some};
 ghost use Rattle.std.specs.Str.{chars};
 ghost use Rattle.cond_expr.specs.Outcome.{Tells};
-ghost use Rattle.statement_reading.specs.Answers.{Says};
+ghost use Rattle.conditional_fields.specs.Answers.{Says};
 ghost use Rattle.statement_reading.specs.Fields as entries;
 ghost use Rattle.statement_reading.specs.Readings.{sequence_label};
 ghost use Rattle.statement_reading.specs.Templates as templates;

@@ -3,30 +3,14 @@ ghost use Rattle.std.specs.Prelude.{◌≡◌, ◌+◌, length, IfOk};
 ghost use Rattle.std.specs.Str.{chars};
 
 use hl_base::OutOfMemory;
+use hlasm_statements::text::character_count;
 
-/// How many characters a text has.
-fn count_of(text: &str) -> usize
-    ensures { result ≡ length (chars text.now) }
-{
-    text.chars().count()
-}
-
-/// A number in 32 bits.
-fn number_of(count: usize) -> Result<u32, OutOfMemory>
-    ensures { IfOk result (λ n. n ≡ count) }
-{
-    match u32::try_from(count) {
-        Ok(number) => Ok(number),
-        Err(_) => Err(OutOfMemory),
-    }
-}
-
-/// The same in 32 bits. `OutOfMemory` where they do not hold it.
-pub(crate) fn character_count(text: &str) -> Result<u32, OutOfMemory>
+/// How many characters a text has, in 32 bits. `OutOfMemory` where they do not hold it.
+pub(crate) fn short_count(text: &str) -> Result<u32, OutOfMemory>
     ensures { IfOk result (λ n. n ≡ length (chars text.now)) }
 {
-    let count = count_of(text);
-    number_of(count)
+    let count = u32::try_from(character_count(text)).map_err(|_| OutOfMemory)?;
+    Ok(count)
 }
 
 /// The place one further behind so many characters that begin at a place. `OutOfMemory` where 32 bits do not hold it.

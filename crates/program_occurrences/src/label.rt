@@ -8,7 +8,7 @@ ghost use Rattle.text_lists.specs.Lists.{IsWhole};
 ghost use Rattle.running_calls.specs.Calls.{held};
 ghost use Rattle.program_occurrences.specs.Labels as labels;
 
-use crate::counting::character_count;
+use crate::counting::short_count;
 use hl_base::{Name, Origin, OutOfMemory, PathId};
 use hlasm_statements::{Field, Statement};
 use running_calls::{RunningCall, RunningCalls};
@@ -83,7 +83,7 @@ fn place_of(call: Option<&RunningCall>) -> Option<Origin>
 fn label_name(statement: &Statement, name: &Name) -> Result<WrittenName, OutOfMemory>
     ensures { IfOk result (λ label. label ≡ labels.label_name statement.now name.now) }
 {
-    let count = character_count(statement.label.as_str())?;
+    let count = short_count(statement.label.as_str())?;
     Ok(WrittenName {
         kind: NameKind::Label,
         field: Field::Label,

@@ -7,7 +7,7 @@ ghost use Rattle.standing_occurrences.specs.Standing.{with_first};
 ghost use Rattle.text_lists.specs.Lists.{IsWhole};
 ghost use Rattle.program_occurrences.specs.Prototypes as prototypes;
 
-use crate::counting::{character_count, place_behind};
+use crate::counting::{place_behind, short_count};
 use hl_base::{Name, Origin, OutOfMemory, Text};
 use hlasm_statements::{Field, Statement};
 use operand_list::split_operands;
@@ -22,7 +22,7 @@ use trace_values::{Entity, Role, Scope};
 fn next_place(at: u32, text: &str) -> Result<u32, OutOfMemory>
     ensures { IfOk result (λ next. next ≡ at + (length (chars text.now) + 1)) }
 {
-    let count = character_count(text)?;
+    let count = short_count(text)?;
     place_behind(at, count)
 }
 

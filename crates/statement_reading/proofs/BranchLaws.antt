@@ -21,13 +21,12 @@ use Rattle.conditional_fields.specs.declared.branch.Goto.TheVariants.{To, Among}
 use Rattle.conditional_fields.specs.declared.branch.Selector.{Selector}
 use Rattle.conditional_fields.specs.declared.front.Sought.{Sought}
 use Rattle.conditional_fields.specs.declared.front.Sought.TheVariants.{Number, Condition}
-use Rattle.conditional_fields.specs.Answers.{Answers, each}
+use Rattle.conditional_fields.specs.Answers.{Says, each}
 use Rattle.conditional_fields.specs.Branches as written
 use Rattle.conditional_fields.specs.Branches.{IsAmong, IsChoice, IsChoiceRead, IsGoto, IsGotoWith, IsInnerFault, IsLabelFault}
 use Rattle.conditional_fields.specs.Fronts.{IsFirstClosed, IsNeverClosed, IsReach}
 use Rattle.conditional_fields.specs.Sequences.{sequence}
-use Rattle.statement_reading.specs.Answers.{Says}
-use Rattle.statement_reading.specs.Branches.{IsChosen, behind_front, choice, computed, front, goto, labelled, pair, plain, with_others}
+use Rattle.statement_reading.specs.Branches.{Branch, IsChosen, behind_front, choice, computed, front, goto, labelled, pair, plain, with_others}
 use Rattle.statement_reading.specs.Views.{branch_of, choice_of}
 
 -- what is read at the front of a text stands there
@@ -134,13 +133,19 @@ says_pair operand r begins is = rw begins (says_choice Condition operand r condi
 
 -- ---- AGO
 
-says_plain : (o : Result (List ℕ) ℕ) (r : Result Goto SyntaxFault) → Answers (written.plain o) r → Says branch_of (plain o) r
-says_plain (Ok name) (Ok found) is = ap (λ g. Ok (branch_of g)) (sym is)
-says_plain (Ok name) (Err (At at)) is = absurd is
-says_plain (Ok name) (Err OutOfMemory) is = tt
-says_plain (Err wanted) (Ok found) is = absurd is
-says_plain (Err wanted) (Err (At at)) is = ap Err (sym is)
-says_plain (Err wanted) (Err OutOfMemory) is = tt
+-- a place to branch to, seen as it is read
+abbrev seen : Result Goto ℕ → Result Branch ℕ
+seen (Ok goto) = Ok (branch_of goto)
+seen (Err at) = Err at
+
+from-plain : (o : Result (List ℕ) ℕ) (r : Result Goto ℕ) → written.plain o ≡ r → plain o ≡ seen r
+from-plain (Ok name) r e = ap seen e
+from-plain (Err at) r e = ap seen e
+
+says_plain : (o : Result (List ℕ) ℕ) (r : Result Goto SyntaxFault) → Says (λ (goto : Goto). goto) (written.plain o) r → Says branch_of (plain o) r
+says_plain o (Ok found) is = from-plain o (Ok found) is
+says_plain o (Err (At at)) is = from-plain o (Err at) is
+says_plain o (Err OutOfMemory) is = tt
 
 first-wrong : (first : List ℕ) (others : List (List ℕ)) (at : ℕ) → choice Number first ≡ Err at → computed (first ∷ others) ≡ Err at
 first-wrong first others at e = ap (λ o. with_others o (each sequence others)) e

@@ -19,7 +19,7 @@ use Rattle.conditional_fields.proofs.LogicFinds.{one_logic-tree, read_logic-find
 use Rattle.character_grammar.specs.TextReadings.{read_text}
 use Rattle.character_grammar.specs.Texts.{SpellsText}
 use Rattle.character_grammar.proofs.TextFinds.{one_text-tree, read_text-finds}
-use Rattle.statement_reading.specs.Answers.{Says}
+use Rattle.conditional_fields.specs.Answers.{Says}
 
 -- a reader says what is read that finds what is written
 says_read : (Written : List ℕ → Tree → Type 0) (text : List ℕ) (found : Result Tree ℕ) → Finds Written text found → ((t : List ℕ) (tree other : Tree) → Written t tree → Written t other → tree ≡ other) →

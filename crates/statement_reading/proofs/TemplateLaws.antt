@@ -13,11 +13,10 @@ use Rattle.expression_grammar.specs.Views.{tree_of}
 use Rattle.conditional_fields.specs.declared.template.Piece.{Piece}
 use Rattle.conditional_fields.specs.declared.template.Piece.TheVariants.{Plain, Variable}
 use Rattle.conditional_fields.specs.declared.template.Template.{Template}
-use Rattle.conditional_fields.specs.Answers.{behind_these}
+use Rattle.conditional_fields.specs.Answers.{Says, behind_these}
 use Rattle.conditional_fields.specs.Readings.{IsFault}
 use Rattle.conditional_fields.specs.Templates.{IsPiece, IsSymbolWith, IsTemplate, IsUnreadable, Reads, behind_symbol, has_subscripts, plain_length}
 use Rattle.conditional_fields.proofs.AnswerLaws.{behind-nothing}
-use Rattle.statement_reading.specs.Answers.{Says}
 use Rattle.statement_reading.specs.Symbols.{Found, reach, symbol}
 use Rattle.statement_reading.specs.Templates.{Part, plain, variable, and_more, has_ampersand, next, parts_in, plain_parts, template}
 use Rattle.statement_reading.specs.Views.{part_of, parts_of}

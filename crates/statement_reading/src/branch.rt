@@ -1,6 +1,6 @@
 //! Where AGO and AIF branch to (SC26-4940, "AGO instruction", "Computed AGO instruction", "AIF instruction").
 ghost use Rattle.std.specs.Str.{chars};
-ghost use Rattle.statement_reading.specs.Answers.{Says};
+ghost use Rattle.conditional_fields.specs.Answers.{Says};
 ghost use Rattle.statement_reading.specs.Branches as branches;
 ghost use Rattle.statement_reading.specs.Views.{branch_of, choice_of};
 

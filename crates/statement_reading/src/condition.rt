@@ -1,8 +1,7 @@
 //! The pairs of an AIF.
 ghost use Rattle.std.specs.Prelude.{◌≡◌, [], ◌∷◌, ◌++◌, map, OnOk};
 ghost use Rattle.std.specs.Str.{chars};
-ghost use Rattle.conditional_fields.specs.Answers.{each};
-ghost use Rattle.statement_reading.specs.Answers.{Says};
+ghost use Rattle.conditional_fields.specs.Answers.{Says, each};
 ghost use Rattle.statement_reading.specs.Branches as branches;
 ghost use Rattle.statement_reading.specs.Views.{choices_of};
 

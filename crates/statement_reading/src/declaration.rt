@@ -1,7 +1,7 @@
 //! Declarations and members.
 ghost use Rattle.std.specs.Str.{chars};
 ghost use Rattle.conditional_fields.specs.Declarations as declared;
-ghost use Rattle.statement_reading.specs.Answers.{Says};
+ghost use Rattle.conditional_fields.specs.Answers.{Says};
 ghost use Rattle.statement_reading.specs.Bodies as bodies;
 
 use conditional_fields::character::name_of;

@@ -1,7 +1,7 @@
 //! Entries with variable symbols.
 ghost use Rattle.std.specs.Prelude.{◌≡◌, IfOk};
 ghost use Rattle.std.specs.Str.{chars};
-ghost use Rattle.statement_reading.specs.Answers.{Says};
+ghost use Rattle.conditional_fields.specs.Answers.{Says};
 ghost use Rattle.statement_reading.specs.Symbols as symbols;
 ghost use Rattle.statement_reading.specs.Templates as templates;
 ghost use Rattle.statement_reading.specs.Views.{found_of, parts_of};

@@ -5,7 +5,7 @@ ghost use Rattle.expression_grammar.specs.Readings.{read};
 ghost use Rattle.expression_grammar.specs.Views.{tree_of};
 ghost use Rattle.conditional_fields.specs.LogicReadings.{read_logic};
 ghost use Rattle.character_grammar.specs.TextReadings.{read_text};
-ghost use Rattle.statement_reading.specs.Answers.{Says};
+ghost use Rattle.conditional_fields.specs.Answers.{Says};
 
 use conditional_fields::operand_grammar::{
     Expr, SyntaxFault, parse_arith, parse_char, parse_logic,

@@ -2,7 +2,7 @@
 ghost use Rattle.std.specs.Prelude.{◌≡◌, IfOk};
 ghost use Rattle.std.specs.Str.{chars};
 ghost use Rattle.conditional_fields.specs.Endings as endings;
-ghost use Rattle.statement_reading.specs.Answers.{Says};
+ghost use Rattle.conditional_fields.specs.Answers.{Says};
 ghost use Rattle.statement_reading.specs.Fields as entries;
 ghost use Rattle.statement_reading.specs.Templates as templates;
 ghost use Rattle.statement_reading.specs.Views.{entry_of, fields_of};

@@ -8,7 +8,7 @@ ghost use Rattle.conditional_fields.specs.declared.front.Sought.TheVariants.{Con
 ghost use Rattle.conditional_fields.specs.declared.template.Piece.{Piece};
 ghost use Rattle.conditional_fields.specs.Branches.{IsGoto, IsChoiceRead};
 ghost use Rattle.conditional_fields.specs.Templates.{HasNoSymbolWith, IsSymbol, IsTemplate, IsUnreadable, has_subscripts};
-ghost use Rattle.statement_reading.specs.Answers.{Says};
+ghost use Rattle.conditional_fields.specs.Answers.{Says};
 ghost use Rattle.statement_reading.specs.Branches as branches;
 ghost use Rattle.statement_reading.specs.Symbols as symbols;
 ghost use Rattle.statement_reading.specs.Templates as templates;

@@ -1,7 +1,7 @@
 //! The operands of MNOTE (SC26-4940, "MNOTE instruction").
 ghost use Rattle.std.specs.Prelude.{◌≡◌, None};
 ghost use Rattle.std.specs.Str.{chars};
-ghost use Rattle.statement_reading.specs.Answers.{Says};
+ghost use Rattle.conditional_fields.specs.Answers.{Says};
 ghost use Rattle.statement_reading.specs.Messages as messages;
 ghost use Rattle.statement_reading.specs.Views.{message_of, severity_of};
 

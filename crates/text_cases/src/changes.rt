@@ -8,11 +8,11 @@ use text_pool::LONGEST_TEXT;
 /// The most bytes of a text that are written down.
 const LONGEST_SHOWN: usize = 200;
 
-/// What a refusal says.
+/// The name of a refusal.
 pub fn refusal(alloc: Global, fault: StoreFault) -> Result<String, OutOfMemory> {
     match fault {
         StoreFault::OutOfMemory => Err(OutOfMemory),
-        _ => Ok(format!(in alloc; "{fault}")?),
+        _ => Ok(format!(in alloc; "{fault:?}")?),
     }
 }
 

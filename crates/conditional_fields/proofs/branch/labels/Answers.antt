@@ -1,6 +1,6 @@
 use Rattle.std.proofs.Common.{◌∙◌, ◌+◌, List, ℕ, sym, ap, subst, drop}
 use Rattle.std.specs.Prelude.{Err, Ok}
-use Rattle.conditional_fields.specs.Answers.{Answers, each, behind_these}
+use Rattle.conditional_fields.specs.Answers.{Says, each, behind_these}
 use Rattle.conditional_fields.specs.Sequences.{sequence}
 use Rattle.conditional_fields.proofs.AnswerLaws.{behind-nothing, each-goes, each-stops, each-ends, each-at, each-past}
 use Rattle.conditional_fields.proofs.branch.labels.Goals as goal
@@ -14,9 +14,9 @@ pub returns-in-Err : goal.returns-in-Err
 returns-in-Err c =
     let all = c.args.operands.now in
     let i = c.loop-operand.operand-index in
-    each-stops (each sequence all) c.loop-operand.names.items (sequence c.operand-item.result) (each sequence (drop (i + 1) all)) c.in-Err.fault
+    each-stops (λ (name : List ℕ). name) (λ (names : List (List ℕ)). names) (each sequence all) c.loop-operand.names.items (sequence c.operand-item.result) (each sequence (drop (i + 1) all)) c.in-Err.fault
     (c.loop-operand.invariant ∙ ap (behind_these c.loop-operand.names.items) (each-at sequence all i c.operand-item.result c.loop-operand-test.true c.operand-item.is))
-    (subst (λ (text : List ℕ). Answers (sequence text) (Err c.in-Err.fault)) c.as_str.ensures.characters c.in-Err.ensures)
+    (subst (λ (text : List ℕ). Says (λ (name : List ℕ). name) (sequence text) (Err c.in-Err.fault)) c.as_str.ensures.characters c.in-Err.ensures)
 
 pub loop-operand-preserved : goal.loop-operand-preserved
 loop-operand-preserved c =
@@ -24,7 +24,7 @@ loop-operand-preserved c =
     let i = c.loop-operand.operand-index in
     each-goes (each sequence all) c.loop-operand.names.items (sequence c.operand-item.result) (each sequence (drop (i + 1) all)) c.in-Ok.name
     (c.loop-operand.invariant ∙ ap (behind_these c.loop-operand.names.items) (each-at sequence all i c.operand-item.result c.loop-operand-test.true c.operand-item.is))
-    (subst (λ (text : List ℕ). Answers (sequence text) (Ok c.in-Ok.name)) c.as_str.ensures.characters c.in-Ok.ensures)
+    (subst (λ (text : List ℕ). Says (λ (name : List ℕ). name) (sequence text) (Ok c.in-Ok.name)) c.as_str.ensures.characters c.in-Ok.ensures)
     ∙ ap (λ done. behind_these done (each sequence (drop (i + 1) all))) (sym c.in_ok-push-in-Ok.ensures)
 
 pub returns : goal.returns

@@ -1,6 +1,7 @@
 use Rattle.std.proofs.Common.{◌∙◌, ◌+◌, List, ℕ, sym, ap, subst, drop}
 use Rattle.std.specs.Prelude.{Err, Ok}
-use Rattle.conditional_fields.specs.Answers.{Answers, each, behind_these}
+use Rattle.hl_base.specs.declared.set.Declaration.{Declaration}
+use Rattle.conditional_fields.specs.Answers.{Says, each, behind_these}
 use Rattle.conditional_fields.specs.Declarations.{declaration}
 use Rattle.conditional_fields.proofs.AnswerLaws.{behind-nothing, each-goes, each-stops, each-ends, each-at, each-past}
 use Rattle.conditional_fields.proofs.declaration.each_declaration.Goals as goal
@@ -15,9 +16,9 @@ returns-in-Err c =
     let read = declaration c.args.kind c.args.global in
     let all = c.args.operands.now in
     let i = c.loop-operand.operand-index in
-    each-stops (each read all) c.loop-operand.list (read c.operand-item.result) (each read (drop (i + 1) all)) c.in-Err.fault
+    each-stops (λ (d : Declaration). d) (λ (ds : List Declaration). ds) (each read all) c.loop-operand.list (read c.operand-item.result) (each read (drop (i + 1) all)) c.in-Err.fault
     (c.loop-operand.invariant ∙ ap (behind_these c.loop-operand.list) (each-at read all i c.operand-item.result c.loop-operand-test.true c.operand-item.is))
-    (subst (λ (text : List ℕ). Answers (read text) (Err c.in-Err.fault)) c.as_str.ensures.characters c.in-Err.ensures)
+    (subst (λ (text : List ℕ). Says (λ (d : Declaration). d) (read text) (Err c.in-Err.fault)) c.as_str.ensures.characters c.in-Err.ensures)
 
 pub loop-operand-preserved : goal.loop-operand-preserved
 loop-operand-preserved c =
@@ -26,7 +27,7 @@ loop-operand-preserved c =
     let i = c.loop-operand.operand-index in
     each-goes (each read all) c.loop-operand.list (read c.operand-item.result) (each read (drop (i + 1) all)) c.in-Ok.one
     (c.loop-operand.invariant ∙ ap (behind_these c.loop-operand.list) (each-at read all i c.operand-item.result c.loop-operand-test.true c.operand-item.is))
-    (subst (λ (text : List ℕ). Answers (read text) (Ok c.in-Ok.one)) c.as_str.ensures.characters c.in-Ok.ensures)
+    (subst (λ (text : List ℕ). Says (λ (d : Declaration). d) (read text) (Ok c.in-Ok.one)) c.as_str.ensures.characters c.in-Ok.ensures)
     ∙ ap (λ done. behind_these done (each read (drop (i + 1) all))) (sym c.in_ok-push-in-Ok.ensures.ok)
 
 pub returns : goal.returns
