@@ -1,5 +1,5 @@
 -- How far operands without literal can be read.
-use Rattle.std.proofs.Common.{◌≡◌, ◌∙◌, ◌↔◌, ℕ, suc, ◌+◌, ◌<◌, ◌≤◌, ◌==◌, Bool, true, false, List, [], ◌∷◌, ◌++◌, length, take, drop, refl, sym, ap, subst, arith, append_assoc}
+use Rattle.std.proofs.Common.{◌≡◌, ◌∙◌, ◌↔◌, ℕ, ◌+◌, ◌==◌, Bool, true, false, List, [], ◌∷◌, ◌++◌, length, take, drop, refl, sym, ap, subst, arith, append_assoc}
 use Rattle.std.specs.Prelude.{Option, Some, None, Result, Ok, Err, if◌then◌else◌}
 use Rattle.std.proofs.lemmas.Bool.{false≢true, eqb-true, eq-eqb}
 use Rattle.std.proofs.lemmas.List.{length-take-le}
@@ -21,7 +21,7 @@ use Rattle.machine_operands.specs.Operands.{Written, Operand, value_by, plain_va
 use Rattle.machine_operands.specs.Parts.{Parts, parts}
 use Rattle.operand_laws.specs.Right.{IsOrdinary, IsEnclosed, IsAddress, bare, enclosed, IsRight, IsBegun, IsLongest}
 use Rattle.operand_laws.proofs.Ends.{opens, nothing_behind, viable, viable_front, same_ends, stops_at}
-use Rattle.operand_laws.proofs.Inner.{FindsParts, IsWrong, parts_finds, some_enclosed, crossed}
+use Rattle.operand_laws.proofs.Inner.{FindsParts, parts_finds, some_enclosed, crossed}
 use Rattle.operand_laws.proofs.Lists.{rejoin}
 use Rattle.operand_laws.proofs.Longest.{lifted, longest_once}
 use Rattle.operand_laws.proofs.Readers.{read_ok, read_err, tree_some, tree_there}

@@ -1,5 +1,5 @@
 -- Behind an expression no parenthesis and no comma goes on.
-use Rattle.std.proofs.Common.{◌≡◌, ◌∙◌, ℕ, ◌+◌, ◌-◌, ◌<◌, ◌≤◌, inl, inr, Bool, true, false, List, [], ◌∷◌, ◌++◌, length, take, refl, sym, ap, subst, arith, append_assoc, append-nil, length-append}
+use Rattle.std.proofs.Common.{◌≡◌, ◌∙◌, ℕ, ◌+◌, ◌-◌, ◌<◌, ◌≤◌, inl, inr, List, [], ◌∷◌, ◌++◌, length, take, refl, sym, ap, subst, arith, append_assoc, append-nil, length-append}
 use Rattle.std.specs.Prelude.{Option, Some, None, option_and_then, option_map}
 use Rattle.std.proofs.lemmas.Bool.{false≢true, cases_lt}
 use Rattle.expression_grammar.specs.declared.character.Grammar.TheVariants.{Ordinary}
@@ -10,7 +10,7 @@ use Rattle.expression_grammar.specs.declared.part.Move.TheVariants.{Over}
 use Rattle.expression_grammar.specs.declared.tree.Form.TheVariants.{Decimal, Hexadecimal, Binary, Character}
 use Rattle.expression_grammar.specs.Characters.{kind_of}
 use Rattle.expression_grammar.specs.Parts.{after, after_figures, after_quote, after_word, after_property, finish, IsPart}
-use Rattle.expression_grammar.specs.Reading.{Layer, State, Want, Have, Within, Folded, fold, closed, parted, behind, ended, moved, step, run, whole, accept, kept, advance, Holds, Reaches}
+use Rattle.expression_grammar.specs.Reading.{Layer, State, Want, Have, Within, Folded, fold, closed, parted, behind, ended, moved, step, whole, accept, kept, advance, Holds, Reaches}
 use Rattle.expression_grammar.specs.Spelling.{Placed, placed, Spells, IsExpression, IsViable, most_parts}
 use Rattle.expression_grammar.specs.Trees.{Tree}
 use Rattle.expression_grammar.proofs.Finds.{no-expression, reaches-start, ends-open, whole-some, take-all, take-past}

@@ -1,5 +1,5 @@
 -- What stands in parentheses behind a displacement, and how far it can be read.
-use Rattle.std.proofs.Common.{◌≡◌, ◌∙◌, ℕ, zero, suc, ◌+◌, ◌-◌, ◌<◌, ◌≤◌, ◌==◌, ◌&&◌, Bool, true, false, List, [], ◌∷◌, ◌++◌, length, take, drop, refl, sym, ap, subst, arith, append_assoc, append-nil, add-one}
+use Rattle.std.proofs.Common.{◌≡◌, ◌∙◌, ℕ, zero, suc, ◌+◌, ◌<◌, ◌≤◌, ◌==◌, ◌&&◌, Bool, true, false, List, [], ◌∷◌, ◌++◌, length, take, drop, refl, sym, ap, subst, arith, append_assoc, append-nil}
 use Rattle.std.specs.Prelude.{Option, Some, None, Result, Ok, Err, IsTrue, if◌then◌else◌}
 use Rattle.std.proofs.lemmas.Bool.{false≢true, eqb-true, eq-eqb}
 use Rattle.std.proofs.lemmas.List.{length-take-le}
@@ -12,14 +12,14 @@ use Rattle.expression_grammar.specs.Reading.{Want}
 use Rattle.expression_grammar.proofs.Finds.{reaches-start, reaches-viable, take-all}
 use Rattle.constant_grammar.specs.Elements.{tree_in}
 use Rattle.machine_operands.specs.declared.form.AddressForm.{AddressForm}
-use Rattle.machine_operands.specs.declared.form.AddressForm.TheVariants.{Based, Indexed, Counted}
+use Rattle.machine_operands.specs.declared.form.AddressForm.TheVariants.{Based}
 use Rattle.machine_operands.specs.Forms.{has_two, may_omit_first}
-use Rattle.machine_operands.specs.Parts.{Parts, closed, last_by, last, with_base, only, alone, with_first, two_by, two, given_by, given, omitted, parts_by, parts}
+use Rattle.machine_operands.specs.Parts.{Parts, last_by, last, with_base, alone, with_first, two_by, two, given_by, given, omitted, parts_by, parts}
 use Rattle.operand_laws.specs.Right.{IsOrdinary, IsInner, one, second, both, IsEnclosed, IsBegun, IsLongest}
-use Rattle.operand_laws.proofs.Ends.{IsEnd, opens, closes, parts as parts_at, viable, viable_front, same_ends, starts_comma, stops_at}
-use Rattle.operand_laws.proofs.Lists.{Split, inside, beyond, split, seen, cut, nil-not, none-left, rejoin}
+use Rattle.operand_laws.proofs.Ends.{closes, parts as parts_at, viable, viable_front, same_ends, starts_comma, stops_at}
+use Rattle.operand_laws.proofs.Lists.{Split, inside, beyond, split, seen, nil-not, rejoin}
 use Rattle.operand_laws.proofs.Longest.{lifted, nothing_follows}
-use Rattle.operand_laws.proofs.Readers.{read_ok, tree_some, tree_there, IsClosedFront, front_ok, IsOpenFront, front_err}
+use Rattle.operand_laws.proofs.Readers.{tree_some, tree_there, IsClosedFront, front_ok, IsOpenFront, front_err}
 
 -- Texts of which no part ends.
 

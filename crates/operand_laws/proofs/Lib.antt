@@ -4,3 +4,8 @@ pub mod Readers
 pub mod Longest
 pub mod Inner
 pub mod Addresses
+pub mod Runs
+pub mod Symbols
+pub mod Declared
+pub mod Choices
+pub mod Messages

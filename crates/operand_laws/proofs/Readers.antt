@@ -1,6 +1,6 @@
 -- What the readers of expressions say of a text, as facts of its parts.
-use Rattle.std.proofs.Common.{◌≡◌, ◌∙◌, ℕ, suc, ◌+◌, ◌<◌, ◌≤◌, List, [], ◌∷◌, ◌++◌, length, take, drop, refl, sym, ap, subst, arith, append_assoc}
-use Rattle.std.specs.Prelude.{Option, Some, None, Result, Ok, Err, slice_index}
+use Rattle.std.proofs.Common.{◌≡◌, ◌∙◌, ℕ, ◌<◌, ◌≤◌, List, ◌∷◌, ◌++◌, length, take, refl, sym, ap, subst}
+use Rattle.std.specs.Prelude.{Some, None, Result, Ok, Err, slice_index}
 use Rattle.std.proofs.Common.{get_or}
 use Rattle.expression_grammar.specs.declared.character.Grammar.TheVariants.{Ordinary}
 use Rattle.expression_grammar.specs.Fronts.{IsClosed, IsFirst, IsNoFront}
