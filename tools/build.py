@@ -2,6 +2,7 @@
 """Proves and builds programs (or every crate, where none is named) and the crates that they stand on: as many side by side as there
 are processors and memory, each once the crates below it are proved, and first those with the longest chain of others above them. What
 is proved is kept in crates/NAME/out, so with no change since it says so and ends. It tries no tests and no edits, as rt ci does.
+What rt ci proved on this machine of the same texts is taken over first (kept.py), and is not proved again.
 Usage: tools/build.py [PROGRAM..]
 
 A library is kept as its statements, as rt ci has it, and not with its proofs as rt lib has it: the crates above then read a tenth as
@@ -186,6 +187,9 @@ def main(names):
     if all(is_kept(it, crates.stamp(it)) for it in wanted):
         print(f"{what}: proved and built, and nothing of it has changed")
         return 0
+    # what rt ci proved on this machine of the same texts is taken over
+    how = {"stdout": subprocess.DEVNULL, "stderr": subprocess.DEVNULL}
+    subprocess.run([sys.executable, f"{TOP}/tools/kept.py"], check=False, **how)
     print(f"{what}: {len(wanted)} crates, which go side by side. From nothing each takes a processor one to ten minutes (a hundred of "
           "them more than an hour on four processors); what is proved is kept.", flush=True)
     began = time.time()
