@@ -27,7 +27,7 @@ pub enum Action<K, V, C, I> {
     Put(K, V),
     Count,
     Bump,
-    Emit(I),
+    Emit(Box<I>),
     Deepen,
     Rise,
     Enter(C),

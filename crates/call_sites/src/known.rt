@@ -13,6 +13,7 @@ use kept_values::Kept;
 use macro_library::{KeptDefinition, MemberFile};
 use std::alloc::Global;
 use std::marker::Model;
+use std::rc::Rc;
 
 /// The macro that an operation is. Contracts see what its definition says.
 #[derive(Drop)]
@@ -60,14 +61,20 @@ impl KnownMacro {
     }
 }
 
-/// A member of a library. Contracts see its file.
+/// What is known of a member of a library.
 #[derive(Drop)]
-pub struct KnownMember {
+struct MemberKnowledge {
     file: MemberFile,
     /// The definition that it has, so that it is read once and not at each call.
     own: Option<OwnDefinition>,
     /// What expressions are told of it.
     answer: Answer,
+}
+
+/// A member of a library. Contracts see its file. All that is known of it is shared, so it is small and takes no memory when it is copied.
+#[derive(Drop)]
+pub struct KnownMember {
+    shared: Rc<MemberKnowledge>,
 }
 
 impl Model for KnownMember {
@@ -79,9 +86,9 @@ impl Model for KnownMember {
 
     ghost Value = { File };
 
-    ghost view = { λ m. m.file };
+    ghost view = { λ m. m.shared.value.file };
 
-    ghost invariant = { λ m. (m.answer ≡ Nothing) × IsOwn (statements_in m.file) m.own };
+    ghost invariant = { λ m. (m.shared.value.answer ≡ Nothing) × IsOwn (statements_in m.shared.value.file) m.shared.value.own };
 }
 
 impl KnownMember {
@@ -90,10 +97,13 @@ impl KnownMember {
         ensures { IfOk result (λ m. m ≡ file) }
     {
         let own = OwnDefinition::of(alloc, file.list())?;
-        Ok(KnownMember {
+        let knowledge = MemberKnowledge {
             file,
             own,
             answer: Answer::Nothing,
+        };
+        Ok(KnownMember {
+            shared: Rc::new(alloc, knowledge)?,
         })
     }
 
@@ -101,15 +111,8 @@ impl KnownMember {
     fn share(&self) -> Result<KnownMember, OutOfMemory>
         ensures { IfOk result (λ m. m ≡ self.now) }
     {
-        let file = self.file.share()?;
-        let own = match &self.own {
-            Some(own) => Some(own.share()?),
-            None => None,
-        };
         Ok(KnownMember {
-            file,
-            own,
-            answer: Answer::Nothing,
+            shared: self.shared.clone()?,
         })
     }
 
@@ -117,7 +120,7 @@ impl KnownMember {
     pub fn definition_at(&self, start: u32) -> Option<&KeptDefinition>
         ensures { IfSome result (λ kept. definition_of [] (statements_in self.now) start ≡ Ok kept.now.definition.value) }
     {
-        match &self.own {
+        match &self.shared.own {
             Some(own) => own.at(start),
             None => None,
         }
@@ -127,14 +130,14 @@ impl KnownMember {
     pub fn file(&self) -> &MemberFile
         ensures { result.now ≡ self.now }
     {
-        &self.file
+        &self.shared.file
     }
 
     /// What expressions are told of it: nothing.
     fn answer(&self) -> &Answer
         ensures { result.now ≡ Nothing }
     {
-        &self.answer
+        &self.shared.answer
     }
 }
 
@@ -197,7 +200,7 @@ fn is_member(known: &Known, one: &KnownMember) -> bool
     ensures { IsTrue result ↔ (known_tree known.now ≡ member_known one.now) }
 {
     match known {
-        Known::Member(other) => same_file(&other.file, &one.file),
+        Known::Member(other) => same_file(other.file(), one.file()),
         Known::Plain(_) | Known::Macro(_) => false,
     }
 }
@@ -221,7 +224,7 @@ impl Kept for Known {
         match self {
             Known::Plain(answer) => answer.number(),
             Known::Macro(known) => known.definition.number(),
-            Known::Member(known) => u64::from(known.file.path().0),
+            Known::Member(known) => u64::from(known.file().path().0),
         }
     }
 

@@ -1,5 +1,5 @@
 -- The moves of the reader of character expressions, put together.
-use Rattle.std.proofs.Common.{◌≡◌, ℕ, ◌+◌, ◌-◌, ◌<◌, ◌≤◌, Bool, true, false, List, [], ◌∷◌, refl, sym, ap, ◌∙◌, subst, arith}
+use Rattle.std.proofs.Common.{◌≡◌, ℕ, ◌+◌, ◌-◌, ◌<◌, ◌≤◌, Bool, true, false, List, [], ◌∷◌, ◌++◌, refl, sym, ap, ◌∙◌, subst, arith}
 use Rattle.std.specs.Prelude.{length, Option, Some, None, nat_le, option_and_then, option_map, if◌then◌else◌}
 use Rattle.std.proofs.lemmas.Bool.Decides.{nat_tests}
 use Rattle.expression_grammar.specs.declared.character.Grammar.{Grammar}
@@ -13,13 +13,13 @@ use Rattle.character_grammar.specs.declared.text_reader.TextMoved.{TextMoved}
 use Rattle.expression_grammar.specs.Characters.{kind_of}
 use Rattle.expression_grammar.specs.Spelling.{Placed, most_parts}
 use Rattle.expression_grammar.specs.Parts.{finish}
-use Rattle.expression_grammar.specs.Trees.{Tree, size}
+use Rattle.expression_grammar.specs.Trees.{Items, Tree, size}
 use Rattle.expression_grammar.specs.Reading.{Layer, SignLayer, PairLayer, OpenLayer, SubscriptLayer, State, Have, Folded, fold, closed, parted, behind, settled, whole, step, accept, weight, layers_size}
 use Rattle.expression_grammar.specs.Stacks.{stack_of, stand}
 use Rattle.expression_grammar.specs.Views.{tree_of}
 use Rattle.character_grammar.specs.TextReading as texts
 use Rattle.character_grammar.specs.TextReading.{Frame, Factor, Subscripts, Start, Count, Opened, TextState, leave, left_by, go_within, is_end, text_step, text_weight, text_kept, text_advance, frame_size, holder_size, opened_size, InText, go_inside, after_symbol}
-use Rattle.character_grammar.specs.TextViews.{TextMoves, text_state}
+use Rattle.character_grammar.specs.TextViews.{Takes, TextMoves, is_plain, text_state}
 use Rattle.expression_grammar.specs.Characters.{strength}
 use Rattle.expression_grammar.specs.Trees.{Signed, Pair}
 use Rattle.expression_grammar.proofs.Folds.{fold-size}
@@ -185,3 +185,33 @@ stays found before next moved e z s w =
 pub none-left : {A : Type 0} (xs : List A) → length xs ≡ 0 → xs ≡ []
 none-left [] e = refl
 none-left (x ∷ xs) e = absurd (omega arith)
+
+-- a character of a quoted text that stands for itself
+plain-inside : (opened : Opened) (items : Items) (plain : List ℕ) (k : Kind) (p : Placed) → is_plain k ≡ true → go_inside opened items plain k p ≡ texts.Inside opened items (plain ++ p.code ∷ [])
+plain-inside opened items plain (kind.Mark operator) p e = refl
+plain-inside opened items plain kind.Open p e = refl
+plain-inside opened items plain kind.Close p e = refl
+plain-inside opened items plain kind.Comma p e = refl
+plain-inside opened items plain kind.Blank p e = refl
+plain-inside opened items plain kind.Quote p e = absurd cc
+plain-inside opened items plain kind.Ampersand p e = absurd cc
+plain-inside opened items plain kind.Digit p e = refl
+plain-inside opened items plain kind.Letter p e = refl
+plain-inside opened items plain kind.Other p e = refl
+
+pub plain_takes : (opened : Opened) (items : Items) (old new : List ℕ) (c : ℕ) (taken : Bool) → taken ≡ is_plain (kind_of c) → new ≡ (if taken then old ++ c ∷ [] else old) →
+    Takes (texts.Inside opened items old) c (texts.Inside opened items new) taken
+unfolding text_step
+plain_takes opened items old new c true e n = λ at. (
+  ap Some (plain-inside opened items old (kind_of c) (record { at = at; code = c }) (sym e) ∙ ap (texts.Inside opened items) (sym n)),
+  refl,
+)
+plain_takes opened items old new c false e n = ap (texts.Inside opened items) n
+
+-- a state that is no larger
+pub text_advance_same : (before after : TextState) (p : Placed) (w : ℕ) → text_step before p ≡ Some after → text_weight after ≡ text_weight before → w ≡ text_weight before → w ≤ most_parts →
+    (text_advance most_parts before p ≡ Some after) × (w ≡ text_weight after) × (w ≤ most_parts)
+unfolding text_advance
+text_advance_same before after p w s same e f =
+    let exact : w ≡ text_weight after = e ∙ sym same in
+    (ap (option_and_then (text_kept most_parts)) s ∙ if-kept (nat_le (text_weight after) most_parts) (Some after) None (fits-test (text_weight after) most_parts (omega arith)), exact, f)

@@ -1,5 +1,5 @@
 -- What the reader of character expressions holds, as a state (this project). No public contract speaks of it.
-use Rattle.std.specs.Prelude.{◌≡◌, ℕ, ◌+◌, List, [], Option, Some, None, option_map}
+use Rattle.std.specs.Prelude.{◌≡◌, ℕ, ◌+◌, Bool, true, false, List, [], Option, Some, None, option_map}
 use Rattle.expression_grammar.specs.declared.tree.Expr.{Expr}
 use Rattle.character_grammar.specs.declared.text_point.Opened.{Opened}
 use Rattle.character_grammar.specs.declared.text_point.Holder.{Holder}
@@ -13,10 +13,12 @@ use Rattle.character_grammar.specs.declared.text_reader.Settled.{Settled}
 use Rattle.character_grammar.specs.declared.text_reader.Settled.TheVariants as settled
 use Rattle.expression_grammar.specs.declared.pending.Point.{Point}
 use Rattle.expression_grammar.specs.declared.character.Grammar.TheVariants.{Arithmetic}
+use Rattle.expression_grammar.specs.declared.character.Kind.{Kind}
+use Rattle.expression_grammar.specs.declared.character.Kind.TheVariants as kind
 use Rattle.expression_grammar.specs.Reading as reading
 use Rattle.expression_grammar.specs.Stacks.{stack_of, stand}
 use Rattle.character_grammar.specs.TextReading as texts
-use Rattle.character_grammar.specs.TextReading.{TextState, text_weight}
+use Rattle.character_grammar.specs.TextReading.{TextState, text_step, text_weight}
 use Rattle.expression_grammar.specs.Trees.{Tree, NoTrees, NoItems}
 use Rattle.expression_grammar.specs.Views.{tree_of, trees_in, items_in}
 
@@ -62,3 +64,14 @@ TextMoves found before (Some moved) = (found ≡ Some (text_state moved.point)) 
 abbrev pub Settles : Point → Settled → Type 0
 Settles inner (settled.Tree tree) = (layers : List reading.Layer) → reading.settled Arithmetic (stand inner layers) ≡ Some (reading.fold 0 (tree_of tree) layers)
 Settles inner (settled.Open point) = (layers : List reading.Layer) → (reading.settled Arithmetic (stand inner layers) ≡ None) × (stand point layers ≡ stand inner layers)
+
+-- whether a character of a quoted text stands for itself alone
+abbrev pub is_plain : Kind → Bool
+is_plain kind.Quote = false
+is_plain kind.Ampersand = false
+is_plain _ = true
+
+-- whether a character was taken in place: then this state follows, and is no larger; else the state is as it was
+abbrev pub Takes : (before : TextState) (c : ℕ) (after : TextState) → Bool → Type 0
+Takes before c after true = (at : ℕ) → (text_step before (record { at = at; code = c }) ≡ Some after) × (text_weight after ≡ text_weight before)
+Takes before c after false = after ≡ before

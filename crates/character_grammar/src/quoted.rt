@@ -37,9 +37,17 @@ impl Characters {
     pub fn with(self, c: char) -> Result<Characters, OutOfMemory>
         ensures { IfOk result (λ t. t ≡ self ++ c ∷ []) }
     {
-        let mut content = self.content;
-        content.push(c)?;
-        Ok(Characters { content })
+        let mut longer = self;
+        longer.push(c)?;
+        Ok(longer)
+    }
+
+    /// One character more, in place.
+    pub fn push(&mut self, c: char) -> Result<(), OutOfMemory>
+        ensures { IfOk result (λ _. self.new ≡ self.old ++ c ∷ []) }
+    {
+        self.content.push(c)?;
+        Ok(())
     }
 
     fn text(&self, alloc: Global) -> Result<Text, OutOfMemory>

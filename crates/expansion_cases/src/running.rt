@@ -180,7 +180,7 @@ fn carry_out<M: AskMachine, W: World<Key = M::Key, Value = M::Value>>(
             Ok(Next::Goes(Given::Nothing))
         }
         Action::Emit(item) => {
-            under_way.ran.items.push(item)?;
+            under_way.ran.items.push(Box::into_inner(item))?;
             Ok(Next::Goes(Given::Nothing))
         }
         Action::Deepen => Ok(under_way.deepen()),

@@ -1,7 +1,7 @@
 //! A call under way, one step at a time.
-ghost use Rattle.std.specs.Prelude.{◌≡◌, ◌+◌, ◌≤◌, Ok, IfOk, OnOk};
+ghost use Rattle.std.specs.Prelude.{◌≡◌, ◌+◌, ◌≤◌, Ok, IfOk, OnErr, OnOk, min};
 ghost use Rattle.trace_arena.specs.Nodes.{IsUnshared};
-ghost use Rattle.trace_arena.specs.Changes.{Begins};
+ghost use Rattle.trace_arena.specs.Changes.{Appends, Begins};
 ghost use Rattle.asking_core.specs.Machines.{Answered};
 ghost use Rattle.asking_core.specs.declared.machine.Given.TheVariants as given;
 ghost use Rattle.asking_core.specs.Actions.{told_of};
@@ -71,6 +71,22 @@ fn put<W: World>(
     summary.note_put(alloc, &key, &value)?;
     world.put(alloc, key, value)?;
     Ok(())
+}
+
+/// Adds an item to a node. An `Err` changes nothing of the arena.
+fn append<I: Drop, L: Ledger>(
+    arena: &mut TraceArena<I>,
+    node: NodeId,
+    item: Box<I>,
+    steps: &mut Steps<L>,
+) -> Result<(), OutOfMemory>
+    requires unshared { IsUnshared arena.old.nodes node.0 }
+    ensures appended { OnOk result (Appends arena.old.nodes arena.new.nodes node.0 item.value) }
+    ensures made { OnOk result (arena.new.made ≡ min (arena.old.made + 1) u64.MAX) }
+    ensures refused { OnErr result (arena.new ≡ arena.old) }
+    ensures ticked { steps.new ≡ steps.old + 1 }
+{
+    arena.append(node, Box::into_inner(item), steps)
 }
 
 /// The next step is told nothing.
@@ -150,7 +166,7 @@ pub(crate) fn advance<M: AskMachine, W: World<Key = M::Key, Value = M::Value>, L
             tell_nothing()
         }
         Action::Emit(item) => {
-            arena.append(walk.node, item, steps)?;
+            append(arena, walk.node, item, steps)?;
             tell_nothing()
         }
         Action::Deepen => {

@@ -7,7 +7,7 @@ ghost use Rattle.plain_expansion.specs.Expansion.{stepped, copying, statement_at
 ghost use Rattle.plain_expansion.specs.Expansion.{first_stack as first_stack_of, outermost as outermost_of};
 ghost use Rattle.plain_expansion.specs.Engine.{GoingOn, Performing, Telling, Doing, opened, heard, with_answer};
 ghost use Rattle.plain_expansion.specs.Engine.{step_by, step_of, tried, roomy_step, puts_then};
-ghost use Rattle.expansion_step.specs.Meaning.{meaning, call_by, pairs_by, stack_by, entry_by, effect_by, point_by};
+ghost use Rattle.expansion_step.specs.Meaning.{meaning, call_by, fault_by, pairs_by, stack_by, entry_by, effect_by, point_by};
 ghost use Rattle.expansion_step.specs.Places.{onward_by, pending_by, counted_first, keys_left, hearing, placing, deciding, phase_by};
 ghost use Rattle.expansion_step.specs.Takes.{Takes};
 ghost use Rattle.expansion_step.specs.declared.act.Act.TheVariants as does;
@@ -139,6 +139,22 @@ impl<X: CodedLanguage> Expander<X> {
         Ok(answers)
     }
 
+    /// What is kept of a point, apart from the action that tells it: actions are moved at each step, and it is larger than all
+    /// else that one has.
+    fn boxed_item(
+        &self,
+        alloc: Global,
+        stack: &Stack<X::Listing, X::Known>,
+        said: X::Said,
+        fault: Fault,
+    ) -> Result<Box<X::Item>, OutOfMemory>
+        ensures { IfOk result (λ i. let m = meaning X.reads X.call_of X.Call.code X.Key.code X.Value.code in
+            X.reads.item i.value ≡ X.language.item_of (point_by m stack.now said (fault_by fault))) }
+    {
+        let item = self.language.item(alloc, stack, said, fault)?;
+        Ok(Box::new(alloc, item)?)
+    }
+
     /// Nothing is left to do but this.
     fn nothing_but(alloc: Global, onward: Onward<X::Call>) -> Pending<X::Call, X::Key, X::Value>
         ensures { let m = meaning X.reads X.call_of X.Call.code X.Key.code X.Value.code in
@@ -153,14 +169,14 @@ impl<X: CodedLanguage> Expander<X> {
 
     /// Tells a point, with what is left to do.
     fn tell(
-        item: X::Item,
+        item: Box<X::Item>,
         counts: bool,
         mut puts: Vec<Noted<X::Key, X::Value>>,
         onward: Onward<X::Call>,
     ) -> Taken<X::Listing, X::Call, X::Key, X::Value, X::Item>
         ensures { let m = meaning X.reads X.call_of X.Call.code X.Key.code X.Value.code in
             (x : Stack X.Listing X.Known) → Takes m
-            (Doing (Telling (X.reads.item item)
+            (Doing (Telling (X.reads.item item.value)
             (counted_first m counts (puts_then (pairs_by m puts.items) (onward_by m onward (stack_by m x)))))) x result }
     {
         puts.reverse();
@@ -189,15 +205,15 @@ impl<X: CodedLanguage> Expander<X> {
             (λ fault. point_by m stack.old said fault) (stack_by m stack.old)) (stack_by m stack.old))) stack.new) }
     {
         let Some(position) = place else {
-            let item = self.language.item(alloc, stack, said, Fault::NoLabel)?;
+            let item = self.boxed_item(alloc, stack, said, Fault::NoLabel)?;
             self.step_on(stack)?;
             return Ok(Self::tell(item, false, Vec::new(alloc), Onward::On));
         };
         let Some(change) = change else {
-            let item = self.language.item(alloc, stack, said, Fault::NoBranchLeft)?;
+            let item = self.boxed_item(alloc, stack, said, Fault::NoBranchLeft)?;
             return Ok(Self::tell(item, false, Vec::new(alloc), Onward::Leave));
         };
-        let item = self.language.item(alloc, stack, said, Fault::NoFault)?;
+        let item = self.boxed_item(alloc, stack, said, Fault::NoFault)?;
         self.language.change(alloc, &mut stack.known, change)?;
         stack.here.position = position;
         Ok(Self::tell(item, false, Vec::new(alloc), Onward::On))
@@ -216,7 +232,7 @@ impl<X: CodedLanguage> Expander<X> {
             Takes m (Doing (step_by X.language (effect_by m (X.reads.known stack.old.known) said (does.Continues change puts))
             (stack_by m stack.old))) stack.new) }
     {
-        let item = self.language.item(alloc, stack, said, Fault::NoFault)?;
+        let item = self.boxed_item(alloc, stack, said, Fault::NoFault)?;
         self.step_on(stack)?;
         self.language.change(alloc, &mut stack.known, change)?;
         Ok(Self::tell(item, false, puts, Onward::On))
@@ -236,7 +252,7 @@ impl<X: CodedLanguage> Expander<X> {
             Takes m (Doing (step_by X.language (effect_by m (X.reads.known stack.old.known) said (does.Skips position change puts))
             (stack_by m stack.old))) stack.new) }
     {
-        let item = self.language.item(alloc, stack, said, Fault::NoFault)?;
+        let item = self.boxed_item(alloc, stack, said, Fault::NoFault)?;
         stack.here.position = position;
         self.language.change(alloc, &mut stack.known, change)?;
         Ok(Self::tell(item, false, puts, Onward::On))
@@ -255,10 +271,8 @@ impl<X: CodedLanguage> Expander<X> {
             Takes m (Doing (step_by X.language (effect_by m (X.reads.known stack.old.known) said (does.Enters limited entry))
             (stack_by m stack.old))) stack.new) }
     {
-        let item = self.language.item(alloc, stack, said, Fault::NoFault)?;
-        let limited = self.language.item(alloc, stack, limited, Fault::NoRoom)?;
-        let item = Box::new(alloc, item)?;
-        let limited = Box::new(alloc, limited)?;
+        let item = self.boxed_item(alloc, stack, said, Fault::NoFault)?;
+        let limited = self.boxed_item(alloc, stack, limited, Fault::NoRoom)?;
         Ok(Taken {
             action: Action::Deepen,
             phase: Phase::Tried(limited, item, entry),
@@ -276,7 +290,7 @@ impl<X: CodedLanguage> Expander<X> {
             Takes m (Doing (step_by X.language (effect_by m (X.reads.known stack.old.known) said does.Returns)
             (stack_by m stack.old))) stack.new) }
     {
-        let item = self.language.item(alloc, stack, said, Fault::NoFault)?;
+        let item = self.boxed_item(alloc, stack, said, Fault::NoFault)?;
         Ok(Self::tell(item, false, Vec::new(alloc), Onward::Leave))
     }
 
@@ -291,7 +305,7 @@ impl<X: CodedLanguage> Expander<X> {
             Takes m (Doing (step_by X.language (effect_by m (X.reads.known stack.old.known) said does.Finishes)
             (stack_by m stack.old))) stack.new) }
     {
-        let item = self.language.item(alloc, stack, said, Fault::NoFault)?;
+        let item = self.boxed_item(alloc, stack, said, Fault::NoFault)?;
         Ok(Self::tell(item, false, Vec::new(alloc), Onward::Finish))
     }
 
@@ -435,7 +449,6 @@ impl<X: CodedLanguage> Expander<X> {
             }
             Entry::Copying(listing) => {
                 self.copy_into(stack, listing)?;
-                let item = Box::into_inner(item);
                 Ok(Self::tell(item, false, Vec::new(alloc), Onward::On))
             }
         }
@@ -457,7 +470,6 @@ impl<X: CodedLanguage> Expander<X> {
     {
         if let Given::TooDeep = given {
             self.step_on(stack)?;
-            let limited = Box::into_inner(limited);
             return Ok(Self::tell(limited, false, Vec::new(alloc), Onward::On));
         }
         self.enter(alloc, stack, item, entry)
@@ -519,7 +531,7 @@ impl<X: CodedLanguage> Expander<X> {
             (x : Stack X.Listing X.Known) → Takes m (Doing (Telling (X.reads.item item.value) (pending_by m pending (stack_by m x)))) x t) }
     {
         Ok(Taken {
-            action: Action::Emit(Box::into_inner(item)),
+            action: Action::Emit(item),
             phase: Phase::Does(pending),
         })
     }

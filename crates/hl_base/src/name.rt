@@ -2,7 +2,7 @@
 ghost use Rattle.std.specs.Prelude.{◌≡◌, ◌<◌, ◌≤◌, [], ◌∷◌, ◌++◌, length, map, IsTrue};
 ghost use Rattle.std.specs.List.{list_all, AllPass};
 ghost use Rattle.std.specs.Char.{to_ascii_uppercase};
-ghost use Rattle.hl_base.specs.Symbols.{is_symbol, symbol_of, is_symbol_character};
+ghost use Rattle.hl_base.specs.Symbols.{is_symbol, symbol_of, is_symbol_character, is_no_small_letter};
 
 use crate::symbol::{is_letter, is_symbol_character};
 use arrayvec::ArrayString;
@@ -66,18 +66,46 @@ fn upper_cased(symbol: &[u8]) -> ArrayString<LONGEST_NAME>
     upper
 }
 
+/// Whether none of the bytes is a small letter.
+fn have_no_small_letter(bytes: &[u8]) -> bool
+    ensures { result ≡ list_all is_no_small_letter bytes.now }
+{
+    bytes.iter().all(|byte| !byte.is_ascii_lowercase())
+}
+
+/// The characters of a symbol, as they stand.
+fn as_written(symbol: &str) -> ArrayString<LONGEST_NAME>
+    requires short { length symbol.now ≤ LONGEST_NAME }
+    ensures { result.bytes ≡ symbol.now }
+{
+    let mut written = ArrayString::new();
+    written.push_str(symbol);
+    written
+}
+
+/// The characters of a symbol, upper-cased. Most symbols are written so, and are taken at once.
+fn upper_of(symbol: &str) -> ArrayString<LONGEST_NAME>
+    requires short { length symbol.now ≤ LONGEST_NAME }
+    requires characters { AllPass is_symbol_character symbol.now }
+    ensures { result.bytes ≡ map to_ascii_uppercase symbol.now }
+{
+    if have_no_small_letter(symbol.as_bytes()) {
+        return as_written(symbol);
+    }
+    upper_cased(symbol.as_bytes())
+}
+
 impl Name {
     /// The name that a text spells in either case of letters; `None` exactly where the text is no ordinary symbol of
     /// 1 to 63 characters (SC26-4940, "Symbols").
     pub fn read(text: &str) -> Option<Name>
         ensures { result ≡ symbol_of text.now }
     {
-        let symbol = text.as_bytes();
-        if !is_symbol(symbol) {
+        if !is_symbol(text.as_bytes()) {
             return None;
         }
         Some(Name {
-            upper: upper_cased(symbol),
+            upper: upper_of(text),
         })
     }
 

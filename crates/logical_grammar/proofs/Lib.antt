@@ -15,3 +15,4 @@ pub mod LogicTexts
 pub mod LogicLeads
 pub mod LogicStackLaws
 pub mod LogicMoveLaws
+pub mod LogicInPlace

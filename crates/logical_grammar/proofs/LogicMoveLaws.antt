@@ -503,7 +503,7 @@ join_moves operator rest tree left layers below new e n =
 
 -- The next state, within the limit.
 
-fits-test : (a b : ℕ) → a ≤ b → nat_le a b ≡ true
+pub fits-test : (a b : ℕ) → a ≤ b → nat_le a b ≡ true
 fits-test a b h = grind (arith, nat_tests)
 
 over-test : (a b : ℕ) → b < a → nat_le a b ≡ false

@@ -90,6 +90,13 @@ LogicMoves found before None layers = found ≡ None
 LogicMoves found before (Some moved) layers =
     (found ≡ Some (at_point layers (point_of moved.point))) × (logic_weight (at_point layers (point_of moved.point)) ≡ before + moved.more)
 
+-- whether a character was taken in place: then this point follows, over whatever is open, and is no larger; else the point is
+-- as it was
+abbrev pub LogicTakes : (before : logic.Point) (c : ℕ) (after : logic.Point) → Bool → Type 0
+LogicTakes before c after true = (at : ℕ) (layers : List Open) →
+    (logic.point_step before (record { at = at; code = c }) layers ≡ Some (at_point layers after)) × (logic.point_weight after ≡ logic.point_weight before)
+LogicTakes before c after false = after ≡ before
+
 -- whether a term takes a letter more
 abbrev pub part_takes_letter : Part → Bool
 part_takes_letter (Property asked place name) = nat_lt (length name) 63

@@ -1,37 +1,14 @@
-use Rattle.std.proofs.Common.{◌≡◌, ℕ, ◌-◌, ◌<◌, ◌≤◌, refl, subst, rules}
-use Rattle.std.specs.Prelude.{Option}
-use Rattle.character_grammar.specs.declared.text_reader.TextMoved.{TextMoved}
-use Rattle.expression_grammar.specs.Spelling.{Placed, most_parts}
-use Rattle.character_grammar.specs.TextReading.{TextState, text_step, text_weight}
-use Rattle.character_grammar.specs.TextViews.{TextMoves, text_state}
-use Rattle.character_grammar.proofs.TextMoveLaws.{text_advance_none, text_advance_some, text_advance_over}
+use Rattle.std.proofs.Common.{Bool, true, subst}
+use Rattle.expression_grammar.specs.Spelling.{Placed}
+use Rattle.character_grammar.specs.TextReading.{TextState}
+use Rattle.character_grammar.specs.TextViews.{Takes, text_state}
+use Rattle.character_grammar.proofs.TextMoveLaws.{text_advance_same}
 use Rattle.character_grammar.proofs.parse_text.advance_text.Goals as goal
 
-pub returns-in_default : goal.returns-in_default
-returns-in_default c =
-    let state : TextState = text_state c.args.progress.point in
+pub returns-then-branch : goal.returns-then-branch
+returns-then-branch c =
+    let before : TextState = text_state c.args.progress.now.point in
+    let after : TextState = text_state c.take_plain.new.point in
     let p : Placed = record { at = c.args.at; code = c.args.c } in
-    let m : TextMoves (text_step state p) (text_weight state) c.in_ok-moved.field-0 = c.in_ok-moved.ensures in
-    (refl, text_advance_none state p (subst (λ (o : Option TextMoved). TextMoves (text_step state p) (text_weight state) o) c.in_default.is m))
-
-pub returns-then-moved-from : goal.returns-then-moved-from
-returns-then-moved-from c =
-    let state : TextState = text_state c.args.progress.point in
-    let p : Placed = record { at = c.args.at; code = c.args.c } in
-    let m : TextMoves (text_step state p) (text_weight state) c.in_ok-moved.field-0 = c.in_ok-moved.ensures in
-    let most : c.from.result ≡ most_parts = search rules in
-    let over : most_parts - c.args.progress.weight < c.in-Some.moved.more = subst (λ (n : ℕ). n - c.args.progress.weight < c.in-Some.moved.more) most c.if-moved-from.true in (
-      refl,
-      text_advance_over state p c.args.progress.weight c.in-Some.moved
-          (subst (λ (o : Option TextMoved). TextMoves (text_step state p) (text_weight state) o) c.in-Some.is m) c.requires.weighed c.requires.small over,
-    )
-
-pub returns : goal.returns
-returns c =
-    let state : TextState = text_state c.args.progress.point in
-    let p : Placed = record { at = c.args.at; code = c.args.c } in
-    let m : TextMoves (text_step state p) (text_weight state) c.in_ok-moved.field-0 = c.in_ok-moved.ensures in
-    let most : c.from.result ≡ most_parts = search rules in
-    let within : c.in-Some.moved.more ≤ most_parts - c.args.progress.weight = subst (λ (n : ℕ). c.in-Some.moved.more ≤ n - c.args.progress.weight) most c.if-moved-from.false in
-    text_advance_some state p c.args.progress.weight c.in-Some.moved
-    (subst (λ (o : Option TextMoved). TextMoves (text_step state p) (text_weight state) o) c.in-Some.is m) c.requires.weighed c.requires.small within
+    let taken : Takes before c.args.c after true = subst (λ (b : Bool). Takes before c.args.c after b) c.if-branch.true c.in_ok-take_plain.ensures in
+    text_advance_same before after p c.args.progress.now.weight (taken c.args.at).0 (taken c.args.at).1 c.requires.weighed c.requires.small

@@ -24,7 +24,7 @@ loop-c-preserved c =
     let next : c.in_ok-at.at ≡ c.loop-c.at + 1 = search rules in (
       omega (arith, size, so_far, next),
       text_go_on_here (chars c.args.text.now) (length c.loop-c.yielded) c.in-Some.c c.loop-c.at (length (c.loop-c.yielded ++ c.in-Some.c ∷ []))
-          (text_state c.loop-c.progress.point) (text_state c.in-Ok.next.point) t.0 t.1 so_far size c.loop-c.invariant.1 c.in-Ok.ensures.0,
+          (text_state c.loop-c.progress.point) (text_state c.advance_text.new.progress.point) t.0 t.1 so_far size c.loop-c.invariant.1 c.in-Ok.ensures.0,
       c.in-Ok.ensures.1,
     )
 

@@ -126,10 +126,10 @@ returns-in_ok-append-in-Emit-clause-goes g c =
     let walk = c.args.walk.now in
     let nodes = c.args.arena.now.nodes in
     let a = moment_at M W place item walk (told_of value c.args.given) (g.W.World.state c.args.world.now) nodes in
-    let b : Told → Moment M W = λ h. moment_at M W {K = g.row.M-Key.Denot} {V = g.row.M-Value.Denot} place item (record { local = c.step.new.local; node = walk.node; summary = walk.summary; frames = walk.frames }) h (g.W.World.state c.args.world.now) c.append.new.self.nodes in
-    let move : M.move_at a.place a.given ≡ Emit (g.M.AskMachine.item_of c.in-Emit.item) = sym c.in_ok-action.ensures.action ∙ ap (move_of key value code call item) c.in-Emit.is in
+    let b : Told → Moment M W = λ h. moment_at M W {K = g.row.M-Key.Denot} {V = g.row.M-Value.Denot} place item (record { local = c.step.new.local; node = walk.node; summary = walk.summary; frames = walk.frames }) h (g.W.World.state c.args.world.now) c.append.new.arena.nodes in
+    let move : M.move_at a.place a.given ≡ Emit (g.M.AskMachine.item_of c.in-Emit.item.value) = sym c.in_ok-action.ensures.action ∙ ap (move_of key value code call item) c.in-Emit.is in
     at_ok (GoesOn M W g.M.AskMachine.rebased value (λ x. call (code x)) c.args.depth a b) c.tell_nothing-in-Emit.result (next.Tell given.Nothing) c.tell_nothing-in-Emit.ensures
-    (λ fuel. goes_emit M W g.M.AskMachine.rebased c.args.depth fuel a (b Nothing) c.in_ok-action.ensures.place (item c.in-Emit.item) move refl refl (appended_points item nodes c.append.new.self.nodes walk.node.0 c.in-Emit.item c.in_ok-append-in-Emit.ensures.appended) (ap (map item) (appended_last nodes c.append.new.self.nodes walk.node.0 c.in-Emit.item c.in_ok-append-in-Emit.ensures.appended)) refl refl)
+    (λ fuel. goes_emit M W g.M.AskMachine.rebased c.args.depth fuel a (b Nothing) c.in_ok-action.ensures.place (item c.in-Emit.item.value) move refl refl (appended_points item nodes c.append.new.arena.nodes walk.node.0 c.in-Emit.item.value c.in_ok-append-in-Emit.ensures.appended) (ap (map item) (appended_last nodes c.append.new.arena.nodes walk.node.0 c.in-Emit.item.value c.in_ok-append-in-Emit.ensures.appended)) refl refl)
 
 pub returns-then-depth-walk-ge-DEEPEST-clause-goes : goal.returns-then-depth-walk-ge-DEEPEST-clause-goes
 returns-then-depth-walk-ge-DEEPEST-clause-goes g c =
@@ -237,7 +237,7 @@ returns-in_ok-append-in-Emit-clause-lowers g c =
     let number = g.M.AskMachine.number in
     let p = g.M.AskMachine.place c.args.walk.now.local in
     let t = told_of g.M.Value.Kept.code c.args.given in
-    let move : M.move_at p t ≡ Emit (g.M.AskMachine.item_of c.in-Emit.item) =
+    let move : M.move_at p t ≡ Emit (g.M.AskMachine.item_of c.in-Emit.item.value) =
     sym c.in_ok-action.ensures.action
     ∙ ap (move_of g.M.Key.Kept.code g.M.Value.Kept.code g.M.Call.Kept.code g.M.AskMachine.call_of g.M.AskMachine.item_of) c.in-Emit.is in
     let P : M.Place → Type 0 = λ q. number q < number p in
@@ -349,12 +349,12 @@ returns-in_ok-append-in-Emit-clause-makes g c =
     let walk = c.args.walk.now in
     let nodes = c.args.arena.now.nodes in
     let a = moment_at M W place item walk (told_of value c.args.given) (g.W.World.state c.args.world.now) nodes in
-    let b : Told → Moment M W = λ h. moment_at M W {K = g.row.M-Key.Denot} {V = g.row.M-Value.Denot} place item (record { local = c.step.new.local; node = walk.node; summary = walk.summary; frames = walk.frames }) h (g.W.World.state c.args.world.now) c.append.new.self.nodes in
-    let move : M.move_at a.place a.given ≡ Emit (g.M.AskMachine.item_of c.in-Emit.item) = sym c.in_ok-action.ensures.action ∙ ap (move_of key value code call item) c.in-Emit.is in
+    let b : Told → Moment M W = λ h. moment_at M W {K = g.row.M-Key.Denot} {V = g.row.M-Value.Denot} place item (record { local = c.step.new.local; node = walk.node; summary = walk.summary; frames = walk.frames }) h (g.W.World.state c.args.world.now) c.append.new.arena.nodes in
+    let move : M.move_at a.place a.given ≡ Emit (g.M.AskMachine.item_of c.in-Emit.item.value) = sym c.in_ok-action.ensures.action ∙ ap (move_of key value code call item) c.in-Emit.is in
     let marked = g.M.AskMachine.marked in
     let made = c.args.arena.now.made in
-    at_ok (StepMakes M W value call c.args.depth a b made c.append.new.self.made (owed marked made (place walk.local)) (owed marked c.append.new.self.made (place c.step.new.local))) c.tell_nothing-in-Emit.result (next.Tell given.Nothing) c.tell_nothing-in-Emit.ensures
-    (λ kept fuel. makes_emit M W call c.args.depth kept fuel a (b Nothing) c.in_ok-action.ensures.place (owed marked made (place walk.local)) (owed marked c.append.new.self.made (place c.step.new.local)) (owed_emits M marked g.met.M.AskMachine.emits_once_a_count a.place a.given (item c.in-Emit.item) move (place c.step.new.local) c.in_ok-action.ensures.place made c.append.new.self.made _ c.in_ok-append-in-Emit.ensures.made) (item c.in-Emit.item) move refl refl (appended_points item nodes c.append.new.self.nodes walk.node.0 c.in-Emit.item c.in_ok-append-in-Emit.ensures.appended) (ap (map item) (appended_last nodes c.append.new.self.nodes walk.node.0 c.in-Emit.item c.in_ok-append-in-Emit.ensures.appended)) refl refl)
+    at_ok (StepMakes M W value call c.args.depth a b made c.append.new.arena.made (owed marked made (place walk.local)) (owed marked c.append.new.arena.made (place c.step.new.local))) c.tell_nothing-in-Emit.result (next.Tell given.Nothing) c.tell_nothing-in-Emit.ensures
+    (λ kept fuel. makes_emit M W call c.args.depth kept fuel a (b Nothing) c.in_ok-action.ensures.place (owed marked made (place walk.local)) (owed marked c.append.new.arena.made (place c.step.new.local)) (owed_emits M marked g.met.M.AskMachine.emits_once_a_count a.place a.given (item c.in-Emit.item.value) move (place c.step.new.local) c.in_ok-action.ensures.place made c.append.new.arena.made _ c.in_ok-append-in-Emit.ensures.made) (item c.in-Emit.item.value) move refl refl (appended_points item nodes c.append.new.arena.nodes walk.node.0 c.in-Emit.item.value c.in_ok-append-in-Emit.ensures.appended) (ap (map item) (appended_last nodes c.append.new.arena.nodes walk.node.0 c.in-Emit.item.value c.in_ok-append-in-Emit.ensures.appended)) refl refl)
 
 pub returns-then-depth-walk-ge-DEEPEST-clause-makes : goal.returns-then-depth-walk-ge-DEEPEST-clause-makes
 returns-then-depth-walk-ge-DEEPEST-clause-makes g c =

@@ -1,37 +1,16 @@
-use Rattle.std.proofs.Common.{◌≡◌, ℕ, ◌-◌, ◌<◌, ◌≤◌, [], refl, subst, rules}
-use Rattle.std.specs.Prelude.{Option}
-use Rattle.logical_grammar.specs.declared.logic_point.LogicMoved.{LogicMoved}
-use Rattle.expression_grammar.specs.Spelling.{Placed, most_parts}
-use Rattle.logical_grammar.specs.LogicReading.{LogicState, at_point, logic_step, logic_weight}
-use Rattle.logical_grammar.specs.LogicViews.{LogicMoves, open_of, point_of}
-use Rattle.logical_grammar.proofs.LogicMoveLaws.{logic_advance_none, logic_advance_some, logic_advance_over}
+use Rattle.std.proofs.Common.{Bool, true, List, [], subst}
+use Rattle.expression_grammar.specs.Spelling.{Placed}
+use Rattle.logical_grammar.specs.LogicReading.{Open}
+use Rattle.logical_grammar.specs.LogicReading as logic
+use Rattle.logical_grammar.specs.LogicViews.{LogicTakes, open_of, point_of}
+use Rattle.logical_grammar.proofs.LogicInPlace.{logic_advance_same}
 use Rattle.logical_grammar.proofs.parse_truth.advance_logic.Goals as goal
 
-pub returns-in_default : goal.returns-in_default
-returns-in_default c =
-    let state : LogicState = at_point (open_of c.args.progress.stack.items []) (point_of c.args.progress.point) in
+pub returns-then-branch : goal.returns-then-branch
+returns-then-branch c =
+    let before : logic.Point = point_of c.args.progress.now.point in
+    let after : logic.Point = point_of c.take_in_place.new.point in
+    let layers : List Open = open_of c.args.progress.now.stack.items [] in
     let p : Placed = record { at = c.args.at; code = c.args.c } in
-    let m : LogicMoves (logic_step state p) (logic_weight state) c.in_ok-moved.field-0 (open_of c.logic_step.new.layers.items []) = c.in_ok-moved.ensures in
-    (refl, logic_advance_none state p (subst (λ (o : Option LogicMoved). LogicMoves (logic_step state p) (logic_weight state) o (open_of c.logic_step.new.layers.items [])) c.in_default.is m))
-
-pub returns-then-moved-from : goal.returns-then-moved-from
-returns-then-moved-from c =
-    let state : LogicState = at_point (open_of c.args.progress.stack.items []) (point_of c.args.progress.point) in
-    let p : Placed = record { at = c.args.at; code = c.args.c } in
-    let m : LogicMoves (logic_step state p) (logic_weight state) c.in_ok-moved.field-0 (open_of c.logic_step.new.layers.items []) = c.in_ok-moved.ensures in
-    let most : c.from.result ≡ most_parts = search rules in
-    let over : most_parts - c.args.progress.weight < c.in-Some.moved.more = subst (λ (n : ℕ). n - c.args.progress.weight < c.in-Some.moved.more) most c.if-moved-from.true in (
-      refl,
-      logic_advance_over state p c.args.progress.weight c.in-Some.moved (open_of c.logic_step.new.layers.items [])
-          (subst (λ (o : Option LogicMoved). LogicMoves (logic_step state p) (logic_weight state) o (open_of c.logic_step.new.layers.items [])) c.in-Some.is m) c.requires.weighed c.requires.small over,
-    )
-
-pub returns : goal.returns
-returns c =
-    let state : LogicState = at_point (open_of c.args.progress.stack.items []) (point_of c.args.progress.point) in
-    let p : Placed = record { at = c.args.at; code = c.args.c } in
-    let m : LogicMoves (logic_step state p) (logic_weight state) c.in_ok-moved.field-0 (open_of c.logic_step.new.layers.items []) = c.in_ok-moved.ensures in
-    let most : c.from.result ≡ most_parts = search rules in
-    let within : c.in-Some.moved.more ≤ most_parts - c.args.progress.weight = subst (λ (n : ℕ). c.in-Some.moved.more ≤ n - c.args.progress.weight) most c.if-moved-from.false in
-    logic_advance_some state p c.args.progress.weight c.in-Some.moved (open_of c.logic_step.new.layers.items [])
-    (subst (λ (o : Option LogicMoved). LogicMoves (logic_step state p) (logic_weight state) o (open_of c.logic_step.new.layers.items [])) c.in-Some.is m) c.requires.weighed c.requires.small within
+    let taken : LogicTakes before c.args.c after true = subst (λ (b : Bool). LogicTakes before c.args.c after b) c.if-branch.true c.in_ok-take_in_place.ensures in
+    logic_advance_same before after layers p c.args.progress.now.weight (taken c.args.at layers).0 (taken c.args.at layers).1 c.requires.weighed c.requires.small

@@ -35,7 +35,7 @@ loop-c-preserved c =
       c.in-Ok.ensures.1,
       c.in-Ok.ensures.2,
       front_on (logic_advance most_parts) logic_accept (chars c.args.text.now) (length c.loop-c.yielded) c.in-Some.c c.loop-c.at state (read_logic_front (chars c.args.text.now))
-          (length (c.loop-c.yielded ++ c.in-Some.c ∷ [])) (at_point (open_of c.in-Ok.next.stack.items []) (point_of c.in-Ok.next.point))
+          (length (c.loop-c.yielded ++ c.in-Some.c ∷ [])) (at_point (open_of c.advance_logic.new.progress.stack.items []) (point_of c.advance_logic.new.progress.point))
           t.0 t.1 so_far size c.loop-c.invariant.3 (sym c.if-ends_before.ensures) c.in-Ok.ensures.0,
     )
 

@@ -24,7 +24,7 @@ loop-c-preserved c =
     let next : c.in_ok-at.at ≡ c.loop-c.at + 1 = search rules in (
       omega (arith, size, so_far, next),
       logic_go_on_here (chars c.args.text.now) (length c.loop-c.yielded) c.in-Some.c c.loop-c.at (length (c.loop-c.yielded ++ c.in-Some.c ∷ []))
-          (at_point (open_of c.loop-c.progress.stack.items []) (point_of c.loop-c.progress.point)) (at_point (open_of c.in-Ok.next.stack.items []) (point_of c.in-Ok.next.point))
+          (at_point (open_of c.loop-c.progress.stack.items []) (point_of c.loop-c.progress.point)) (at_point (open_of c.advance_logic.new.progress.stack.items []) (point_of c.advance_logic.new.progress.point))
           t.0 t.1 so_far size c.loop-c.invariant.1 c.in-Ok.ensures.0,
       c.in-Ok.ensures.1,
     )

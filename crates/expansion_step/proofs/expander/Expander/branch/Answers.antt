@@ -18,9 +18,9 @@ returns g c =
     let changed : _ → L.words.Known = λ d. reads.changed d (reads.known old.known) in
     let next = record (stack_by m x) { known = known } in
     let points : Fault → Point L.words = λ fault. point_by m old c.args.said fault in
-    let told : Doing (Telling (reads.item c.in_ok-item-3.item) (puts_then (pairs_by m c.new-2.result.items) (GoingOn (stack_by m x))))
+    let told : Doing (Telling (reads.item c.in_ok-item-3.item.value) (puts_then (pairs_by m c.new-2.result.items) (GoingOn (stack_by m x))))
     ≡ Doing (Telling (L.item_of (points NoFault)) (GoingOn next)) =
-    ap (λ z. Doing (Telling (reads.item c.in_ok-item-3.item) (puts_then (pairs_by m z) (GoingOn (stack_by m x))))) c.new-2.ensures.items
+    ap (λ z. Doing (Telling (reads.item c.in_ok-item-3.item.value) (puts_then (pairs_by m z) (GoingOn (stack_by m x))))) c.new-2.ensures.items
     ∙ ap (λ z. Doing (Telling z (GoingOn (stack_by m x)))) c.in_ok-item-3.ensures
     ∙ ap {A = L.words.Known} (λ k. Doing (Telling (L.item_of (points NoFault)) (GoingOn (record next { known = k })))) c.in_ok-change.ensures in
     let goes : Doing (step_of L (branched c.args.place (option_map changed c.args.change) points (stack_by m old))
@@ -28,6 +28,6 @@ returns g c =
     ap (λ p. Doing (step_of L (branched p (option_map changed c.args.change) points (stack_by m old)) (stack_by m old))) c.in-Some.is
     ∙ ap (λ k. Doing (step_of L (branched (Some c.in-Some.position) (option_map changed k) points (stack_by m old))
     (stack_by m old))) c.in-Some-change.is in
-    takes-at m (Doing (Telling (reads.item c.in_ok-item-3.item) (puts_then (pairs_by m c.new-2.result.items) (GoingOn (stack_by m x)))))
+    takes-at m (Doing (Telling (reads.item c.in_ok-item-3.item.value) (puts_then (pairs_by m c.new-2.result.items) (GoingOn (stack_by m x)))))
     (Doing (step_of L (branched c.args.place (option_map changed c.args.change) points (stack_by m old)) (stack_by m old))) x
     c.tell-2.result (told ∙ sym goes) (c.tell-2.ensures x)

@@ -14,7 +14,7 @@ returns g c =
     let reads = g.X.CodedLanguage.reads in
     let old = c.args.stack.now in
     let x = record c.step_on.new.stack { known = c.change.new.known } in
-    let item = reads.item c.in_ok-item.item in
+    let item = reads.item c.in_ok-item.item.value in
     let puts = pairs_by m c.args.puts.items in
     let known = reads.changed c.args.change (reads.known old.known) in
     let next = record (stepped (stack_by m old)) { known = known } in

@@ -14,7 +14,7 @@ returns g c =
     let old = c.args.stack.now in
     let position = c.args.position in
     let x = record old { known = c.change.new.known; here = record { listing = old.here.listing; position = position } } in
-    let item = reads.item c.in_ok-item.item in
+    let item = reads.item c.in_ok-item.item.value in
     let puts = pairs_by m c.args.puts.items in
     let known = reads.changed c.args.change (reads.known old.known) in
     let next = record (stack_by m x) { known = known } in

@@ -3,7 +3,7 @@ use Rattle.std.specs.Prelude.{string_bytes, chars, encode_utf8}
 use Rattle.std.proofs.lemmas.Str.{chars-append, chars-encodes, IsUtf8-string_bytes}
 use Rattle.std.proofs.lemmas.Bool.{and_from}
 use Rattle.std.proofs.Math.Utf8.{scalar}
-use Rattle.character_grammar.proofs.quoted.Characters.with.Goals as goal
+use Rattle.character_grammar.proofs.quoted.Characters.push.Goals as goal
 
 pub returns : goal.returns
 returns c =
