@@ -1,2 +1,1 @@
-pub mod ExpressionLaws
 pub mod ElementLaws

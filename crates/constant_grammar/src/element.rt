@@ -1,5 +1,5 @@
 //! What stands in the parentheses of an address constant (SC26-4940, "Address constants").
-ghost use Rattle.std.specs.Prelude.{◌≡◌, ◌≤◌, Ok, IfOk};
+ghost use Rattle.std.specs.Prelude.{◌≡◌, ◌≤◌, Ok, IfOk, IfSome};
 ghost use Rattle.std.specs.Str.{chars};
 ghost use Rattle.std.specs.Option.{option_map};
 ghost use Rattle.expression_grammar.specs.declared.character.Grammar.TheVariants.{Ordinary};
@@ -7,6 +7,7 @@ ghost use Rattle.expression_grammar.specs.Readings.{Tells, read};
 ghost use Rattle.expression_grammar.specs.Spelling.{most_parts};
 ghost use Rattle.expression_grammar.specs.Trees.{size};
 ghost use Rattle.expression_grammar.specs.Views.{tree_of};
+ghost use Rattle.plain_terms.specs.Glances.{IsRead};
 ghost use Rattle.constant_grammar.specs.Elements as elements;
 ghost use Rattle.constant_grammar.specs.Views.{amount_front_of, element_of, expression_in, tree_if};
 
@@ -16,6 +17,7 @@ use constant_table::ValueKind;
 use expression_grammar::{Expr, SyntaxFault, parse_ordinary};
 use hl_base::{Name, OutOfMemory, Text};
 use operand_list::hlasm_statements::text::{before, behind, character_count};
+use plain_terms::read_plain;
 use std::alloc::Global;
 
 /// A value of an address constant: an expression, a symbol, or an address as a displacement with a base register or without.
@@ -37,13 +39,34 @@ fn read_tree(alloc: Global, tree: Expr) -> Result<Formula, SyntaxFault>
     }
 }
 
-/// Reads an ordinary expression.
-pub fn read_formula(alloc: Global, text: &str) -> Result<Formula, SyntaxFault>
+/// Reads any ordinary expression.
+fn read_any(alloc: Global, text: &str) -> Result<Formula, SyntaxFault>
     ensures { Tells (read Ordinary (chars text.now)) (expression_in result) }
 {
     match parse_ordinary(alloc, text) {
         Ok(tree) => read_tree(alloc, tree),
         Err(fault) => Err(fault),
+    }
+}
+
+/// The expression that was seen at a glance to be all of a text, or else any.
+fn read_seen(alloc: Global, seen: Option<Expr>, text: &str) -> Result<Formula, SyntaxFault>
+    requires { IfSome seen (λ tree. IsRead (chars text.now) (tree_of tree)) }
+    ensures { Tells (read Ordinary (chars text.now)) (expression_in result) }
+{
+    match seen {
+        Some(tree) => read_tree(alloc, tree),
+        None => read_any(alloc, text),
+    }
+}
+
+/// Reads an ordinary expression: most are seen at a glance.
+pub fn read_formula(alloc: Global, text: &str) -> Result<Formula, SyntaxFault>
+    ensures { Tells (read Ordinary (chars text.now)) (expression_in result) }
+{
+    match read_plain(alloc, text) {
+        Ok(seen) => read_seen(alloc, seen, text),
+        Err(_) => Err(SyntaxFault::OutOfMemory),
     }
 }
 

@@ -22,12 +22,43 @@ pub(crate) fn unread(alloc: Global) -> Result<Vec<Row>, OutOfMemory>
     Ok(rows)
 }
 
-/// Adds a row where there is cause for it.
-fn push_when(rows: &mut Vec<Row>, cause: bool, row: Row) -> Result<(), OutOfMemory>
-    ensures { OnOk result (rows.new.items ≡ rows.old.items ++ spec.when cause row) }
+/// Adds that a floating-point number is not read, where there is cause for it. Each row has a function of its own, so that it is made
+/// only where it is said.
+fn push_floating_point(rows: &mut Vec<Row>, cause: bool) -> Result<(), OutOfMemory>
+    ensures { OnOk result (rows.new.items ≡ rows.old.items ++ spec.when cause Row.FloatingPoint) }
 {
     if cause {
-        rows.push(row)?;
+        rows.push(Row::FloatingPoint)?;
+    }
+    Ok(())
+}
+
+/// The same of a value that is wrong.
+fn push_wrong(rows: &mut Vec<Row>, cause: bool) -> Result<(), OutOfMemory>
+    ensures { OnOk result (rows.new.items ≡ rows.old.items ++ spec.when cause Row.BadNominalValue) }
+{
+    if cause {
+        rows.push(Row::BadNominalValue)?;
+    }
+    Ok(())
+}
+
+/// The same of one that is too long.
+fn push_too_long(rows: &mut Vec<Row>, cause: bool) -> Result<(), OutOfMemory>
+    ensures { OnOk result (rows.new.items ≡ rows.old.items ++ spec.when cause Row.ValueTooLong) }
+{
+    if cause {
+        rows.push(Row::ValueTooLong)?;
+    }
+    Ok(())
+}
+
+/// The same of a number that is not known.
+fn push_unknown(rows: &mut Vec<Row>, cause: bool) -> Result<(), OutOfMemory>
+    ensures { OnOk result (rows.new.items ≡ rows.old.items ++ spec.when cause Row.UnknownValue) }
+{
+    if cause {
+        rows.push(Row::UnknownValue)?;
     }
     Ok(())
 }
@@ -92,11 +123,11 @@ pub(crate) fn said_of(
     let kind = constant.kind;
     let unread = is_float(kind) && makes_constants(used, numbers.factor);
     let mut rows = Vec::new(alloc);
-    push_when(&mut rows, unread, Row::FloatingPoint)?;
+    push_floating_point(&mut rows, unread)?;
     let wrong = values.is_wrong(kind, constant.length.is_some());
-    push_when(&mut rows, wrong, Row::BadNominalValue)?;
+    push_wrong(&mut rows, wrong)?;
     let too_long = is_too_long(kind, numbers, values);
-    push_when(&mut rows, too_long, Row::ValueTooLong)?;
-    push_when(&mut rows, numbers.are_unknown(), Row::UnknownValue)?;
+    push_too_long(&mut rows, too_long)?;
+    push_unknown(&mut rows, numbers.are_unknown())?;
     Ok(rows)
 }

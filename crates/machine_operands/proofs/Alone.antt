@@ -1,6 +1,6 @@
 -- Operands that are a term alone.
 use Rattle.std.proofs.Common.{◌≡◌, ◌∙◌, ℕ, ◌&&◌, Bool, true, false, cond, List, Some, None, refl, sym, ap, ◌≤◌, length, arith}
-use Rattle.std.specs.Prelude.{Ok, chars, Option, IfSome}
+use Rattle.std.specs.Prelude.{Ok, Option, IfSome}
 use Rattle.expression_grammar.specs.declared.character.Grammar.TheVariants.{Ordinary}
 use Rattle.expression_grammar.specs.Readings.{read}
 use Rattle.expression_grammar.specs.Spelling.{most_parts}
@@ -12,11 +12,8 @@ use Rattle.machine_operands.specs.declared.form.OperandForm.{OperandForm}
 use Rattle.machine_operands.specs.declared.form.OperandForm.TheVariants as form
 use Rattle.machine_operands.specs.Forms.{form_of, needs_parts}
 use Rattle.machine_operands.specs.Operands.{Written, Operand, IsAlone, written_alone, may_be_alone, operand, begins_literal, takes_literal, plain, plain_value, plain_address, value_by, address_by, wrong, address, expression}
-use Rattle.machine_operands.specs.Quoted.{IsQuoted}
-use Rattle.machine_operands.specs.Terms.{IsTerm}
-use Rattle.machine_operands.proofs.Fronts.{begins_alone}
+use Rattle.plain_terms.specs.Glances.{IsRead}
 use Rattle.machine_operands.proofs.LiteralLaws.{without_literal}
-use Rattle.machine_operands.proofs.QuotedLaws.{quoted_reads, quoted_small}
 
 both_false : (a b : Bool) → b ≡ false → (a && b) ≡ false
 both_false true b is = is
@@ -44,17 +41,8 @@ alone_by kind text tree may literal whole small = record {
   small = small;
 }
 
--- a term whose operand may be an expression alone, and begins with no equals sign
-pub term_alone : (kind : Kind) (text : List ℕ) (tree : Tree) → IsTerm text tree → may_be_alone (form_of kind) ≡ true → begins_literal (chars text) ≡ false → IsAlone kind (chars text) tree
-term_alone kind text tree is may literal =
-    let whole = begins_alone text tree is in
-    alone_by kind (chars text) tree may literal whole.whole whole.small
-
-pub found_alone : (kind : Kind) (text : List ℕ) (found : Option Expr) → may_be_alone (form_of kind) ≡ true → begins_literal (chars text) ≡ false →
-    IfSome found (λ tree. IsTerm text (tree_of tree)) → IfSome found (λ tree. IsAlone kind (chars text) (tree_of tree))
+-- what is read of all of a text whose operand may be an expression alone, and begins with no equals sign
+pub found_alone : (kind : Kind) (text : List ℕ) (found : Option Expr) → may_be_alone (form_of kind) ≡ true → begins_literal text ≡ false →
+    IfSome found (λ tree. IsRead text (tree_of tree)) → IfSome found (λ tree. IsAlone kind text (tree_of tree))
 found_alone kind text None may literal is = is
-found_alone kind text (Some tree) may literal is = term_alone kind text (tree_of tree) is may literal
-
--- the same of a self-defining term between apostrophes
-pub quoted_alone : (kind : Kind) (text : List ℕ) (tree : Tree) → IsQuoted text tree → may_be_alone (form_of kind) ≡ true → begins_literal (chars text) ≡ false → IsAlone kind (chars text) tree
-quoted_alone kind text tree is may literal = alone_by kind (chars text) tree may literal (quoted_reads text tree is) (quoted_small text tree is)
+found_alone kind text (Some tree) may literal is = alone_by kind text (tree_of tree) may literal is.whole is.small

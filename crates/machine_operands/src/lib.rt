@@ -13,10 +13,7 @@ mod address;
 mod form;
 mod operand;
 mod parts;
-mod quoted;
 mod reading;
-mod sums;
-mod term;
 mod text;
 
 pub use form::{AddressForm, OperandForm, form_of};

@@ -9,9 +9,7 @@ ghost use Rattle.machine_operands.specs.Operands as spec;
 ghost use Rattle.machine_operands.specs.Views.{machine_operand_of, written_of};
 
 use crate::address::{behind_literal, plain_address};
-use crate::quoted::quoted_term;
 use crate::reading::{Reading, read_whole};
-use crate::term::term;
 use crate::text::sum;
 use crate::{OperandForm, form_of};
 use constant_grammar::Formula;
@@ -21,6 +19,7 @@ use hl_base::OutOfMemory;
 use hlasm_statements::text::{character_count, head};
 use instruction_table::Kind;
 use literal_operands::{LiteralOperand, literal_operand};
+use plain_terms::sole_term;
 use std::alloc::Global;
 
 /// The displacement of an address.
@@ -176,18 +175,15 @@ fn may_be_alone(form: OperandForm) -> bool
     }
 }
 
-/// The expression that is all of an operand of a kind, where it is a symbol, a decimal or a hexadecimal number, or a character. Most
-/// operands are such a term, and need nothing of what else an operand may be.
+/// The expression that is all of an operand of a kind, where it is `*`, a symbol, a decimal or a hexadecimal number, or a character.
+/// Most operands are such a term, and need nothing of what else an operand may be.
 pub fn read_term(kind: Kind, text: &str) -> Option<Expr>
     ensures { IfSome result (λ tree. spec.IsAlone kind (chars text.now) (tree_of tree)) }
 {
     if begins_literal(text) || !may_be_alone(form_of(kind)) {
         return None;
     }
-    match quoted_term(text) {
-        Some(tree) => Some(tree),
-        None => term(text),
-    }
+    sole_term(text)
 }
 
 /// The literal in an operand, if one may stand there.

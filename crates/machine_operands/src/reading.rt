@@ -9,15 +9,14 @@ ghost use Rattle.expression_grammar.specs.Readings.{read, read_front};
 ghost use Rattle.expression_grammar.specs.Spelling.{most_parts};
 ghost use Rattle.expression_grammar.specs.Trees.{size};
 ghost use Rattle.expression_grammar.specs.Views.{tree_of};
-ghost use Rattle.machine_operands.specs.Terms.{front_behind, whole_behind};
+ghost use Rattle.plain_terms.specs.Terms.{front_behind, whole_behind};
 ghost use Rattle.machine_operands.specs.Views.{front_reading_of, reading_of};
 
-use crate::sums::place_sum;
-use crate::term::term_front;
 use constant_grammar::{Formula, read_formula};
 use expression_grammar::{Expr, Grammar, SyntaxFault, parse_front};
 use hl_base::OutOfMemory;
 use hlasm_statements::text::{before, head};
+use plain_terms::term_front;
 use std::alloc::Global;
 
 /// What is read of an expression: its tree, or how many characters can be read.
@@ -64,24 +63,13 @@ fn read_any(alloc: Global, text: &str) -> Result<Reading, OutOfMemory>
     }
 }
 
-/// Reads an expression that is no term: a sum of a place and a number in one pass.
-#[tactic(auto, using(crate::proofs::SumLaws::sum_reads, crate::proofs::SumLaws::sum_small))]
-fn read_other(alloc: Global, text: &str) -> Result<Reading, OutOfMemory>
-    ensures { IfOk result (λ reading. reading_of reading ≡ read Ordinary (chars text.now)) }
-{
-    match place_sum(alloc, text)? {
-        Some(tree) => Ok(Reading::Tree(formula(alloc, tree)?)),
-        None => read_any(alloc, text),
-    }
-}
-
 /// Reads an expression: a term in one pass.
 pub(crate) fn read_whole(alloc: Global, text: &str) -> Result<Reading, OutOfMemory>
     ensures { IfOk result (λ reading. reading_of reading ≡ read Ordinary (chars text.now)) }
 {
     match term_front(text) {
         Some(front) => whole_term(alloc, front.tree, front.count, front.behind),
-        None => read_other(alloc, text),
+        None => read_any(alloc, text),
     }
 }
 

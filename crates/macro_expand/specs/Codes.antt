@@ -28,6 +28,7 @@ use Rattle.macro_expand.specs.declared.said.Said.{Said}
 use Rattle.macro_expand.specs.Passages.{Passage, Placed}
 use Rattle.macro_expand.specs.Acts.{words, acted}
 use Rattle.macro_expand.specs.Language.{hlasm}
+use Rattle.std.specs.Global.{Box}
 
 -- a list of statements that is held
 abbrev pub passage_by : Held → Passage
@@ -46,15 +47,15 @@ abbrev pub led_to : (Tree → Option Tree) → Placed → Knowledge → Act → 
 led_to told s known (Ask key) notes = Wants (key_tree key)
 led_to told s known other notes = led_by told (acted s known other notes)
 
-abbrev pub reading : Reads hlasm Held (List ℕ) Knowledge Change Said TraceItem
+abbrev pub reading : Reads hlasm Held (List ℕ) Knowledge Change (Box Said) TraceItem
 reading = record {
   listing = passage_by;
   label = λ name. name;
   known = λ known. known;
   changed = changed;
-  said = λ said. said;
+  said = λ said. said.value;
   item = λ item. item;
 }
 
-abbrev pub means : Means hlasm Held (List ℕ) Knowledge Change Said TraceItem CallSite Key Known
+abbrev pub means : Means hlasm Held (List ℕ) Knowledge Change (Box Said) TraceItem CallSite Key Known
 means = meaning reading call_of call_tree key_tree known_tree

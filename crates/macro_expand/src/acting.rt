@@ -22,7 +22,8 @@ use std::alloc::Global;
 use std::collections::VecDeque;
 use trace_values::Settings;
 
-pub(crate) type Done = Performed<Passage, Name, Change, Said, CallSite, Key, Known>;
+/// What a statement comes to. What is said of it stands apart: this is moved often, and that is larger than all else in it.
+pub(crate) type Done = Performed<Passage, Name, Change, Box<Said>, CallSite, Key, Known>;
 
 pub(crate) type Puts = Vec<Noted<Key, Known>>;
 
@@ -53,10 +54,10 @@ pub(crate) fn joined(alloc: Global, mut notes: Notes, more: &Notes) -> Result<No
 }
 
 /// Nothing is said but these notes.
-pub(crate) fn quiet(alloc: Global, notes: Notes) -> Said
-    ensures { result ≡ acts.quiet notes }
+pub(crate) fn quiet(alloc: Global, notes: Notes) -> Result<Box<Said>, OutOfMemory>
+    ensures { IfOk result (λ said. said.value ≡ acts.quiet notes) }
 {
-    Said {
+    let said = Said {
         notes,
         target: None,
         called: None,
@@ -64,7 +65,8 @@ pub(crate) fn quiet(alloc: Global, notes: Notes) -> Said
         declared: Declarations::new(alloc),
         globals: Settings::new(alloc),
         line: None,
-    }
+    };
+    Ok(Box::new(alloc, said)?)
 }
 
 /// A note more.
@@ -76,8 +78,8 @@ pub(crate) fn with_row(alloc: Global, row: &Row, mut notes: Notes) -> Result<Not
 }
 
 /// The next statement follows, and nothing has changed.
-pub(crate) fn going_on(alloc: Global, said: Said) -> Done
-    ensures { (k : Knowledge) → performed_by means k result ≡ Some (Comes (acts.going_on k said)) }
+pub(crate) fn going_on(alloc: Global, said: Box<Said>) -> Done
+    ensures { (k : Knowledge) → performed_by means k result ≡ Some (Comes (acts.going_on k said.value)) }
 {
     Performed::Does(said, Acts::Continues(Change::Nothing, Vec::new(alloc)))
 }
@@ -86,14 +88,15 @@ pub(crate) fn going_on(alloc: Global, said: Said) -> Done
 pub(crate) fn passing(alloc: Global, notes: Notes) -> Result<Done, OutOfMemory>
     ensures { IfOk result (λ p. (k : Knowledge) → performed_by means k p ≡ Some (Comes (acts.going_on k (acts.quiet notes)))) }
 {
-    Ok(going_on(alloc, quiet(alloc, notes)))
+    Ok(going_on(alloc, quiet(alloc, notes)?))
 }
 
 /// The same, with a note more.
 pub(crate) fn refused(alloc: Global, row: &Row, notes: Notes) -> Result<Done, OutOfMemory>
     ensures { IfOk result (λ p. (k : Knowledge) → performed_by means k p ≡ Some (Comes (acts.refused k row.now notes))) }
 {
-    Ok(going_on(alloc, quiet(alloc, with_row(alloc, row, notes)?)))
+    let notes = with_row(alloc, row, notes)?;
+    Ok(going_on(alloc, quiet(alloc, notes)?))
 }
 
 /// A deed is done, and the next statement follows.
@@ -118,6 +121,7 @@ pub(crate) fn done_by(alloc: Global, deed: Deed, notes: Notes) -> Result<Done, O
         line: None,
     };
     let puts = puts_of(alloc, put)?;
+    let said = Box::new(alloc, said)?;
     Ok(Performed::Does(said, Acts::Continues(change, puts)))
 }
 
@@ -130,7 +134,7 @@ pub(crate) fn branching_to(
 ) -> Result<Done, OutOfMemory>
     ensures { IfOk result (λ p. performed_by means known.now p ≡ Some (Comes (acts.branching_to known.now label notes))) }
 {
-    let mut said = quiet(alloc, notes);
+    let mut said = quiet(alloc, notes)?;
     said.target = Some(label.copy());
     Ok(Performed::Does(said, Acts::Branches(label, known.branching())))
 }
@@ -209,7 +213,7 @@ pub(crate) fn generating(alloc: Global, line: Line, notes: Notes) -> Result<Done
     ensures { IfOk result (λ p. (k : Knowledge) → performed_by means k p ≡ Some (Comes (acts.generated k line notes))) }
 {
     let puts = line_puts(alloc, &line)?;
-    let mut said = quiet(alloc, notes);
+    let mut said = quiet(alloc, notes)?;
     said.line = Some(line);
     Ok(Performed::Does(said, Acts::Continues(Change::Nothing, puts)))
 }
@@ -224,7 +228,7 @@ pub(crate) fn leaving(
     ensures { IfOk result (λ p. performed_by means known.now p ≡ Some (Comes (acts.leaving known.now name notes))) }
 {
     if known.binding().is_some() {
-        return Ok(Performed::Does(quiet(alloc, notes), Acts::Returns));
+        return Ok(Performed::Does(quiet(alloc, notes)?, Acts::Returns));
     }
     refused(alloc, &Row::OutsideMacro(name), notes)
 }
@@ -233,7 +237,7 @@ pub(crate) fn leaving(
 pub(crate) fn ending(alloc: Global, line: Option<Line>, notes: Notes) -> Result<Done, OutOfMemory>
     ensures { IfOk result (λ p. (k : Knowledge) → performed_by means k p ≡ Some (Comes (acts.ended line notes))) }
 {
-    let mut said = quiet(alloc, notes);
+    let mut said = quiet(alloc, notes)?;
     said.line = line;
     Ok(Performed::Does(said, Acts::Finishes))
 }

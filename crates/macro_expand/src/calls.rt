@@ -35,12 +35,12 @@ use std::rc::Rc;
 use trace_values::copy_notes;
 
 /// These notes are said of a call of the macro whose prototype stands here.
-fn said_call(alloc: Global, called: Origin, notes: Notes) -> Said
-    ensures { result ≡ acts.said_call_at called notes }
+fn said_call(alloc: Global, called: Origin, notes: Notes) -> Result<Box<Said>, OutOfMemory>
+    ensures { IfOk result (λ said. said.value ≡ acts.said_call_at called notes) }
 {
-    let mut said = quiet(alloc, notes);
+    let mut said = quiet(alloc, notes)?;
     said.called = Some(called);
-    said
+    Ok(said)
 }
 
 /// Notes, and others behind them; that a symbol has no length attribute is said once.
@@ -78,9 +78,9 @@ fn entered(
         },
     )?);
     let entry = Entry::Calling(call, puts);
-    let limited = said_call(alloc, origin, before);
+    let limited = said_call(alloc, origin, before)?;
     Ok(Performed::Does(
-        said_call(alloc, origin, notes),
+        said_call(alloc, origin, notes)?,
         Acts::Enters(limited, entry),
     ))
 }
@@ -97,9 +97,9 @@ fn not_entered(
 {
     let origin = definition.definition.origin();
     let notes = once_joined(alloc, &before, more)?;
-    let limited = said_call(alloc, origin, before);
+    let limited = said_call(alloc, origin, before)?;
     Ok(Performed::Does(
-        said_call(alloc, origin, notes),
+        said_call(alloc, origin, notes)?,
         Acts::Enters(limited, Entry::Nowhere),
     ))
 }

@@ -23,8 +23,8 @@ use trace_values::copy_notes;
 fn not_copied(alloc: Global, row: &Row, notes: Notes) -> Result<Done, OutOfMemory>
     ensures { IfOk result (λ p. (k : Knowledge) → performed_by means k p ≡ Some (Comes (acts.not_copied row.now notes))) }
 {
-    let limited = quiet(alloc, copy_notes(alloc, &notes)?);
-    let said = quiet(alloc, with_row(alloc, row, notes)?);
+    let limited = quiet(alloc, copy_notes(alloc, &notes)?)?;
+    let said = quiet(alloc, with_row(alloc, row, notes)?)?;
     Ok(Performed::Does(said, Acts::Enters(limited, Entry::Nowhere)))
 }
 
@@ -43,9 +43,9 @@ fn copied(
         Member::Unreadable => not_copied(alloc, &Row::UnreadableMember(name.copy()), notes),
         Member::File(file) => {
             let passage = here.listing.copied(alloc, here.position, name, file)?;
-            let limited = quiet(alloc, copy_notes(alloc, &notes)?);
+            let limited = quiet(alloc, copy_notes(alloc, &notes)?)?;
             Ok(Performed::Does(
-                quiet(alloc, notes),
+                quiet(alloc, notes)?,
                 Acts::Enters(limited, Entry::Copying(passage)),
             ))
         }

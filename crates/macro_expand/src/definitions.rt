@@ -59,7 +59,7 @@ fn defined(alloc: Global, next: u32, definition: Def, notes: Notes) -> Result<Do
     let mut puts = Vec::new(alloc);
     puts.push(Noted { key, value })?;
     Ok(Performed::Does(
-        quiet(alloc, notes),
+        quiet(alloc, notes)?,
         Acts::Skips(next, Change::Nothing, puts),
     ))
 }
@@ -75,7 +75,7 @@ fn not_defined(
 {
     let notes = with_row(alloc, &row_of_fault(fault), notes)?;
     let act = Acts::Skips(next, Change::Nothing, Vec::new(alloc));
-    Ok(Performed::Does(quiet(alloc, notes), act))
+    Ok(Performed::Does(quiet(alloc, notes)?, act))
 }
 
 /// A MACRO is processed, as far as the answers lead.
@@ -90,7 +90,7 @@ pub(crate) fn defining(
 {
     let passage = &here.listing;
     let Some(start) = passage.listing.line_number(here.position) else {
-        return Ok(going_on(alloc, quiet(alloc, notes)));
+        return Ok(going_on(alloc, quiet(alloc, notes)?));
     };
     let next = behind(passage, start)?;
     match asked_definition(alloc, &passage.listing, start, answers)? {

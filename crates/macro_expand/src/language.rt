@@ -19,13 +19,28 @@ use call_sites::{CallSite, Known, is_moving, is_writable, rebased};
 use expansion_step::{CodedLanguage, Fault, Level, Performed, Stack};
 use hl_base::{Answer, Frames, Key, Name, Notes, OutOfMemory, Text};
 use macro_entry::{bound_at_entry, entry_keys};
+use macro_library::MemberFile;
 use note_rows::{Row, note};
 use std::alloc::Global;
 use trace_values::{Settings, TraceItem};
 
-/// The language of open code and macros.
+/// The language of open code and macros. A file that was read may be handed in: open code of its path and text is not read again.
 #[derive(Drop)]
-pub struct HlasmLanguage;
+pub struct HlasmLanguage {
+    read: Option<MemberFile>,
+}
+
+impl HlasmLanguage {
+    /// The language, where no open code was read before.
+    pub fn new() -> HlasmLanguage {
+        HlasmLanguage { read: None }
+    }
+
+    /// The language, where the open code of this file was read before.
+    pub fn having_read(file: MemberFile) -> HlasmLanguage {
+        HlasmLanguage { read: Some(file) }
+    }
+}
 
 /// The asking machine that expands open code and macros.
 pub type Expander = expansion_step::Expander<HlasmLanguage>;
@@ -110,7 +125,7 @@ impl CodedLanguage for HlasmLanguage {
 
     type Change = Change;
 
-    type Said = Said;
+    type Said = Box<Said>;
 
     type Item = TraceItem;
 
@@ -131,7 +146,7 @@ impl CodedLanguage for HlasmLanguage {
     ghost rebased = { rules.rebased };
 
     fn listing(&self, alloc: Global, call: &Self::Call) -> Result<Self::Listing, OutOfMemory> {
-        passage_of(alloc, call)
+        passage_of(alloc, call, &self.read)
     }
 
     fn is_open_code(&self, call: &Self::Call) -> bool {
@@ -222,7 +237,7 @@ impl CodedLanguage for HlasmLanguage {
             declared,
             globals,
             line,
-        } = said;
+        } = Box::into_inner(said);
         let row = fault_row(fault, &target);
         let notes = with_fault(alloc, notes, row)?;
         let notes = with_columns(alloc, &stack.here.listing, stack.here.position, notes)?;

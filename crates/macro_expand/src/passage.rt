@@ -2,7 +2,8 @@
 ghost use Rattle.std.specs.Prelude.{◌≡◌, ◌++◌, Some, IfOk};
 ghost use Rattle.std.specs.Str.{chars};
 ghost use Rattle.macro_library.specs.Definitions.{is_open};
-ghost use Rattle.statement_listing.specs.Listings.{Element};
+ghost use Rattle.hlasm_statements.specs.Statements.{statements_of};
+ghost use Rattle.statement_listing.specs.Listings.{Element, listing_of};
 ghost use Rattle.trace_values.specs.CallFrames.{frames_of};
 ghost use Rattle.call_sites.specs.Calls.{called, macro_called, open_code};
 ghost use Rattle.macro_expand.specs.Codes.{passage_by};
@@ -43,15 +44,37 @@ fn frames_as(alloc: Global, kind: FrameKind, name: Option<Name>) -> Result<OwnFr
     OwnFrames::of(alloc, Frames::new(alloc), frame)
 }
 
+/// The statements of a path and its text: those of the file that was read, if it is that of this text.
+fn list_of(
+    alloc: Global,
+    path: PathId,
+    text: &str,
+    read: &Option<MemberFile>,
+) -> Result<Listing, OutOfMemory>
+    ensures { IfOk result (λ l. l ≡ listing_of path (statements_of (chars text.now))) }
+{
+    if let Some(file) = read {
+        if file.is_of(path, text) {
+            return file.list().share();
+        }
+    }
+    let statements = read_statements(alloc, text)?;
+    Listing::of(alloc, path, statements)
+}
+
 /// The open code of a path and its text.
-fn open_code(alloc: Global, path: PathId, text: &str) -> Result<Passage, OutOfMemory>
+fn open_code(
+    alloc: Global,
+    path: PathId,
+    text: &str,
+    read: &Option<MemberFile>,
+) -> Result<Passage, OutOfMemory>
     ensures { IfOk result (λ p. passage_by p ≡ passage_of (open_code path.0 (chars text.now))) }
 {
-    let statements = read_statements(alloc, text)?;
     Ok(Passage {
         frames: frames_as(alloc, FrameKind::OpenCode, None)?,
         definition: None,
-        listing: Listing::of(alloc, path, statements)?,
+        listing: list_of(alloc, path, text, read)?,
     })
 }
 
@@ -68,12 +91,16 @@ fn in_macro(alloc: Global, call: &MacroCall) -> Result<Passage, OutOfMemory>
     })
 }
 
-/// What a call processes.
-pub(crate) fn passage_of(alloc: Global, call: &CallSite) -> Result<Passage, OutOfMemory>
+/// What a call processes, where the open code of a file may have been read.
+pub(crate) fn passage_of(
+    alloc: Global,
+    call: &CallSite,
+    read: &Option<MemberFile>,
+) -> Result<Passage, OutOfMemory>
     ensures { IfOk result (λ p. passage_by p ≡ passage_of (called call.now)) }
 {
     match call {
-        CallSite::OpenCode(path, text) => open_code(alloc, *path, text.as_str()),
+        CallSite::OpenCode(path, text) => open_code(alloc, *path, text.as_str(), read),
         CallSite::Macro(call) => in_macro(alloc, call),
     }
 }

@@ -1,5 +1,5 @@
 //! Members of a library, as they were told.
-ghost use Rattle.std.specs.Prelude.{◌≡◌, [], IfOk, OnOk};
+ghost use Rattle.std.specs.Prelude.{◌≡◌, ◌↔◌, [], IfOk, IsTrue, OnOk};
 ghost use Rattle.std.specs.Option.{option_copied};
 ghost use Rattle.std.specs.Rc.{rc_str_bytes};
 ghost use Rattle.std.specs.Str.{chars};
@@ -37,6 +37,13 @@ impl Model for MemberFile {
     ghost invariant = { λ f. f.list ≡ listing_of f.path (statements_of (chars (rc_str_bytes f.text))) };
 }
 
+/// Whether a shared text has these characters.
+fn has_characters(text: &RcStr, characters: &str) -> bool
+    ensures { IsTrue result ↔ (chars (rc_str_bytes text.now) ≡ chars characters.now) }
+{
+    text.as_str() == characters
+}
+
 impl MemberFile {
     /// The file of this path and text. `OutOfMemory` also where it has more statements than a `u32` counts.
     pub fn of(alloc: Global, path: PathId, text: RcStr) -> Result<MemberFile, OutOfMemory>
@@ -45,6 +52,24 @@ impl MemberFile {
     {
         let statements = read_statements(alloc, text.as_str())?;
         let list = Listing::of(alloc, path, statements)?;
+        Ok(MemberFile { path, text, list })
+    }
+
+    /// The same, where a file was read before: a statement that stands in it as far from its front or its back is not read again.
+    pub fn after(
+        alloc: Global,
+        path: PathId,
+        text: RcStr,
+        earlier: &MemberFile,
+    ) -> Result<MemberFile, OutOfMemory>
+        ensures path { IfOk result (λ f. f.path ≡ path) }
+        ensures text { IfOk result (λ f. f.text ≡ chars (rc_str_bytes text)) }
+    {
+        if earlier.is_of(path, text.as_str()) {
+            return earlier.share();
+        }
+        let statements = read_statements(alloc, text.as_str())?;
+        let list = Listing::after(alloc, path, statements, &earlier.list)?;
         Ok(MemberFile { path, text, list })
     }
 
@@ -60,6 +85,13 @@ impl MemberFile {
         ensures { chars result.now ≡ self.now.text }
     {
         self.text.as_str()
+    }
+
+    /// Whether it is the file of this path and text.
+    pub fn is_of(&self, path: PathId, text: &str) -> bool
+        ensures { IsTrue result ↔ (self.now ≡ record { path = path; text = chars text.now }) }
+    {
+        self.path.0 == path.0 && has_characters(&self.text, text)
     }
 
     /// Its statements.

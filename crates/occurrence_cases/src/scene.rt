@@ -92,7 +92,7 @@ fn standing_of<L: Ledger>(
 {
     let index = MemberIndex::of(alloc, store)?;
     let members = GroupMembers::new(store, &index, folders);
-    let machine = Expander::new(HlasmLanguage);
+    let machine = Expander::new(HlasmLanguage::new());
     let mut memo: Memo<Expander> = Memo::new(alloc);
     let mut arena: TraceArena<TraceItem> = TraceArena::new(alloc);
     let mut steps = Steps::<L>::open(blank);

@@ -1,8 +1,6 @@
 -- Lists at a place, by `slice_get`.
-use Rattle.std.proofs.Common.{◌≡◌, ◌≢◌, ℕ, zero, suc, ◌+◌, Bool, true, false, cond, List, [], ◌∷◌, ◌++◌, length, map, Option, Some, None, refl, sym, ap, ◌∙◌, set, slice_get, find, not}
-use Rattle.std.specs.List.{prefix_len}
+use Rattle.std.proofs.Common.{◌≡◌, ◌≢◌, ℕ, zero, suc, List, [], ◌∷◌, ◌++◌, length, map, Option, Some, None, refl, sym, ap, ◌∙◌, set, slice_get}
 use Rattle.std.specs.Option.{option_map}
-use Rattle.std.proofs.lemmas.Bool.{true≢false}
 
 pub slice_get-set_same : {X : Type 0} (xs : List X) (i : ℕ) (x y : X) → slice_get xs i ≡ Some x → slice_get (set xs i y) i ≡ Some y
 slice_get-set_same [] i x y is = absurd cc
@@ -66,10 +64,3 @@ none_alike f xs ys i alike none = by (slice_get ys i) refl
     by None is = is
     by (Some y) is =
         absurd (none_some (f y) (sym (slice_get-map_none f xs i none) ∙ ap (λ l. slice_get l i) alike ∙ slice_get-map f ys i y is))
-
-prefix_step : {X Y : Type 0} (f : X → Y) (p : Y → Bool) (x : X) (m n : ℕ) → m ≡ n → cond (p (f x)) (1 + m) 0 ≡ cond (p (f x)) (1 + n) 0
-prefix_step f p x m n same = ap (λ k. cond (p (f x)) (1 + k) 0) same
-
-pub prefix_len-map : {X Y : Type 0} (f : X → Y) (p : Y → Bool) (xs : List X) → prefix_len (λ x. p (f x)) xs ≡ prefix_len p (map f xs)
-prefix_len-map f p [] = refl
-prefix_len-map f p (x ∷ xs) = prefix_step f p x _ _ (prefix_len-map f p xs)

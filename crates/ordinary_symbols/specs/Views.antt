@@ -1,7 +1,5 @@
 -- Which symbol an entry of the program is. This project.
-use Rattle.std.specs.Prelude.{ℕ, List, map, string_bytes}
-use Rattle.std.specs.declared.string.String.{String}
-use Rattle.std.specs.declared.alloc.Global.{Global}
+use Rattle.std.specs.Prelude.{ℕ, List, map}
 use Rattle.ordinary_symbols.specs.declared.held.Standing.{Standing}
 use Rattle.ordinary_symbols.specs.declared.held.Standing.TheVariants as standing
 use Rattle.ordinary_symbols.specs.declared.held.Held.{Held}
@@ -19,7 +17,3 @@ entry_of held = record { row = held.row; standing = standing_of held.standing }
 -- the names of symbols, in order
 abbrev pub names_of : List Held → List (List ℕ)
 names_of rows = map (λ (held : Held). held.row.name) rows
-
--- the names that keys spell
-abbrev pub spelled : List (String Global) → List (List ℕ)
-spelled keys = map string_bytes keys

@@ -12,6 +12,7 @@
 mod evaluate;
 mod fault;
 mod held;
+mod key;
 mod known;
 pub mod laws;
 mod resolve;

@@ -7,9 +7,10 @@ ghost use Rattle.expression_grammar.specs.Views.{tree_of};
 ghost use Rattle.ordinary_symbols.specs.declared.fault.DefineFault.TheVariants.{AlreadyDefined, OutOfMemory};
 ghost use Rattle.ordinary_symbols.specs.Table.{IsDefined, place_of, known, row_of, trouble_at, Settled, Deferred as Waiting};
 ghost use Rattle.ordinary_symbols.specs.Sections.{value_in};
-ghost use Rattle.ordinary_symbols.specs.Views.{entry_of, names_of, spelled};
+ghost use Rattle.ordinary_symbols.specs.Views.{entry_of, names_of};
 
 use crate::held::{Deferred, Held, Standing};
+use crate::key::Key;
 use crate::{DefineFault, Known, Trouble};
 use expression_grammar::Expr;
 use hl_base::Name;
@@ -22,8 +23,8 @@ use trace_values::{Reloc, SymbolRow};
 #[derive(Drop)]
 pub struct Symbols {
     pub(crate) rows: Vec<Held>,
-    names: IndexSet<String>,
-    ghost named: { spelled names.keys ≡ names_of rows.items },
+    names: IndexSet<Key>,
+    ghost named: { names.keys ≡ names_of rows.items },
 }
 
 impl Symbols {
@@ -94,13 +95,10 @@ impl Symbols {
         ensures kept { OnErr result (table_of self.new ≡ table_of self.old) }
         ensures only { IfErr result (λ fault. (fault ≡ AlreadyDefined) ⊎ (fault ≡ OutOfMemory)) }
     {
-        self.admit(
-            alloc,
-            Held {
-                row,
-                standing: Standing::Settled,
-            },
-        )
+        self.admit(Held {
+            row,
+            standing: Standing::Settled,
+        })
     }
 
     /// Defines the symbol of an EQU whose expression has no value yet. Its length is set together with its value, unless it
@@ -129,24 +127,43 @@ impl Symbols {
         };
         let standing = Standing::Deferred(Box::new(alloc, deferred)?);
         let row = without_value(row);
-        self.admit(alloc, Held { row, standing })
+        self.admit(Held { row, standing })
     }
 
-    /// A symbol of a new name goes last.
-    fn admit(&mut self, alloc: Global, held: Held) -> Result<(), DefineFault>
+    /// Why a symbol of this name is not admitted for which there is no memory.
+    fn refusal(&self, name: &Name) -> DefineFault
+        ensures already { (result ≡ AlreadyDefined) ↔ IsDefined (table_of self.now) name.now }
+        ensures only { (result ≡ AlreadyDefined) ⊎ (result ≡ OutOfMemory) }
+    {
+        match self.place(name) {
+            Some(_) => DefineFault::AlreadyDefined,
+            None => DefineFault::OutOfMemory,
+        }
+    }
+
+    /// A symbol of a new name goes last. Whether its name is new is found where it is added, so that it is sought once.
+    fn admit(&mut self, held: Held) -> Result<(), DefineFault>
         ensures already { IsErrOf result AlreadyDefined ↔ IsDefined (table_of self.old) held.row.name }
         ensures admitted { OnOk result (table_of self.new ≡ table_of self.old ++ entry_of held ∷ []) }
         ensures kept { OnErr result (table_of self.new ≡ table_of self.old) }
         ensures only { IfErr result (λ fault. (fault ≡ AlreadyDefined) ⊎ (fault ≡ OutOfMemory)) }
     {
-        if self.place(&held.row.name).is_some() {
-            return Err(DefineFault::AlreadyDefined);
+        if self.rows.reserve(1).is_err() {
+            return Err(self.refusal(&held.row.name));
         }
-        let key = String::from_str(alloc, held.row.name.text())?;
-        self.rows.reserve(1)?;
-        self.names.insert(key)?;
-        push_within(&mut self.rows, held);
-        Ok(())
+        let key = Key {
+            name: held.row.name.copy(),
+        };
+        match self.names.insert(key) {
+            Ok(new) => {
+                if !new {
+                    return Err(DefineFault::AlreadyDefined);
+                }
+                push_within(&mut self.rows, held);
+                Ok(())
+            }
+            Err(_) => Err(DefineFault::OutOfMemory),
+        }
     }
 }
 

@@ -1,4 +1,4 @@
--- Fields without apostrophes, cut byte by byte. No public contract speaks of them.
+-- Fields in which no comma stands behind the first apostrophe, cut byte by byte. No public contract speaks of them.
 use Rattle.std.specs.Prelude.{◌≡◌, ℕ, Bool, true, not, ◌==◌, List, take, drop}
 use Rattle.std.specs.List.{list_all}
 use Rattle.std.specs.Str.{chars}
@@ -9,6 +9,10 @@ use Rattle.operand_list.specs.Split.{whole_parts}
 -- no apostrophe
 abbrev pub is_plain : ℕ → Bool
 is_plain c = not (c == 39)
+
+-- no comma
+abbrev pub is_no_comma : ℕ → Bool
+is_no_comma c = not (c == 44)
 
 -- how many parentheses are open behind a character outside quotes
 abbrev pub depth_behind : ℕ → ℕ → ℕ

@@ -1,4 +1,4 @@
-//! A field without apostrophes, cut byte by byte.
+//! A field without apostrophes as far as it is cut, byte by byte.
 ghost use Rattle.std.specs.Prelude.{◌≡◌, ◌==◌, ◌&&◌, ℕ, List, [], ◌∷◌, ◌++◌, ◌+◌, drop, take, false, IfOk, OnOk};
 ghost use Rattle.std.specs.Str.{chars, IsAscii};
 ghost use Rattle.plain_fields.specs.Cutting.{IsBehind, depth_behind, left_of, part_of};
@@ -99,12 +99,12 @@ impl<'a> Cutting<'a> {
         Ok(())
     }
 
-    /// The texts, with the one that was read last.
+    /// The texts, with all that is left as the last one.
     pub(crate) fn close(self, alloc: Global) -> Result<Operands, OutOfMemory>
-        ensures { IfOk result (λ s. s ≡ self.entry.done ++ part_of self.entry ∷ []) }
+        ensures { IfOk result (λ s. s ≡ self.entry.done ++ chars self.entry.from.now ∷ []) }
     {
         let mut done = self.done;
-        done.push(Text::of(alloc, cut_at(self.from, self.count).0)?)?;
+        done.push(Text::of(alloc, self.from)?)?;
         Ok(done)
     }
 }

@@ -8,6 +8,7 @@ ghost use Rattle.expansion_memo.specs.Running.{IsHandedOut};
 ghost use Rattle.call_sites.specs.Rules.{is_moving, is_writable, rebased};
 ghost use Rattle.program_assembly.specs.Runs.{IsAssembly};
 
+use crate::column_notes::columns_of_text;
 use crate::report::{Report, report_of};
 use asking_core::AskMachine;
 use call_sites::{CallSite, Known};
@@ -66,8 +67,9 @@ fn assemble_text<
     ensures stand { OnOk result (AllStand M.model M.rebased M.call_of M.item_of arena.new.nodes memo.new) }
     ensures still_kept { OnOk result ((i : ℕ) (o : KeptOutcome) → kept_at memo.old i ≡ Some o → kept_at memo.new i ≡ Some o) }
 {
+    let columns = columns_of_text(alloc, path, text.as_str())?;
     let report = report_of(
-        machine, alloc, path, text, parm, present, memo, arena, budget, steps,
+        machine, alloc, path, text, columns, parm, present, memo, arena, budget, steps,
     )?;
     let Report { root, notes } = report;
     Ok(Assembly {

@@ -9,12 +9,14 @@ ghost use Rattle.program_assembly.specs.Figures.{figures_of};
 ghost use Rattle.program_assembly.specs.KeptRoots.{AreKept, owners_without};
 
 use crate::assembled_figures::figures_in;
+use crate::column_notes::columns_of_file;
 use crate::report::report_of;
 use crate::{Figures, assemble, assemblies_are_plain};
 use expansion_memo::Memo;
 use expansion_step::runs_are_expansions;
 use hl_base::{Ledger, Notes, OutOfMemory, PathId, Steps, TextId};
 use macro_expand::{Expander, HlasmLanguage};
+use macro_library::MemberFile;
 use program_world::ProgramWorld;
 use std::alloc::Global;
 use std::marker::Model;
@@ -28,8 +30,7 @@ use trace_values::TraceItem;
 const MOST_POINTS: u64 = 1_000_000;
 
 /// What the last assembly expanded. A call that is met again, and reads what it read then, is taken from it and is not run once
-/// more. Contracts see how many points were
-/// made.
+/// more; nor is a statement of its program read once more. Contracts see how many points were made.
 #[derive(Drop)]
 pub struct KeptExpansions {
     memo: Memo<Expander>,
@@ -38,6 +39,8 @@ pub struct KeptExpansions {
     root: Option<NodeId>,
     // How many points were made since nothing was kept: a place of the memo that was given up is not taken again, so they bound it.
     made: u64,
+    // The program of the last assembly whose notes were wanted.
+    read: Option<MemberFile>,
 }
 
 impl Model for KeptExpansions {
@@ -64,6 +67,22 @@ fn retire_root(memo: &mut Memo<Expander>, arena: &mut TraceArena<TraceItem>, roo
     }
 }
 
+/// The file of a path and a text, where one may have been read before, which is given up.
+fn file_after(
+    alloc: Global,
+    path: PathId,
+    text: RcStr,
+    read: Option<MemberFile>,
+) -> Result<MemberFile, OutOfMemory>
+    ensures path { IfOk result (λ f. f.path ≡ path) }
+    ensures text { IfOk result (λ f. f.text ≡ chars (rc_str_bytes text)) }
+{
+    match read {
+        Some(earlier) => MemberFile::after(alloc, path, text, &earlier),
+        None => MemberFile::of(alloc, path, text),
+    }
+}
+
 impl KeptExpansions {
     /// Nothing is kept.
     #[tactic(auto, using(crate::proofs::KeptRootLaws::nothing_kept))]
@@ -73,6 +92,7 @@ impl KeptExpansions {
             arena: TraceArena::new(alloc),
             root: None,
             made: 0,
+            read: None,
         }
     }
 
@@ -101,15 +121,19 @@ impl KeptExpansions {
             ≡ assembly_notes path.0 (chars (rc_str_bytes text.now)) (chars parm.now) (P.members present.now) budget) }
     {
         runs_are_expansions::<HlasmLanguage, ProgramWorld<P>>();
-        let machine = Expander::new(HlasmLanguage);
         let KeptExpansions {
             mut memo,
             mut arena,
             root,
             made,
+            read,
         } = self.taken(alloc);
+        let file = file_after(alloc, path, text.clone()?, read)?;
+        let columns = columns_of_file(alloc, &file)?;
+        let machine = Expander::new(HlasmLanguage::having_read(file.share()?));
         let report = report_of(
-            &machine, alloc, path, text, parm, present, &mut memo, &mut arena, budget, steps,
+            &machine, alloc, path, text, columns, parm, present, &mut memo, &mut arena, budget,
+            steps,
         )?;
         let made = made.saturating_add(u64::from(arena.points(report.root)));
         retire_root(&mut memo, &mut arena, root);
@@ -118,6 +142,7 @@ impl KeptExpansions {
             arena,
             root: Some(report.root),
             made,
+            read: Some(file),
         };
         Ok(report.notes)
     }
@@ -139,12 +164,13 @@ impl KeptExpansions {
             ≡ figures_of path.0 (text_of (P.texts present.now) text.0) (chars parm.now) (P.members present.now) budget) }
     {
         assemblies_are_plain::<P>();
-        let expander = Expander::new(HlasmLanguage);
+        let expander = Expander::new(HlasmLanguage::new());
         let KeptExpansions {
             mut memo,
             mut arena,
             root,
             made,
+            read,
         } = self.taken(alloc);
         let assembly = assemble(
             &expander, alloc, path, text, parm, present, &mut memo, &mut arena, budget, steps,
@@ -158,6 +184,7 @@ impl KeptExpansions {
             arena,
             root: Some(next),
             made,
+            read,
         };
         Ok(figures)
     }

@@ -1,12 +1,15 @@
 //! Running a program's open code, and reporting of it.
-ghost use Rattle.std.specs.Prelude.{◌≡◌, ℕ, Some, IfOk, OnOk};
+ghost use Rattle.std.specs.Prelude.{◌≡◌, ◌-◌, ℕ, Some, IfOk, OnOk, length};
 ghost use Rattle.std.specs.Rc.{rc_str_bytes};
 ghost use Rattle.std.specs.Str.{chars};
 ghost use Rattle.expansion_memo.specs.Kept.{KeptOutcome, AllStand, kept_at};
 ghost use Rattle.expansion_memo.specs.Running.{IsHandedOut};
 ghost use Rattle.call_sites.specs.Rules.{is_moving, is_writable, rebased};
+ghost use Rattle.hl_base.specs.Texts.{lines};
+ghost use Rattle.program_assembly.specs.ColumnNotes.{column_notes};
 ghost use Rattle.program_assembly.specs.Runs.{IsReport};
 
+use crate::column_notes::Columns;
 use crate::notes::notes_of;
 use asking_core::AskMachine;
 use call_sites::{CallSite, Known};
@@ -26,7 +29,7 @@ pub(crate) struct Report {
     pub(crate) notes: Notes,
 }
 
-/// Runs the open code of a path and a text, as `assemble` does, and reports of it.
+/// Runs the open code of a path and a text, as `assemble` does, and reports of it. What its columns say was found before.
 pub(crate) fn report_of<
     M: AskMachine<Key = Key, Value = Known, Call = CallSite, Item = TraceItem, Frames = Frames>,
     P: Present,
@@ -36,6 +39,7 @@ pub(crate) fn report_of<
     alloc: Global,
     path: PathId,
     text: &RcStr,
+    columns: Columns,
     parm: &str,
     present: &P,
     memo: &mut Memo<M>,
@@ -43,6 +47,8 @@ pub(crate) fn report_of<
     budget: u32,
     steps: &mut Steps<L>,
 ) -> Result<Report, OutOfMemory>
+    requires columns { columns.notes ≡ column_notes path.0 (chars (rc_str_bytes text.now)) }
+    requires last { columns.last ≡ length (lines (chars (rc_str_bytes text.now))) - 1 }
     requires moving { M.moving ≡ is_moving }
     requires writable { M.writable ≡ is_writable }
     requires rebased { M.rebased ≡ rebased }
@@ -59,6 +65,6 @@ pub(crate) fn report_of<
     let outcome = memo.expand(machine, alloc, &call, &mut world, budget, 0, arena, steps)?;
     Ok(Report {
         root: outcome.node,
-        notes: notes_of(alloc, path, text.as_str(), arena, &outcome)?,
+        notes: notes_of(alloc, path, columns, arena, &outcome)?,
     })
 }

@@ -49,7 +49,7 @@ pub fn trace_program<P: Present, L: Ledger>(
 {
     the_world_fits();
     runs_are_expansions::<HlasmLanguage, ProgramWorld<P>>();
-    let machine = Expander::new(HlasmLanguage);
+    let machine = Expander::new(HlasmLanguage::new());
     let mut memo: Memo<Expander> = Memo::new(alloc);
     let call = CallSite::OpenCode(path, text.clone()?);
     let mut world = ProgramWorld::new(alloc, text.clone()?, parm, present)?;

@@ -6,7 +6,7 @@ ghost use Rattle.section_steps.specs.Views.{state_of};
 
 use crate::judge::judge_all;
 use crate::sections::sections_of;
-use crate::walk::{Met, meet_all, say_of_last};
+use crate::walk::{meet_all, say_of_last};
 use hl_base::{Line, OutOfMemory};
 use literal_places::{LiteralUse, Literals};
 use note_rows::Row;
@@ -33,6 +33,8 @@ pub struct StatementLayout {
     pub symbols: usize,
     /// What is said of it: of its place, and then of symbols.
     pub rows: Vec<Row>,
+    /// What is said of the symbols that it defines, until that stands among its rows.
+    pub(crate) said_of_symbols: Vec<Row>,
     /// What was judged when all symbols were known: of DC and DS the operands that could be read.
     pub left: Left,
 }
@@ -62,7 +64,7 @@ impl Layout {
 
 /// The layout of statements that were met, with what there is behind them.
 #[tactic(auto, unfolding(crate::specs::Layout::settled))]
-fn settle(alloc: Global, all: Vec<Met>, state: State) -> Result<Layout, OutOfMemory>
+fn settle(alloc: Global, mut all: Vec<StatementLayout>, state: State) -> Result<Layout, OutOfMemory>
     ensures { IfOk result (λ layout. layout_view layout ≡ spec.settled (map met_of all.items) (state_of state)) }
 {
     let State {
@@ -72,9 +74,9 @@ fn settle(alloc: Global, all: Vec<Met>, state: State) -> Result<Layout, OutOfMem
         externals: _,
     } = state;
     symbols.resolve_deferred(alloc)?;
-    let statements = judge_all(alloc, &symbols, all)?;
+    judge_all(&symbols, all.as_mut_slice())?;
     Ok(Layout {
-        statements,
+        statements: all,
         sections: sections_of(alloc, &sections)?,
         literals,
         symbols,
@@ -83,7 +85,11 @@ fn settle(alloc: Global, all: Vec<Met>, state: State) -> Result<Layout, OutOfMem
 
 /// The same where the last pool is still to be placed.
 #[tactic(auto, unfolding(crate::specs::Layout::ended))]
-fn end(alloc: Global, mut all: Vec<Met>, mut state: State) -> Result<Layout, OutOfMemory>
+fn end(
+    alloc: Global,
+    mut all: Vec<StatementLayout>,
+    mut state: State,
+) -> Result<Layout, OutOfMemory>
     ensures { IfOk result (λ layout. layout_view layout ≡ spec.ended (map met_of all.items) (state_of state)) }
 {
     let mut said = Vec::new(alloc);

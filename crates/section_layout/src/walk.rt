@@ -5,23 +5,42 @@ ghost use Rattle.section_steps.specs.StatementViews.{statement_of as layout_stat
 ghost use Rattle.section_layout.specs.Views.{lines_of, met_of};
 ghost use Rattle.section_layout.specs.Walks as spec;
 ghost use Rattle.section_steps.specs.Steps as steps;
-ghost use Rattle.section_steps.specs.Views.{state_of};
+ghost use Rattle.section_steps.specs.Views.{laid_of, state_of};
 
+use crate::StatementLayout;
 use hl_base::{Line, OutOfMemory};
 use note_rows::Row;
 use section_steps::layout_statements::LayoutStatement;
 use section_steps::{Laid, State};
 use std::alloc::Global;
 
-/// A statement that is laid out, and how many symbols there are behind it.
-#[derive(Drop)]
-pub(crate) struct Met {
-    pub(crate) laid: Laid,
-    pub(crate) symbols: usize,
+/// A statement that is laid out, with so many symbols behind it, before it is judged.
+fn met(laid: Laid, symbols: usize) -> StatementLayout
+    ensures { met_of result ≡ record { laid = laid_of laid; symbols = symbols } }
+{
+    let Laid {
+        place,
+        bytes,
+        here,
+        uses,
+        said,
+        said_of_symbols,
+        left,
+    } = laid;
+    StatementLayout {
+        place,
+        bytes,
+        here,
+        uses,
+        symbols,
+        rows: said,
+        said_of_symbols,
+        left,
+    }
 }
 
 /// Adds a statement behind others. Room is asked for by itself, so that no answer has to hold a statement that was refused.
-fn push(all: &mut Vec<Met>, one: Met) -> Result<(), OutOfMemory>
+fn push(all: &mut Vec<StatementLayout>, one: StatementLayout) -> Result<(), OutOfMemory>
     ensures { OnOk result (all.new.items ≡ all.old.items ++ one ∷ []) }
 {
     all.reserve(1)?;
@@ -35,7 +54,7 @@ fn lay(
     alloc: Global,
     state: &mut State,
     statement: LayoutStatement,
-    all: &mut Vec<Met>,
+    all: &mut Vec<StatementLayout>,
 ) -> Result<(), OutOfMemory>
     ensures behind { OnOk result (state_of state.new ≡ steps.behind (layout_statement_of statement) (state_of state.old)) }
     ensures met { OnOk result (map met_of all.new.items
@@ -44,7 +63,7 @@ fn lay(
     match state.step(alloc, statement) {
         Ok(laid) => {
             let symbols = state.symbols.count();
-            push(all, Met { laid, symbols })
+            push(all, met(laid, symbols))
         }
         Err(fault) => Err(fault),
     }
@@ -56,7 +75,7 @@ fn meet(
     alloc: Global,
     state: &mut State,
     line: &Line,
-    all: &mut Vec<Met>,
+    all: &mut Vec<StatementLayout>,
 ) -> Result<(), OutOfMemory>
     ensures behind { OnOk result (state_of state.new ≡ spec.state_behind line.now (state_of state.old)) }
     ensures met { OnOk result (map met_of all.new.items ≡ map met_of all.old.items ++ spec.met line.now (state_of state.old) ∷ []) }
@@ -73,7 +92,7 @@ pub(crate) fn meet_all(
     alloc: Global,
     state: &mut State,
     mut lines: &[&Line],
-) -> Result<Vec<Met>, OutOfMemory>
+) -> Result<Vec<StatementLayout>, OutOfMemory>
     ensures behind { OnOk result (state_of state.new ≡ spec.all_behind (lines_of lines.entry.now) (state_of state.old)) }
     ensures met { IfOk result (λ all. map met_of all.items ≡ spec.all_met (lines_of lines.entry.now) (state_of state.old)) }
 {
@@ -116,11 +135,14 @@ fn say_once(said: &mut Vec<Row>, rows: &mut Vec<Row>) -> Result<(), OutOfMemory>
 
 /// Of the place of the last statement this is said too.
 #[tactic(auto, using(crate::proofs::Lasts::said_of_last))]
-pub(crate) fn say_of_last(all: &mut Vec<Met>, mut rows: Vec<Row>) -> Result<(), OutOfMemory>
+pub(crate) fn say_of_last(
+    all: &mut Vec<StatementLayout>,
+    mut rows: Vec<Row>,
+) -> Result<(), OutOfMemory>
     ensures { OnOk result (map met_of all.new.items ≡ spec.also_said_of_last rows.items (map met_of all.old.items)) }
 {
     if let Some(mut last) = all.pop() {
-        say_once(&mut last.laid.said, &mut rows)?;
+        say_once(&mut last.rows, &mut rows)?;
         push(all, last)?;
     }
     Ok(())

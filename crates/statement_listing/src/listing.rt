@@ -5,6 +5,7 @@ ghost use Rattle.statement_listing.specs.Views.{lent_line, lent_of};
 
 use crate::index::{found_label, note_found, number_of};
 use crate::numbering::Numbering;
+use crate::source::lines_after;
 use crate::{Line, begun_behind, lines_of};
 use hl_base::{Name, Origin, OutOfMemory, PathId};
 use hlasm_statements::Statements;
@@ -68,6 +69,20 @@ impl Listing {
         ensures { IfOk result (λ l. l ≡ listing_of path statements) }
     {
         Listing::of_lines(alloc, lines_of(alloc, path, statements)?)
+    }
+
+    /// The same, where another list was read before: a statement that stands in it as far from its front or its back is not read
+    /// again.
+    pub fn after(
+        alloc: Global,
+        path: PathId,
+        statements: Statements,
+        earlier: &Listing,
+    ) -> Result<Listing, OutOfMemory>
+        ensures { IfOk result (λ l. l ≡ listing_of path statements) }
+    {
+        let lines = lines_after(alloc, path, statements, earlier.lines())?;
+        Listing::of_lines(alloc, lines)
     }
 
     /// A list of these lines. `OutOfMemory` also where more are processed than a `u32` counts.

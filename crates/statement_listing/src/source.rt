@@ -23,11 +23,24 @@ pub fn lines_of(
 ) -> Result<Vec<Line>, OutOfMemory>
     ensures { IfOk result (λ ls. ls.items ≡ listing_of path statements) }
 {
+    lines_after(alloc, path, statements, &[])
+}
+
+/// The same, where other lines were read before: a statement that stands among them as far from their front or their back is not
+/// read again.
+pub(crate) fn lines_after(
+    alloc: Global,
+    path: PathId,
+    statements: Statements,
+    earlier: &[Line],
+) -> Result<Vec<Line>, OutOfMemory>
+    ensures { IfOk result (λ ls. ls.items ≡ listing_of path statements) }
+{
     let count = statements.as_slice().len();
     let source = Rc::new(alloc, Source { path, statements })?;
     let mut lines = Vec::with_capacity(alloc, count)?;
     for at in 0..count {
-        let line = Line::read(alloc, &source, at)?;
+        let line = Line::read(alloc, &source, at, earlier)?;
         lines.push(line)?;
     }
     Ok(lines)

@@ -42,12 +42,12 @@ returns c = λ k.
     c.in_ok-notes-2.ensures
     ∙ ap (λ (ns : List Note). ns ++ c.in_ok-_binding.repeated) c.in_ok-notes.ensures
     ∙ ap (λ (ns : List Note). all ++ ns) repeated in
-    let said : c.said_call.result ≡ said_call_at D.origin (all ++ binding_notes (parameters_in (content_of D)) operands) =
-    c.said_call.ensures
+    let said : c.in_ok-said_call.field-0.value ≡ said_call_at D.origin (all ++ binding_notes (parameters_in (content_of D)) operands) =
+    c.in_ok-said_call.ensures
     ∙ ap (λ (o : Origin). said_call_at o c.in_ok-notes-2.notes) origin
     ∙ ap (said_call_at D.origin) notes in
-    let limited : c.said_call-limited.result ≡ said_call_at D.origin before =
-    c.said_call-limited.ensures ∙ ap (λ (o : Origin). said_call_at o before) origin in
+    let limited : c.in_ok-limited.limited.value ≡ said_call_at D.origin before =
+    c.in_ok-limited.ensures ∙ ap (λ (o : Origin). said_call_at o before) origin in
     let made : MacroCall = record { definition = c.args.definition; name_entry = c.args.values.label; operands = operands } in
     let called : call_of (call_tree (site.Macro c.in_ok-new.field-0)) ≡ macro_called made =
     call_of-call_tree (site.Macro c.in_ok-new.field-0) ∙ ap (λ (m : MacroCall). macro_called m) c.in_ok-new.ensures.ok in
@@ -55,6 +55,6 @@ returns c = λ k.
     let first = call_of (call_tree (site.Macro c.in_ok-new.field-0)) in
     let told = said_call_at D.origin (all ++ binding_notes (parameters_in (content_of D)) operands) in
     ap (λ e. Some (Comes e)) (
-    ap (λ s. shown s c.said_call-limited.result first puts) said
+    ap (λ s. shown s c.in_ok-limited.limited.value first puts) said
     ∙ ap (λ l. shown told l first puts) limited
     ∙ ap (λ x. shown told (said_call_at D.origin before) x puts) called)

@@ -20,7 +20,7 @@ returns-in_default c = λ k.
     let here = c.args.here.now in
     let passage = passage_by here.listing in
     c.going_on.ensures k
-    ∙ ap (λ s. Some (Comes (acts.going_on k s))) c.quiet.ensures
+    ∙ ap (λ s. Some (Comes (acts.going_on k s))) c.in_ok-quiet.ensures
     ∙ ap (λ o. Some (led_by told (acts.defining passage k c.args.notes o))) (c.in_default.ensures ∙ sym (line_number-bare here.listing.listing here.position))
 
 pub returns-in-Wants : goal.returns-in-Wants

@@ -5,4 +5,4 @@ use Rattle.plain_fields.proofs.split.split_plain.Given as goal
 
 -- the operands so far and those of what is left are those of the field
 abbrev pub invariant-loop-byte : goal.invariant-loop-byte
-invariant-loop-byte l = IsCut l.cutting (drop l.byte-index l.byte-items) (parts 0 [] l.byte-items)
+invariant-loop-byte l = IsCut l.cutting (drop l.byte-index l.field) (parts 0 [] l.field)

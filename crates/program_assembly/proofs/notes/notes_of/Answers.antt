@@ -1,28 +1,19 @@
 use Rattle.std.proofs.Common.{◌≡◌, ◌-◌, List, ◌++◌, Bor, length, ap, ◌∙◌, append_assoc}
-use Rattle.std.specs.List.{flat_map}
-use Rattle.std.specs.Str.{chars}
 use Rattle.hl_base.specs.Texts.{lines}
 use Rattle.note_rows.specs.declared.row.Row.TheVariants.{MissingEnd}
 use Rattle.hl_base.specs.declared.set.Line.{Line}
 use Rattle.statement_checks.specs.Layout.{Layout, rows_of}
 use Rattle.statement_checks.specs.Views.{layout_view, lines_of}
-use Rattle.program_assembly.specs.ColumnNotes.{note_at, fault_notes, column_notes}
+use Rattle.program_assembly.specs.ColumnNotes.{note_at, column_notes}
 use Rattle.program_assembly.specs.Statements.{checked_layout, generated, noted_points, all_noted}
 use Rattle.program_assembly.specs.Notes.{end_notes_by}
 use Rattle.program_assembly.specs.Runs.{ran_of}
-use Rattle.program_assembly.proofs.LineLaws.{last_of_text}
 use Rattle.program_assembly.proofs.notes.notes_of.Goals as goal
 
 pub returns : goal.returns
-returns c =
-    let text = chars c.args.text.now in
+returns c = λ text columns last.
     let path = c.args.path.0 in
-    let statements = c.as_slice-statements.result.now in
-    let here = c.as_slice-statements.ensures ∙ c.in_ok-statements.ensures in
     let ran = ran_of c.args.arena.now.nodes c.args.outcome.now in
-    let last : c.last_line.result ≡ length (lines text) - 1 = last_of_text text statements c.last_line.result here c.last_line.ensures in
-    let columns : c.add_column_notes.new.notes ≡ column_notes path text =
-    c.in_ok-add_column_notes.ensures ∙ ap (λ ns. ns ++ flat_map (fault_notes path) statements) c.new-notes.ensures ∙ ap (flat_map (fault_notes path)) here in
     let layout : layout_view c.in_ok-layout.layout ≡ checked_layout (generated ran.points) =
     c.in_ok-layout.ensures
     ∙ ap (λ (ls : List (Bor Line)). checked_layout (lines_of ls)) c.as_slice-lines.ensures.value

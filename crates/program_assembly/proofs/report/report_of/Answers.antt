@@ -4,9 +4,7 @@ use Rattle.std.specs.Rc.{rc_str_bytes}
 use Rattle.expansion_memo.specs.Reuse.{ComesTo}
 use Rattle.program_world.specs.World.{ProgramState, program_world, first_world}
 use Rattle.program_world.specs.States.{state_of}
-use Rattle.program_assembly.specs.Notes.{notes_of}
 use Rattle.call_sites.specs.Calls.{open_code_tree}
-use Rattle.program_assembly.specs.Runs.{ran_of}
 use Rattle.program_assembly.proofs.report.report_of.Goals as goal
 
 pub returns-clause-report : goal.returns-clause-report
@@ -30,7 +28,5 @@ returns-clause-report g c =
       outcome = outcome;
       comes = subst (λ s. from text s) begun (subst (λ t. from t (state c.in_ok-world.world)) given c.in_ok-outcome.ensures.comes);
       root_is = refl;
-      notes_are =
-          c.in_ok-notes_of.ensures
-          ∙ ap (λ bytes. notes_of path (chars bytes) (ran_of nodes outcome)) c.as_str.ensures.value;
+      notes_are = c.in_ok-notes_of.ensures text c.requires.columns c.requires.last;
     }

@@ -1,4 +1,4 @@
-use Rattle.std.proofs.Common.{ap, ◌∙◌, position, string_bytes}
+use Rattle.std.proofs.Common.{ap, ◌∙◌, position}
 use Rattle.std.specs.Str.{bytes_eq}
 use Rattle.ordinary_symbols.proofs.Places.{place_named}
 use Rattle.ordinary_symbols.proofs.symbols.Symbols.place.Goals as goal
@@ -7,5 +7,5 @@ pub returns : goal.returns
 returns c =
     let symbols = c.args.self.now in
     c.get_index_of.ensures.index
-    ∙ ap (λ text. position (λ key. bytes_eq text (string_bytes key)) symbols.names.keys) c.text.ensures
+    ∙ ap (λ text. position (bytes_eq text) symbols.names.keys) c.text.ensures
     ∙ place_named symbols.names.keys symbols.rows.items c.args.name.now symbols.named

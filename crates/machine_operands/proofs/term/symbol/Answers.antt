@@ -1,6 +1,0 @@
-use Rattle.std.proofs.Common.{refl, sym}
-use Rattle.machine_operands.specs.Terms.{named}
-use Rattle.machine_operands.proofs.term.symbol.Goals as goal
-
-pub returns-in-Some : goal.returns-in-Some
-returns-in-Some c = named c.in-Some.name (sym c.in-Some.ensures) refl

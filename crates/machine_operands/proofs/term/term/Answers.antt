@@ -1,6 +1,0 @@
-use Rattle.std.proofs.Common.{refl, subst}
-use Rattle.machine_operands.specs.Terms.{decimal, IsDecimal}
-use Rattle.machine_operands.proofs.term.term.Goals as goal
-
-pub returns-in-Some : goal.returns-in-Some
-returns-in-Some c = decimal c.in-Some.bits (subst (λ t. IsDecimal t c.in-Some.bits) c.as_bytes.ensures.value c.in-Some.ensures) refl

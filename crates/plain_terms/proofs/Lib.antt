@@ -1,0 +1,5 @@
+pub mod ExpressionLaws
+pub mod Fronts
+pub mod QuotedLaws
+pub mod SumLaws
+pub mod Glances

@@ -1,0 +1,4 @@
+pub mod Glances
+pub mod Terms
+pub mod Quoted
+pub mod Sums
